@@ -1,0 +1,62 @@
+-- What is true of the part: its lengths, a look through its table, its protection.
+use Prim.Native.Nat.{ℕ, suc, zero, _+_, _*_, _-_, _/_, _≤_, _<_, min}
+use mathlib.Core.Bool.{Bool, true, false, cond, _||_}
+use mathlib.Core.List.{List, [], _∷_}
+use mathlib.Core.Path.{_≡_, refl, sym, ap, _∙_}
+use mathlib.Core.Logic.{_⊎_, inl, inr, ⊎-elim}
+use native.Mathlib.Numerals.{add-one}
+use native.Mathlib.Omega.{arith}
+use lib.Dec.{eqb, ltb}
+use lib.ListN.{length, getD, drop}
+use lib.Seq.{drop-cons}
+use borrow.Author.Tests.{eq-eqb, ne-eqb, eqb-true}
+use Rattle.cells.specs.Choice.{cond-yes, cond-no, cond-either}
+use Rattle.part.specs.declared.Row.{Row}
+use Rattle.part.specs.Part.{permitted, sectors, sector}
+use Rattle.part.specs.Table.{rowIn, factsOf}
+use Rattle.part.specs.Protection.{protectedCount}
+
+-- ---- the table
+
+-- a look that starts at row i ends there, if the row has the opcode
+pub rowIn-hit : (rs : List (List ℕ)) (i opcode : ℕ) → i < length rs → getD (getD rs i []) 0 0 ≡ opcode → rowIn (drop i rs) opcode ≡ factsOf (getD rs i [])
+unfolding rowIn
+rowIn-hit rs i opcode h e = rw (drop-cons rs i [] h) (cond-yes _ _ _ (eq-eqb _ _ e))
+
+-- and goes on at the next row, if it has not
+pub rowIn-miss : (rs : List (List ℕ)) (i opcode : ℕ) → i < length rs → (getD (getD rs i []) 0 0 ≡ opcode → ⊥) → rowIn (drop i rs) opcode ≡ rowIn (drop (i + 1) rs) opcode
+unfolding rowIn
+rowIn-miss rs i opcode h e = rw (add-one, drop-cons rs i [] h) (cond-no _ _ _ (ne-eqb _ _ e))
+
+-- ---- protection
+
+pub protectedCount-le : (L S : ℕ) → protectedCount L S ≤ S
+unfolding protectedCount
+protectedCount-le L S =
+    cond-either (λ (n : ℕ). n ≤ S) (eqb L 0) _ _ (λ _. omega arith)
+    (λ _. cond-either (λ (n : ℕ). n ≤ S) (ltb L 6) _ _ (λ _. omega arith) (λ _. omega arith))
+
+-- ---- the six lengths
+
+-- what holds of the six lengths holds of every permitted one
+pub permitted-each : (P : ℕ → Type 0) → P 65536 → P 131072 → P 262144 → P 524288 → P 1048576 → P 2097152 → (n : ℕ) → permitted n ≡ true → P n
+unfolding permitted
+permitted-each P p₁ p₂ p₄ p₈ p₁₆ p₃₂ n h =
+    or _ _ (or _ _ (or _ _ (or _ _ (or _ _ (at 65536 p₁) (at 131072 p₂)) (at 262144 p₄)) (at 524288 p₈)) (at 1048576 p₁₆)) (at 2097152 p₃₂) h
+  where
+    at : (k : ℕ) → P k → eqb n k ≡ true → P n
+    at k p e = rw (eqb-true n k e) p
+
+    or : (a b : Bool) → (a ≡ true → P n) → (b ≡ true → P n) → (a || b) ≡ true → P n
+    or true b p q e = p refl
+    or false b p q e = q e
+
+-- a permitted length is a whole number of sectors, 1 to 32
+pub permitted-whole : (n : ℕ) → permitted n ≡ true → sectors n * sector ≡ n
+permitted-whole = permitted-each (λ n. sectors n * sector ≡ n) refl refl refl refl refl refl
+
+pub permitted-some : (n : ℕ) → permitted n ≡ true → 1 ≤ sectors n
+permitted-some = permitted-each (λ n. 1 ≤ sectors n) (omega arith) (omega arith) (omega arith) (omega arith) (omega arith) (omega arith)
+
+pub permitted-few : (n : ℕ) → permitted n ≡ true → sectors n ≤ 32
+permitted-few = permitted-each (λ n. sectors n ≤ 32) (omega arith) (omega arith) (omega arith) (omega arith) (omega arith) (omega arith)

@@ -1,0 +1,4 @@
+pub mod Part
+pub mod Table
+pub mod Protection
+pub mod Laws

@@ -1,0 +1,61 @@
+// The small program: runs a script from standard input on a blank one-sector part.
+
+#[path = "model.rs"]
+mod model;
+
+use model::Chip;
+use std::io::{self, Read, Write};
+
+/// The longest script the program reads.
+const LONGEST_SCRIPT: usize = 4_096;
+
+/// Everything the program prints for a script.
+pub fn report(script: &[u8]) -> String {
+    if script.len() > LONGEST_SCRIPT {
+        return "too long\n".to_string();
+    }
+    let mut chip = Chip::fresh(0x00);
+    let mut memory = vec![0xFF; Chip::SECTOR];
+    let mut output = vec![0; 2 * script.len()];
+    let mut text = format!("part {}\n", memory.len());
+    let answer = model::run(&mut chip, &mut memory, script, &mut output);
+    if answer.refusal != 0 {
+        text += &format!("answer {} at {}\n", answer.refusal, answer.offset);
+    } else {
+        text += &record_lines(script, &output[..answer.written]);
+        text += &format!("answer 0 ticks {}\n", answer.ticks);
+    }
+    text
+}
+
+/// One line a record, each with the offset of its event in a script that has run.
+fn record_lines(script: &[u8], output: &[u8]) -> String {
+    let mut text = String::new();
+    let mut records = output.iter();
+    let mut offset = 0;
+    while offset < script.len() {
+        let kind = script[offset];
+        if matches!(kind, 0x02 | 0x03 | 0x08) {
+            text += &format!("{offset} {}\n", record_word(&mut records));
+        }
+        offset += 1 + model::body_length(kind).unwrap_or(0);
+    }
+    text
+}
+
+/// The word of the next record in the output.
+fn record_word(records: &mut std::slice::Iter<u8>) -> String {
+    match records.next() {
+        Some(0x81) => records.next().map(|byte| format!("{byte:02X}")),
+        Some(0x82) => records.next().map(|verdict| format!("V{verdict}")),
+        _ => Some("--".to_string()),
+    }
+    .unwrap_or_default()
+}
+
+/// Reads the script, one byte past the longest at most, and prints its report.
+fn main() -> io::Result<()> {
+    let mut script = Vec::new();
+    io::stdin().lock().take(LONGEST_SCRIPT as u64 + 1).read_to_end(&mut script)?;
+    io::stdout().lock().write_all(report(&script).as_bytes())
+}
