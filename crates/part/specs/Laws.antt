@@ -60,3 +60,23 @@ permitted-some = permitted-each (λ n. 1 ≤ sectors n) (omega arith) (omega ari
 
 pub permitted-few : (n : ℕ) → permitted n ≡ true → sectors n ≤ 32
 permitted-few = permitted-each (λ n. sectors n ≤ 32) (omega arith) (omega arith) (omega arith) (omega arith) (omega arith) (omega arith)
+
+-- a number of sectors, 0 for a length that no part has, tells which lengths are permitted
+pub no-sectors : (n s : ℕ) → s ≡ cond (permitted n) (sectors n) 0 → s ≡ 0 → permitted n ≡ false
+no-sectors n s e z = go (permitted n) refl
+  where
+    go : (b : Bool) → permitted n ≡ b → b ≡ false
+    go true p =
+        let q : s ≡ sectors n = e ∙ cond-yes (permitted n) (sectors n) 0 p in
+        absurd (omega (arith, permitted-some n p))
+    go false p = refl
+
+pub some-sectors : (n s : ℕ) → s ≡ cond (permitted n) (sectors n) 0 → (s ≡ 0 → ⊥) → permitted n ≡ true
+some-sectors n s e z = go (permitted n) refl
+  where
+    go : (b : Bool) → permitted n ≡ b → b ≡ true
+    go true p = refl
+    go false p = absurd (z (e ∙ cond-no (permitted n) (sectors n) 0 p))
+
+pub sectors-are : (n s : ℕ) → s ≡ cond (permitted n) (sectors n) 0 → (s ≡ 0 → ⊥) → s ≡ sectors n
+sectors-are n s e z = e ∙ cond-yes (permitted n) (sectors n) 0 (some-sectors n s e z)

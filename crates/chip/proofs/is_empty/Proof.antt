@@ -1,0 +1,15 @@
+use mathlib.Core.Path.{refl}
+use Rattle.chip.specs.Legal.{isEmpty}
+use borrow.Author.Needs.{needs}
+use Rattle.chip.proofs.is_empty.Statement.{statement}
+use Rattle.chip.proofs.is_empty.Tie as tie
+use Rattle.chip.proofs.is_empty.Reads as reads
+use Rattle.chip.proofs.is_empty.Lts as lts
+
+-- src/lib.rt:273:1
+returns : tie.Need-returns
+unfolding isEmpty
+returns c = refl
+
+pub is-empty-spec : {M : Type 1} → statement M
+is-empty-spec = tie.close (tie.spec returns)

@@ -1,0 +1,4 @@
+pub mod Job
+pub mod Chip
+pub mod Legal
+pub mod Laws

@@ -1,0 +1,305 @@
+// The chip's state: what it is made of, a fresh one, its status byte, and whether it is legal.
+ghost use mathlib.Core.Path.{_≡_};
+ghost use mathlib.Core.Bool.{cond};
+ghost use Prim.Native.Nat.{_≤_, _<_};
+ghost use lib.ListN.{replicate};
+ghost use Rattle.chip.specs.Job.{isJob, hasCells, unit, total};
+ghost use Rattle.chip.specs.Chip.{fresh, emptyFrame, running, statusByte};
+ghost use Rattle.chip.specs.Legal.{placed, alignedTo, legalJob, legalCore, legalFrame, readPlaces, judgementKnown, isEmpty, isBlank, legal};
+
+use part::Part;
+
+// What a job does; a write status job holds the byte that it will set.
+pub enum JobKind {
+    Idle,
+    WriteStatus(u8),
+    Program,
+    SmallErase,
+    SectorErase,
+    ChipErase,
+}
+
+// The one job: its kind, the first cell of its range, and its steps done.
+pub struct Job {
+    pub kind: JobKind,
+    pub place: u32,
+    pub done: u32,
+}
+
+// All of the state but the frame and the two loads.
+pub struct Core {
+    pub level: u8,
+    pub tb: bool,
+    pub srwp: bool,
+    pub wen: bool,
+    pub suspended: bool,
+    pub wp: bool,
+    pub deep: bool,
+    pub armed: bool,
+    pub job: Job,
+}
+
+// The frame on the wire: `place` is the read place, `offset` the load place, `count` the whole bytes so far (6 meaning six or more), and `judgement` 0 for none.
+pub struct Frame {
+    pub selected: bool,
+    pub opcode: u8,
+    pub address: u32,
+    pub place: usize,
+    pub offset: u8,
+    pub count: u8,
+    pub judgement: u8,
+}
+
+// The chip: `load` is the frame's page load, `page` the load of the program job.
+pub struct Chip {
+    pub core: Core,
+    pub frame: Frame,
+    pub load: [u8; 256],
+    pub page: [u8; 256],
+}
+
+// What an event says: nothing, the line left floating, the byte driven, or the verdict.
+pub enum Record {
+    Nothing,
+    Floating,
+    Driven(u8),
+    Verdict(u8),
+}
+
+impl Chip {
+    // A fresh state from any status byte.
+    pub fn fresh(status: u8) -> Chip
+        ensures { λ r. ⌜ r ≡ fresh status ⌝ }
+    {
+        Chip {
+            core: Core {
+                level: status / 4 % 8,
+                tb: status / 32 % 2 == 1,
+                srwp: status / 128 % 2 == 1,
+                wen: false,
+                suspended: false,
+                wp: true,
+                deep: false,
+                armed: false,
+                job: no_job(),
+            },
+            frame: empty_frame(false),
+            load: [255; 256],
+            page: [255; 256],
+        }
+    }
+}
+
+// No job.
+pub fn no_job() -> Job
+    ensures { λ r. ⌜ r ≡ record { kind = JobKind.Idle; place = 0; done = 0 } ⌝ }
+{
+    Job {
+        kind: JobKind::Idle,
+        place: 0,
+        done: 0,
+    }
+}
+
+// The empty frame, selected or not.
+pub fn empty_frame(selected: bool) -> Frame
+    ensures { λ r. ⌜ r ≡ emptyFrame selected ⌝ }
+{
+    Frame {
+        selected: selected,
+        opcode: 0,
+        address: 0,
+        place: 0,
+        offset: 0,
+        count: 0,
+        judgement: 0,
+    }
+}
+
+// Whether there is a job at all.
+pub fn is_job(kind: JobKind) -> bool
+    ensures { λ r. ⌜ r ≡ isJob kind ⌝ }
+{
+    match kind {
+        JobKind::Idle => false,
+        JobKind::WriteStatus(_) => true,
+        JobKind::Program => true,
+        JobKind::SmallErase => true,
+        JobKind::SectorErase => true,
+        JobKind::ChipErase => true,
+    }
+}
+
+// Whether the job is a program or an erase.
+pub fn has_cells(kind: JobKind) -> bool
+    ensures { λ r. ⌜ r ≡ hasCells kind ⌝ }
+{
+    match kind {
+        JobKind::Idle => false,
+        JobKind::WriteStatus(_) => false,
+        JobKind::Program => true,
+        JobKind::SmallErase => true,
+        JobKind::SectorErase => true,
+        JobKind::ChipErase => true,
+    }
+}
+
+// The number of cells of a step.
+pub fn unit_of(kind: JobKind) -> usize
+    ensures { λ r. ⌜ (r ≡ unit kind) × (r ≤ 256) ⌝ }
+{
+    match kind {
+        JobKind::Idle => 0,
+        JobKind::WriteStatus(_) => 0,
+        JobKind::Program => 16,
+        JobKind::SmallErase => 256,
+        JobKind::SectorErase => 256,
+        JobKind::ChipErase => 256,
+    }
+}
+
+// The number of steps on a part of `sectors` sectors.
+pub fn total_of(kind: JobKind, sectors: u8) -> u32
+    ensures { λ r. ⌜ (r ≡ total kind sectors) × (r ≤ 65280) ⌝ }
+{
+    match kind {
+        JobKind::Idle => 0,
+        JobKind::WriteStatus(_) => 1,
+        JobKind::Program => 16,
+        JobKind::SmallErase => 16,
+        JobKind::SectorErase => 256,
+        JobKind::ChipErase => 256 * (sectors as u32),
+    }
+}
+
+// Whether a job runs: there is one, and it is not suspended.
+pub fn is_running(core: Core) -> bool
+    ensures { λ r. ⌜ r ≡ running core ⌝ }
+{
+    let job = core.job;
+    let kind = job.kind;
+    is_job(kind) & !core.suspended
+}
+
+// A status bit's weight, if it is set.
+fn weight(set: bool, of: u8) -> u8
+    ensures { λ r. ⌜ (r ≡ cond set of 0) × (r ≤ of) ⌝ }
+{
+    if set {
+        return of;
+    }
+    0
+}
+
+// The status byte.
+pub fn status_byte(core: Core) -> u8
+    ensures { λ r. ⌜ r ≡ statusByte core ⌝ }
+{
+    let ready = weight(is_running(core), 1);
+    let wen = weight(core.wen, 2);
+    let tb = weight(core.tb, 32);
+    let sus = weight(core.suspended, 64);
+    let srwp = weight(core.srwp, 128);
+    ready + wen + 4 * (core.level % 8) + tb + sus + srwp
+}
+
+// Whether a place is inside a memory of n cells and aligned to a size.
+fn aligned_to(size: usize, place: u32, n: usize) -> bool
+    requires { ⌜ (0 < size) × (size ≤ 65536) ⌝ }
+    ensures { λ r. ⌜ r ≡ alignedTo size place n ⌝ }
+{
+    let at = place as usize;
+    (at % size == 0) & (at + size <= n)
+}
+
+// Whether a job of some kind may stand at a place.
+fn is_placed(kind: JobKind, place: u32, n: usize) -> bool
+    ensures { λ r. ⌜ r ≡ placed kind place n ⌝ }
+{
+    match kind {
+        JobKind::Idle => true,
+        JobKind::WriteStatus(_) => place == 0,
+        JobKind::Program => aligned_to(Part::PAGE, place, n),
+        JobKind::SmallErase => aligned_to(Part::SMALL_SECTOR, place, n),
+        JobKind::SectorErase => aligned_to(Part::SECTOR, place, n),
+        JobKind::ChipErase => place == 0,
+    }
+}
+
+fn is_legal_job(job: Job, sectors: u8, n: usize) -> bool
+    ensures { λ r. ⌜ r ≡ legalJob job sectors n ⌝ }
+{
+    let kind = job.kind;
+    let total = total_of(kind, sectors);
+    is_placed(kind, job.place, n) & (!is_job(kind) | (job.done < total))
+}
+
+fn is_legal_core(core: Core, sectors: u8, n: usize) -> bool
+    ensures { λ r. ⌜ r ≡ legalCore core sectors n ⌝ }
+{
+    let job = core.job;
+    let kind = job.kind;
+    let some = is_job(kind);
+    (core.level <= 7)
+        & is_legal_job(job, sectors, n)
+        & (!some | core.wen)
+        & (!core.suspended | has_cells(kind))
+        & (!core.deep | (!some & !core.armed))
+}
+
+fn is_known_judgement(v: u8) -> bool
+    ensures { λ r. ⌜ r ≡ judgementKnown v ⌝ }
+{
+    (v == 0) | (v == 3) | (v == 5) | (v == 6) | (v == 7)
+}
+
+// The number of read places in a frame of an opcode.
+fn read_places(opcode: u8, n: usize) -> usize
+    ensures { λ r. ⌜ r ≡ readPlaces opcode n ⌝ }
+{
+    if opcode == Part::JEDEC_ID {
+        return 4;
+    }
+    n
+}
+
+fn is_legal_frame(f: Frame, n: usize) -> bool
+    ensures { λ r. ⌜ r ≡ legalFrame f n ⌝ }
+{
+    let places = read_places(f.opcode, n);
+    (f.address < 16777216) & (f.place < places) & (f.count <= 6) & is_known_judgement(f.judgement)
+}
+
+fn is_empty(f: Frame) -> bool
+    ensures { λ r. ⌜ r ≡ isEmpty f ⌝ }
+{
+    (f.opcode == 0) & (f.address == 0) & (f.place == 0) & (f.offset == 0) & (f.count == 0) & (f.judgement == 0)
+}
+
+fn is_blank(load: &[u8]) -> bool
+    ensures { λ r. ⌜ r ≡ isBlank (now (load .entry)) ⌝ }
+{
+    let mut i = 0;
+    while i < load.len() {
+        if load[i] != 255 {
+            return false;
+        }
+        i += 1;
+    }
+    true
+}
+
+// Whether a state is legal for a memory of n cells.
+pub fn is_legal(chip: Chip, n: usize) -> bool
+    ensures { λ r. ⌜ r ≡ legal chip n ⌝ }
+{
+    let sectors = part::sectors_of(n);
+    if sectors == 0 {
+        return false;
+    }
+    let core = chip.core;
+    let frame = chip.frame;
+    let load = chip.load;
+    let begun = frame.selected & !(frame.count == 0);
+    is_legal_core(core, sectors, n) & is_legal_frame(frame, n) & (begun | (is_empty(frame) & is_blank(&load)))
+}
