@@ -2,7 +2,7 @@
 use Prim.Native.Nat.{ℕ, zero, suc, _+_, _-_, _<_, _≤_, min}
 use mathlib.Core.Bool.{Bool, true, false, cond, _&&_}
 use mathlib.Core.List.{List, [], _∷_}
-use mathlib.Core.Path.{_≡_, refl, sym, ap, _∙_}
+use mathlib.Core.Path.{_≡_, refl, sym, ap, fun-ext, _∙_}
 use mathlib.Core.Logic.{_⊎_, inl, inr, ⊎-elim}
 use native.Mathlib.Numerals.{add-one}
 use native.Mathlib.Nat.{add-zero, zero-add, add-suc, suc-add, add-assoc}
@@ -29,6 +29,10 @@ pub length-sweep : (g : Rule) (m : List ℕ) (p n : ℕ) → length (sweep g m p
 unfolding sweep
 length-sweep g m p zero = refl
 length-sweep g m p (suc n) = length-set (sweep g m p n) (p + n) _ ∙ length-sweep g m p n
+
+-- a rule counted from a on, and then from b on
+pub later-later : (g : Rule) (a b : ℕ) → later (later g a) b ≡ later g (a + b)
+later-later g a b = fun-ext (λ j. fun-ext (λ old. ap (λ (n : ℕ). g n old) (sym (add-assoc a b j))))
 
 -- a sweep in two parts: the first d cells, then the rest by the same rule counted from d on
 pub sweep-add : (g : Rule) (m : List ℕ) (p d n : ℕ) → sweep g m p (d + n) ≡ sweep (later g d) (sweep g m p d) (p + d) n

@@ -3,7 +3,7 @@ ghost use mathlib.Core.Path.{_≡_};
 ghost use mathlib.Core.Bool.{cond};
 ghost use Prim.Native.Nat.{_≤_, _<_};
 ghost use lib.ListN.{replicate};
-ghost use Rattle.chip.specs.Job.{isJob, hasCells, unit, total};
+ghost use Rattle.chip.specs.Job.{isJob, hasCells, total};
 ghost use Rattle.chip.specs.Chip.{fresh, emptyFrame, running, statusByte};
 ghost use Rattle.chip.specs.Legal.{placed, alignedTo, legalJob, legalCore, legalFrame, readPlaces, judgementKnown, isEmpty, isBlank, legal};
 
@@ -141,20 +141,6 @@ pub fn has_cells(kind: JobKind) -> bool
         JobKind::SmallErase => true,
         JobKind::SectorErase => true,
         JobKind::ChipErase => true,
-    }
-}
-
-// The number of cells of a step.
-pub fn unit_of(kind: JobKind) -> usize
-    ensures { λ r. ⌜ (r ≡ unit kind) × (r ≤ 256) ⌝ }
-{
-    match kind {
-        JobKind::Idle => 0,
-        JobKind::WriteStatus(_) => 0,
-        JobKind::Program => 16,
-        JobKind::SmallErase => 256,
-        JobKind::SectorErase => 256,
-        JobKind::ChipErase => 256,
     }
 }
 

@@ -1,0 +1,227 @@
+-- What is true of ticks: n of them in closed form, n + m of them in two parts, and what they leave alone.
+use Prim.Native.Nat.{ℕ, zero, suc, _+_, _*_, _-_, _<_, _≤_, max}
+use mathlib.Core.Bool.{Bool, true, false, cond, not, _&&_}
+use mathlib.Core.List.{List}
+use mathlib.Core.Path.{_≡_, refl, sym, ap, _∙_}
+use native.Mathlib.Nat.{add-zero, zero-add, add-suc, add-assoc, zero-mul, mul-zero, add-mul}
+use native.Mathlib.Numerals.{add-one}
+use native.Mathlib.Omega.{arith}
+use native.Mathlib.Decide.{decLt}
+use lib.Dec.{ltb}
+use lib.ListN.{length}
+use borrow.Author.Tests.{lt-ltb, le-ltb}
+use Rattle.cells.specs.Choice.{cond-yes, cond-no, cond-either}
+use Rattle.cells.specs.Cells.{Rule, sweep, later}
+use Rattle.cells.specs.Laws.{sweep-none, sweep-add, later-later, length-sweep}
+use Rattle.chip.specs.declared.Core.{Core}
+use Rattle.chip.specs.declared.JobKind.{JobKind}
+use Rattle.chip.specs.declared.JobKind.the-variants.{Idle, WriteStatus, Program, SmallErase, SectorErase, ChipErase}
+use Rattle.chip.specs.Job.{steps, total, unit, rule, noJob}
+use Rattle.chip.specs.Chip.{running}
+use Rattle.job.specs.Tick.{withDone, advanced, cleared, ended, endedAs, tickCore, tickMemory, ticksCore, ticksMemory, worked, ticksLeft}
+
+-- ---- steps
+
+-- no step changes nothing
+pub steps-none : (kind : JobKind) (place : ℕ) (page : List ℕ) (d : ℕ) (m : List ℕ) → steps kind place page d 0 m ≡ m
+steps-none kind place page d m = rw (zero-mul (unit kind)) (sweep-none _ m _)
+
+-- a job without cells changes none
+pub steps-no-cells : (kind : JobKind) (place : ℕ) (page : List ℕ) (d k : ℕ) (m : List ℕ) → unit kind ≡ 0 → steps kind place page d k m ≡ m
+steps-no-cells kind place page d k m h =
+    let e : k * unit kind ≡ 0 = ap (λ (u : ℕ). k * u) h ∙ mul-zero k in
+    ap (sweep (later (rule kind page) (d * unit kind)) m (place + d * unit kind)) e ∙ sweep-none _ m _
+
+-- k steps and then j are k + j
+pub steps-add : (kind : JobKind) (place : ℕ) (page : List ℕ) (d k j : ℕ) (m : List ℕ) → steps kind place page d (k + j) m ≡ steps kind place page (d + k) j (steps kind place page d k m)
+steps-add kind place page d k j m =
+    let u : ℕ = unit kind in
+    let g : Rule = later (rule kind page) (d * u) in
+    let p : ℕ = place + d * u in
+    ap (sweep g m p) (add-mul k j u)
+    ∙ sweep-add g m p (k * u) (j * u)
+    ∙ ap (λ (h : Rule). sweep h (sweep g m p (k * u)) (p + k * u) (j * u)) (later-later (rule kind page) (d * u) (k * u) ∙ ap (later (rule kind page)) (sym (add-mul d k u)))
+    ∙ ap (λ (q : ℕ). sweep (later (rule kind page) ((d + k) * u)) (sweep g m p (k * u)) q (j * u)) (add-assoc place (d * u) (k * u) ∙ ap (λ (q : ℕ). place + q) (sym (add-mul d k u)))
+
+pub length-steps : (kind : JobKind) (place : ℕ) (page : List ℕ) (d k : ℕ) (m : List ℕ) → length (steps kind place page d k m) ≡ length m
+length-steps kind place page d k m = length-sweep _ m _ _
+
+-- ---- one tick, and one more
+
+pub ticksCore-more : (S n : ℕ) (k : Core) → ticksCore S (n + 1) k ≡ tickCore S (ticksCore S n k)
+unfolding ticksCore
+ticksCore-more S n k = rw add-one
+
+pub ticksMemory-more : (S n : ℕ) (k : Core) (page m : List ℕ) → ticksMemory S (n + 1) k page m ≡ tickMemory (ticksCore S n k) page (ticksMemory S n k page m)
+unfolding ticksMemory
+ticksMemory-more S n k page m = rw add-one
+
+pub worked-more : (S n : ℕ) (k : Core) → worked S (n + 1) k ≡ worked S n k + cond (running (ticksCore S n k)) 1 0
+unfolding worked
+worked-more S n k = rw add-one
+
+-- a tick that finds no job running does nothing
+pub tick-rests : (S : ℕ) (k : Core) → running k ≡ false → tickCore S k ≡ k
+unfolding tickCore
+tick-rests S k h = cond-no (running k) _ _ h
+
+pub tickMemory-rests : (k : Core) (page m : List ℕ) → running k ≡ false → tickMemory k page m ≡ m
+unfolding tickMemory
+tickMemory-rests k page m h = cond-no (running k) _ _ h
+
+-- a tick that finds a job running does its next step
+pub tick-goes : (S : ℕ) (k : Core) → running k ≡ true → k .job .done + 1 < total (k .job .kind) S → tickCore S k ≡ advanced 1 k
+unfolding tickCore
+tick-goes S k h l = cond-yes (running k) _ _ h ∙ cond-yes (ltb (k .job .done + 1) (total (k .job .kind) S)) _ _ (lt-ltb _ _ l)
+
+pub tick-ends : (S : ℕ) (k : Core) → running k ≡ true → total (k .job .kind) S ≤ k .job .done + 1 → tickCore S k ≡ ended k
+unfolding tickCore
+tick-ends S k h l = cond-yes (running k) _ _ h ∙ cond-no (ltb (k .job .done + 1) (total (k .job .kind) S)) _ _ (le-ltb _ _ l)
+
+pub tickMemory-works : (k : Core) (page m : List ℕ) → running k ≡ true → tickMemory k page m ≡ steps (k .job .kind) (k .job .place) page (k .job .done) 1 m
+unfolding tickMemory
+tickMemory-works k page m h = cond-yes (running k) _ _ h
+
+-- ---- n ticks with no job running
+
+pub ticks-rest : (S n : ℕ) (k : Core) → running k ≡ false → ticksCore S n k ≡ k
+unfolding ticksCore
+ticks-rest S zero k h = refl
+ticks-rest S (suc n) k h = ap (tickCore S) (ticks-rest S n k h) ∙ tick-rests S k h
+
+pub ticksMemory-rest : (S n : ℕ) (k : Core) (page m : List ℕ) → running k ≡ false → ticksMemory S n k page m ≡ m
+unfolding ticksMemory
+ticksMemory-rest S zero k page m h = refl
+ticksMemory-rest S (suc n) k page m h =
+    tickMemory-rests (ticksCore S n k) page _ (ap running (ticks-rest S n k h) ∙ h) ∙ ticksMemory-rest S n k page m h
+
+pub worked-rest : (S n : ℕ) (k : Core) → running k ≡ false → worked S n k ≡ 0
+unfolding worked
+worked-rest S zero k h = refl
+worked-rest S (suc n) k h = rw (worked-rest S n k h, cond-no {A = ℕ} (running (ticksCore S n k)) 1 0 (ap running (ticks-rest S n k h) ∙ h))
+
+-- ---- n + m ticks are n ticks and then m
+
+pub ticks-add : (S n m : ℕ) (k : Core) → ticksCore S (n + m) k ≡ ticksCore S m (ticksCore S n k)
+unfolding ticksCore
+ticks-add S n zero k = rw add-zero
+ticks-add S n (suc m) k = rw (add-suc, ticksCore) (ap (tickCore S) (ticks-add S n m k))
+
+pub ticksMemory-add : (S n m : ℕ) (k : Core) (page mem : List ℕ) → ticksMemory S (n + m) k page mem ≡ ticksMemory S m (ticksCore S n k) page (ticksMemory S n k page mem)
+unfolding ticksMemory
+ticksMemory-add S n zero k page mem = rw add-zero
+ticksMemory-add S n (suc m) k page mem =
+    rw (add-suc, ticksMemory)
+    (ap (λ (q : Core). tickMemory q page (ticksMemory S (n + m) k page mem)) (ticks-add S n m k)
+    ∙ ap (tickMemory (ticksCore S m (ticksCore S n k)) page) (ticksMemory-add S n m k page mem))
+
+pub worked-add : (S n m : ℕ) (k : Core) → worked S (n + m) k ≡ worked S n k + worked S m (ticksCore S n k)
+unfolding worked
+worked-add S n zero k = rw (add-zero, add-zero)
+worked-add S n (suc m) k =
+    rw (add-suc, worked)
+    (ap (λ (w : ℕ). w + cond (running (ticksCore S (n + m) k)) 1 0) (worked-add S n m k)
+    ∙ add-assoc _ _ _
+    ∙ ap (λ (q : Core). worked S n k + (worked S m (ticksCore S n k) + cond (running q) 1 0)) (ticks-add S n m k))
+
+-- ---- a job's end
+
+-- what a job's end leaves does not depend on its steps done
+pub ended-same : (kind : JobKind) (d : ℕ) (k : Core) → endedAs kind (withDone d k) ≡ endedAs kind k
+ended-same Idle d k = refl
+ended-same (WriteStatus value) d k = refl
+ended-same Program d k = refl
+ended-same SmallErase d k = refl
+ended-same SectorErase d k = refl
+ended-same ChipErase d k = refl
+
+-- after it no job runs
+pub ended-rests : (kind : JobKind) (k : Core) → running (endedAs kind k) ≡ false
+ended-rests Idle k = refl
+ended-rests (WriteStatus value) k = refl
+ended-rests Program k = refl
+ended-rests SmallErase k = refl
+ended-rests SectorErase k = refl
+ended-rests ChipErase k = refl
+
+-- ---- n ticks of a running job: its next n steps, as long as it has more than n left
+
+module _ (S : ℕ) (k : Core) (runs : running k ≡ true) where
+  pub ticks-go : (n : ℕ) → n < ticksLeft S k → ticksCore S n k ≡ advanced n k
+  unfolding ticksCore
+  ticks-go zero l = ap (λ (d : ℕ). withDone d k) (sym (add-zero (k .job .done)))
+  ticks-go (suc n) l =
+      let e : k .job .done + n + 1 ≡ k .job .done + suc n = omega arith in
+      ap (tickCore S) (ticks-go n (omega arith)) ∙ tick-goes S (advanced n k) runs (omega arith) ∙ ap (λ (d : ℕ). withDone d k) e
+
+  -- a tick after n of them still finds it running
+  pub ticks-running : (n : ℕ) → n < ticksLeft S k → running (ticksCore S n k) ≡ true
+  ticks-running n l = ap running (ticks-go n l) ∙ runs
+
+  -- so n + 1 of them do n + 1 steps, the last one included
+  pub worked-go : (n : ℕ) → n ≤ ticksLeft S k → worked S n k ≡ n
+  unfolding worked
+  worked-go zero l = refl
+  worked-go (suc n) l = rw (worked-go n (omega arith), cond-yes {A = ℕ} (running (ticksCore S n k)) 1 0 (ticks-running n (omega arith))) (add-one n)
+
+  pub ticksMemory-go : (page m : List ℕ) (n : ℕ) → n ≤ ticksLeft S k → ticksMemory S n k page m ≡ steps (k .job .kind) (k .job .place) page (k .job .done) n m
+  unfolding ticksMemory
+  ticksMemory-go page m zero l = sym (steps-none (k .job .kind) (k .job .place) page (k .job .done) m)
+  ticksMemory-go page m (suc n) l =
+      ap (λ (q : Core). tickMemory q page (ticksMemory S n k page m)) (ticks-go n (omega arith))
+      ∙ tickMemory-works (advanced n k) page _ runs
+      ∙ ap (steps (k .job .kind) (k .job .place) page (k .job .done + n) 1) (ticksMemory-go page m n (omega arith))
+      ∙ sym (steps-add (k .job .kind) (k .job .place) page (k .job .done) n 1 m)
+      ∙ ap (λ (q : ℕ). steps (k .job .kind) (k .job .place) page (k .job .done) q m) (add-one n)
+
+  -- the last of its ticks ends the job
+  pub ticks-end : ticksCore S (ticksLeft S k) k ≡ ended k
+  ticks-end =
+      let n : ℕ = ticksLeft S k - 1 in
+      let e : ticksLeft S k ≡ n + 1 = omega arith in
+      ap (λ (q : ℕ). ticksCore S q k) e
+      ∙ ticksCore-more S n k
+      ∙ ap (tickCore S) (ticks-go n (omega arith))
+      ∙ tick-ends S (advanced n k) runs (omega arith)
+      ∙ ended-same (k .job .kind) (k .job .done + n) k
+
+  -- and later ticks find nothing to do
+  module _ (n : ℕ) (enough : ticksLeft S k ≤ n) where
+    abbrev rest : ℕ
+    rest = n - ticksLeft S k
+
+    whole : n ≡ ticksLeft S k + rest
+    whole = omega arith
+
+    ended-running : running (ticksCore S (ticksLeft S k) k) ≡ false
+    ended-running = ap running ticks-end ∙ ended-rests (k .job .kind) k
+
+    pub ticks-over : ticksCore S n k ≡ ended k
+    ticks-over = ap (λ (q : ℕ). ticksCore S q k) whole ∙ ticks-add S (ticksLeft S k) rest k ∙ ticks-rest S rest _ ended-running ∙ ticks-end
+
+    pub worked-over : worked S n k ≡ ticksLeft S k
+    worked-over =
+        ap (λ (q : ℕ). worked S q k) whole
+        ∙ worked-add S (ticksLeft S k) rest k
+        ∙ ap (λ (w : ℕ). worked S (ticksLeft S k) k + w) (worked-rest S rest _ ended-running)
+        ∙ add-zero _
+        ∙ worked-go (ticksLeft S k) (omega arith)
+
+    pub ticksMemory-over : (page m : List ℕ) → ticksMemory S n k page m ≡ steps (k .job .kind) (k .job .place) page (k .job .done) (ticksLeft S k) m
+    ticksMemory-over page m =
+        ap (λ (q : ℕ). ticksMemory S q k page m) whole
+        ∙ ticksMemory-add S (ticksLeft S k) rest k page m
+        ∙ ticksMemory-rest S rest _ page _ ended-running
+        ∙ ticksMemory-go page m (ticksLeft S k) (omega arith)
+
+-- ---- lengths
+
+pub length-tick : (k : Core) (page m : List ℕ) → length (tickMemory k page m) ≡ length m
+unfolding tickMemory
+length-tick k page m =
+    cond-either (λ (q : List ℕ). length q ≡ length m) (running k) _ _ (λ _. length-steps (k .job .kind) (k .job .place) page (k .job .done) 1 m) (λ _. refl)
+
+pub length-ticks : (S n : ℕ) (k : Core) (page m : List ℕ) → length (ticksMemory S n k page m) ≡ length m
+unfolding ticksMemory
+length-ticks S zero k page m = refl
+length-ticks S (suc n) k page m = length-tick (ticksCore S n k) page (ticksMemory S n k page m) ∙ length-ticks S n k page m

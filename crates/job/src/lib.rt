@@ -1,0 +1,135 @@
+// Ticks: n of them in one go, as far as the job has steps left.
+ghost use mathlib.Core.Path.{_≡_};
+ghost use Prim.Native.Nat.{_+_, _*_, _≤_, _<_, _-_, _^_, max};
+ghost use Rattle.cells.specs.Cells.{sweep, blanked};
+ghost use Rattle.chip.specs.declared.JobKind.{JobKind};
+ghost use Rattle.chip.specs.Job.{steps, total};
+ghost use Rattle.job.specs.Tick.{advanced, cleared, endedAs, TicksAnswer};
+
+use chip::Core;
+use chip::Job;
+use chip::JobKind;
+
+// What ticks leave of the core, and how many of them worked.
+pub struct Ticked {
+    pub core: Core,
+    pub worked: u32,
+}
+
+// Does k steps of a program from step `done` on: 16 cells each.
+fn program_steps(place: u32, done: u32, k: u32, page: &[u8; 256], mem: &mut [u8])
+    ensures { λ r. ⌜ now (mem .exit) ≡ steps JobKind.Program place (now (page .entry)) done k (now (mem .entry)) ⌝ }
+{
+    let at = (done as usize) * 16;
+    let from = (place as usize) + at;
+    cells::program(mem, page, from, at, (k as usize) * 16);
+}
+
+// Does k steps of an erase from step `done` on: 256 cells each, in one fill.
+fn erase_steps(place: u32, done: u32, k: u32, mem: &mut [u8])
+    ensures { λ r. ⌜ now (mem .exit) ≡ sweep blanked (now (mem .entry)) (place + done * 256) (k * 256) ⌝ }
+{
+    let from = (place as usize) + (done as usize) * 256;
+    cells::blank(mem, from, (k as usize) * 256);
+}
+
+// Does k steps of a job from step `done` on.
+fn do_steps(kind: JobKind, place: u32, done: u32, k: u32, page: &[u8; 256], mem: &mut [u8])
+    ensures { λ r. ⌜ now (mem .exit) ≡ steps kind place (now (page .entry)) done k (now (mem .entry)) ⌝ }
+{
+    match kind {
+        JobKind::Idle => {}
+        JobKind::WriteStatus(_) => {}
+        JobKind::Program => program_steps(place, done, k, page, mem),
+        JobKind::SmallErase => erase_steps(place, done, k, mem),
+        JobKind::SectorErase => erase_steps(place, done, k, mem),
+        JobKind::ChipErase => erase_steps(place, done, k, mem),
+    }
+}
+
+// How many ticks it takes to end a job that runs: its steps left, and at least one.
+fn ticks_left(kind: JobKind, done: u32, sectors: u8) -> u32
+    ensures { λ r. ⌜ (r ≡ max (total kind sectors - done) 1) × (total kind sectors ≤ 65280) ⌝ }
+{
+    let total = chip::total_of(kind, sectors);
+    if done < total {
+        return total - done;
+    }
+    1
+}
+
+// The core with k more steps done.
+fn advance(core: Core, k: u32) -> Core
+    requires { ⌜ core .job .done + k < 2 ^ 32 ⌝ }
+    ensures { λ r. ⌜ r ≡ advanced k core ⌝ }
+{
+    let job = core.job;
+    let kind = job.kind;
+    let stepped = Job {
+        kind: kind,
+        place: job.place,
+        done: job.done + k,
+    };
+    let mut next = core;
+    next.job = stepped;
+    next
+}
+
+// The core with its job gone and WEN clear, and these bits 2 to 5 and 7.
+fn clear(level: u8, tb: bool, srwp: bool, core: Core) -> Core
+    ensures { λ r. ⌜ r ≡ cleared level tb srwp core ⌝ }
+{
+    let idle = Job {
+        kind: JobKind::Idle,
+        place: 0,
+        done: 0,
+    };
+    let mut next = core;
+    next.level = level;
+    next.tb = tb;
+    next.srwp = srwp;
+    next.wen = false;
+    next.job = idle;
+    next
+}
+
+// The core after the last step of its job: only a write status sets bits.
+fn end(kind: JobKind, core: Core) -> Core
+    ensures { λ r. ⌜ r ≡ endedAs kind core ⌝ }
+{
+    match kind {
+        JobKind::WriteStatus(value) => clear(value / 4 % 8, value / 32 % 2 == 1, value / 128 % 2 == 1, core),
+        JobKind::Idle => clear(core.level, core.tb, core.srwp, core),
+        JobKind::Program => clear(core.level, core.tb, core.srwp, core),
+        JobKind::SmallErase => clear(core.level, core.tb, core.srwp, core),
+        JobKind::SectorErase => clear(core.level, core.tb, core.srwp, core),
+        JobKind::ChipErase => clear(core.level, core.tb, core.srwp, core),
+    }
+}
+
+// n ticks: with no job running they do nothing; otherwise they do steps until n are done or the job ends.
+pub fn ticks(core: Core, page: &[u8; 256], mem: &mut [u8], sectors: u8, n: u32) -> Ticked
+    ensures { λ r. ⌜ TicksAnswer sectors n core (now (page .entry)) (now (mem .entry)) (r .core) (r .worked) (now (mem .exit)) ⌝ }
+{
+    if !chip::is_running(core) {
+        return Ticked {
+            core: core,
+            worked: 0,
+        };
+    }
+    let job = core.job;
+    let kind = job.kind;
+    let left = ticks_left(kind, job.done, sectors);
+    if n < left {
+        do_steps(kind, job.place, job.done, n, page, mem);
+        return Ticked {
+            core: advance(core, n),
+            worked: n,
+        };
+    }
+    do_steps(kind, job.place, job.done, left, page, mem);
+    Ticked {
+        core: end(kind, core),
+        worked: left,
+    }
+}
