@@ -1,0 +1,214 @@
+// A frame: the judgement at its opcode byte, and one exchange.
+ghost use mathlib.Core.Path.{_≡_};
+ghost use mathlib.Core.Bool.{cond, not, _&&_};
+ghost use Prim.Native.Nat.{_%_, _*_, _+_, _<_, _≤_};
+ghost use lib.ListN.{getD};
+ghost use Rattle.part.specs.Part.{reduced};
+ghost use Rattle.chip.specs.declared.Record.{Record};
+ghost use Rattle.frame.specs.Frame.{judge, counted, shifted, nextPlace, nextOffset, opened, counting, reading, loading, addressing, readsCell, takesData, exchange, taken, exchanged};
+
+use chip::Core;
+use chip::Frame;
+use chip::Record;
+use part::Part;
+
+// What an exchange says, and the frame that it leaves.
+pub struct Exchanged {
+    pub said: Record,
+    pub frame: Frame,
+}
+
+// The judgement of an opcode: 3, 5, 6, 7, or 0 for none.
+pub fn judge(core: Core, opcode: u8) -> u8
+    ensures { λ r. ⌜ r ≡ judge core opcode ⌝ }
+{
+    let row = part::row_of(opcode);
+    if !row.known {
+        return 3;
+    }
+    if core.deep & !(opcode == Part::WAKE) {
+        return 5;
+    }
+    let runs = chip::is_running(core);
+    if runs & !row.running {
+        return 6;
+    }
+    if core.suspended & !row.suspended {
+        return 7;
+    }
+    0
+}
+
+// One more byte, up to 6 for six or more.
+fn count_up(n: u8) -> u8
+    ensures { λ r. ⌜ r ≡ counted n ⌝ }
+{
+    if n < 6 {
+        return n + 1;
+    }
+    6
+}
+
+// The place after `place` in a row of n places.
+fn place_up(n: usize, place: usize) -> usize
+    ensures { λ r. ⌜ r ≡ nextPlace n place ⌝ }
+{
+    if place < n {
+        if place + 1 < n {
+            return place + 1;
+        }
+        return 0;
+    }
+    0
+}
+
+// The offset after `offset` in a page.
+fn offset_up(offset: u8) -> u8
+    ensures { λ r. ⌜ r ≡ nextOffset offset ⌝ }
+{
+    if offset < 255 {
+        return offset + 1;
+    }
+    0
+}
+
+// The address with one more byte shifted in.
+fn shift_in(address: u32, b: u8) -> u32
+    ensures { λ r. ⌜ r ≡ shifted address b ⌝ }
+{
+    address % 65536 * 256 + (b as u32)
+}
+
+fn begin(core: Core, b: u8, f: Frame) -> Frame
+    ensures { λ r. ⌜ r ≡ opened core b f ⌝ }
+{
+    let mut next = f;
+    next.opcode = b;
+    next.count = count_up(f.count);
+    next.judgement = judge(core, b);
+    next
+}
+
+fn count(f: Frame) -> Frame
+    ensures { λ r. ⌜ r ≡ counting f ⌝ }
+{
+    let mut next = f;
+    next.count = count_up(f.count);
+    next
+}
+
+fn read(n: usize, f: Frame) -> Frame
+    ensures { λ r. ⌜ r ≡ reading n f ⌝ }
+{
+    let mut next = f;
+    next.place = place_up(n, f.place);
+    next.count = count_up(f.count);
+    next
+}
+
+fn load_up(f: Frame) -> Frame
+    ensures { λ r. ⌜ r ≡ loading f ⌝ }
+{
+    let mut next = f;
+    next.offset = offset_up(f.offset);
+    next.count = count_up(f.count);
+    next
+}
+
+fn address(n: usize, b: u8, f: Frame) -> Frame
+    ensures { λ r. ⌜ r ≡ addressing n b f ⌝ }
+{
+    let mut next = f;
+    next.count = count_up(f.count);
+    if 4 <= f.count {
+        return next;
+    }
+    let full = shift_in(f.address, b);
+    next.address = full;
+    if f.count == 3 {
+        next.place = part::cell_of(n, full);
+        next.offset = b;
+        return next;
+    }
+    next
+}
+
+// The cell at a place; 0 past the end, where no legal frame reads.
+fn cell_at(mem: &[u8], place: usize) -> u8
+    ensures { λ r. ⌜ r ≡ getD (now (mem .entry)) place 0 ⌝ }
+{
+    if place < mem.len() {
+        return mem[place];
+    }
+    0
+}
+
+fn reads_cell(f: Frame) -> bool
+    ensures { λ r. ⌜ r ≡ readsCell f ⌝ }
+{
+    ((f.opcode == Part::LOW_POWER_READ) & (4 <= f.count)) | ((f.opcode == Part::HIGH_SPEED_READ) & (5 <= f.count))
+}
+
+fn takes_data(f: Frame) -> bool
+    ensures { λ r. ⌜ r ≡ takesData f ⌝ }
+{
+    part::is_program(f.opcode) & (4 <= f.count)
+}
+
+fn floats(f: Frame) -> Exchanged
+    ensures { λ r. ⌜ r ≡ record { said = Record.Floating; frame = f } ⌝ }
+{
+    Exchanged {
+        said: Record::Floating,
+        frame: f,
+    }
+}
+
+fn drives(b: u8, f: Frame) -> Exchanged
+    ensures { λ r. ⌜ r ≡ record { said = Record.Driven b; frame = f } ⌝ }
+{
+    Exchanged {
+        said: Record::Driven(b),
+        frame: f,
+    }
+}
+
+// Byte 2 and up of a frame with judgement none.
+fn take(core: Core, f: Frame, load: &mut [u8; 256], mem: &[u8], b: u8) -> Exchanged
+    ensures { λ r. ⌜ exchange (r .said) (r .frame) (now (load .exit)) ≡ taken core f (now (load .entry)) (now (mem .entry)) b ⌝ }
+{
+    if reads_cell(f) {
+        return drives(cell_at(mem, f.place), read(mem.len(), f));
+    }
+    if takes_data(f) {
+        let offset = f.offset as usize;
+        load[offset] = b;
+        return floats(load_up(f));
+    }
+    if f.opcode == Part::READ_STATUS {
+        return drives(chip::status_byte(core), count(f));
+    }
+    if f.opcode == Part::JEDEC_ID {
+        return drives(part::jedec_byte(f.place), read(4, f));
+    }
+    if (f.opcode == Part::WAKE) & (4 <= f.count) {
+        return drives(Part::DEVICE, count(f));
+    }
+    floats(address(mem.len(), b, f))
+}
+
+// One exchange of byte b.
+pub fn exchange(core: Core, f: Frame, load: &mut [u8; 256], mem: &[u8], b: u8) -> Exchanged
+    ensures { λ r. ⌜ exchange (r .said) (r .frame) (now (load .exit)) ≡ exchanged core f (now (load .entry)) (now (mem .entry)) b ⌝ }
+{
+    if !f.selected {
+        return floats(f);
+    }
+    if f.count == 0 {
+        return floats(begin(core, b, f));
+    }
+    if f.judgement != 0 {
+        return floats(count(f));
+    }
+    take(core, f, load, mem, b)
+}
