@@ -41,6 +41,8 @@ const LARGEST_COUNT: usize = 65_535;
 const LARGEST_BITS: usize = 7;
 /// The most bytes that come of a text: far more than a run takes, and a stop to a slip in a count.
 const LONGEST_SCRIPT: usize = 1 << 20;
+/// The words that a line may start with.
+const WORDS: &str = "select, send, deselect, tick, ticks, wp, power, loose, frame, bytes, repeat";
 /// The byte sent when only the answer matters.
 const FILLER: u8 = 0x00;
 
@@ -55,13 +57,14 @@ fn script_of_text(text: &str) -> Result<Vec<u8>, String> {
 
 /// Adds the events of one line, as often as it says, to the script.
 fn add_line(script: &mut Vec<u8>, line: &str) -> Result<(), String> {
-    let (count, words) = match words_of_line(line).as_slice() {
+    let words = words_of_line(line);
+    let (count, event) = match words.as_slice() {
         [] => return Ok(()),
         ["repeat"] => return Err("\"repeat\" needs a count and an event".to_string()),
-        ["repeat", count, event @ ..] => (number(count, LARGEST_COUNT)?, event.to_vec()),
-        event => (1, event.to_vec()),
+        ["repeat", count, event @ ..] => (number(count, LARGEST_COUNT)?, event),
+        event => (1, event),
     };
-    let events = events_of_words(&words)?;
+    let events = events_of_words(event)?;
     if script.len() + count * events.len() > LONGEST_SCRIPT {
         return Err(format!("the script grows past {LONGEST_SCRIPT} bytes"));
     }
@@ -84,7 +87,7 @@ fn events_of_words(words: &[&str]) -> Result<Vec<u8>, String> {
         ["power"] => Ok(vec![kind::POWER_CUT]),
         ["wp", "low"] => Ok(vec![kind::WP_LEVEL, 0]),
         ["wp", "high"] => Ok(vec![kind::WP_LEVEL, 1]),
-        ["ticks", count] => ticks(number(count, LARGEST_COUNT)?),
+        ["ticks", count] => Ok(ticks(number(count, LARGEST_COUNT)? as u16)),
         ["loose", bits] => Ok(vec![kind::LOOSE_DESELECT, number(bits, LARGEST_BITS)? as u8]),
         ["send", bytes @ ..] if !bytes.is_empty() => exchanges(bytes),
         ["frame", bytes @ ..] if !bytes.is_empty() => frame(bytes),
@@ -94,10 +97,10 @@ fn events_of_words(words: &[&str]) -> Result<Vec<u8>, String> {
     }
 }
 
-/// The ticks event of a count that fits two bytes.
-fn ticks(count: usize) -> Result<Vec<u8>, String> {
-    let [high, low] = (count as u16).to_be_bytes();
-    Ok(vec![kind::TICKS, high, low])
+/// The event of that many ticks, high byte first.
+fn ticks(count: u16) -> Vec<u8> {
+    let [high, low] = count.to_be_bytes();
+    vec![kind::TICKS, high, low]
 }
 
 /// One exchange for each byte, and as many more of the filler as a last word `+N` says.
@@ -152,7 +155,7 @@ fn misuse(word: &str) -> String {
         "wp" => "one level, low or high",
         "send" | "frame" | "bytes" => "at least one byte",
         "repeat" => "no other repeat",
-        _ => return format!("{word:?} is no event; see the head of tools/script.rs for the words"),
+        _ => return format!("{word:?} is none of {WORDS}"),
     };
     format!("{word:?} takes {takes}")
 }
@@ -253,8 +256,8 @@ mod tests {
 
     #[test]
     fn bad_words_are_told_with_their_line() {
-        says("select\n\n# three\nslect", "line 4: \"slect\" is no event; see the head of tools/script.rs for the words");
-        says("Select", "line 1: \"Select\" is no event; see the head of tools/script.rs for the words");
+        says("select\n\n# three\nslect", &format!("line 4: \"slect\" is none of {WORDS}"));
+        says("Select", &format!("line 1: \"Select\" is none of {WORDS}"));
         says("tick 3", "line 1: \"tick\" takes nothing after it");
         says("ticks", "line 1: \"ticks\" takes one count, 1 to 65535");
         says("ticks 1 2", "line 1: \"ticks\" takes one count, 1 to 65535");
@@ -268,7 +271,9 @@ mod tests {
     #[test]
     fn bad_bytes_are_told() {
         for word in ["6", "006", "6h", "0x06", "G0", "é"] {
-            says(&format!("send {word}"), &format!("line 1: {word:?} is not a byte of two hex digits"));
+            let reason = format!("line 1: {word:?} is not a byte of two hex digits");
+            says(&format!("send {word}"), &reason);
+            says(&format!("bytes 01 {word}"), &reason);
         }
         says("send +2 06", "line 1: \"+2\" may stand only at the end of a send or a frame");
         says("bytes 01 +2", "line 1: \"+2\" may stand only at the end of a send or a frame");

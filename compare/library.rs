@@ -1,0 +1,243 @@
+// The library as one side: a process of its own, two pipes and one shared file.
+
+use crate::model::{Chip, Record};
+use crate::side::{edited_image, Answer, Edit, Image, Side, MEMORY_AREA, OUTPUT_AREA};
+use std::ffi::{c_int, c_void};
+use std::fs::File;
+use std::io::{Read, Write};
+use std::os::fd::AsRawFd;
+use std::process::{Child, ChildStdin, ChildStdout, Command, Stdio};
+
+extern "C" {
+    fn mmap(
+        at: *mut c_void,
+        length: usize,
+        protection: c_int,
+        flags: c_int,
+        file: c_int,
+        offset: i64,
+    ) -> *mut c_void;
+}
+
+/// Where the script stands in the shared file; the shim has the same numbers.
+const SCRIPT: usize = MEMORY_AREA;
+/// Bytes of the area for the script.
+pub const SCRIPT_AREA: usize = 3 * Chip::SECTOR;
+/// Where the output stands.
+const OUTPUT: usize = SCRIPT + SCRIPT_AREA;
+/// Where the numbers of a request and of its answer stand.
+const DESK: usize = OUTPUT + OUTPUT_AREA;
+/// Where the chip stands on the desk.
+const IMAGE: usize = DESK + 128;
+/// Length of the shared file.
+const FILE_LENGTH: usize = DESK + Chip::SECTOR;
+/// Bytes of a chip on the desk.
+const IMAGE_LENGTH: usize = 547;
+
+/// A running library process.
+struct Process {
+    child: Child,
+    to: ChildStdin,
+    from: ChildStdout,
+}
+
+/// The library process and the file that it shares with this one.
+pub struct Library {
+    command: Vec<String>,
+    shared: *mut u8,
+    process: Option<Process>,
+    lent: bool,
+}
+
+impl Library {
+    /// Makes the shared file, starts the library process over it and asks what it has.
+    pub fn new(path: &str, command: &[String]) -> Result<Library, String> {
+        let mut command = command.to_vec();
+        command.push(path.to_string());
+        let shared = map_file(path)?;
+        let mut library = Library { command, shared, process: None, lent: false };
+        library.call(b'h', [0; 3])?;
+        library.lent = library.number(0) != 0;
+        Ok(library)
+    }
+
+    /// A part of the shared file.
+    fn part(&mut self, start: usize, length: usize) -> &mut [u8] {
+        assert!(start + length <= FILE_LENGTH);
+        // The whole file is mapped, and the other process writes only while it serves a request.
+        unsafe { std::slice::from_raw_parts_mut(self.shared.add(start), length) }
+    }
+
+    /// A number of the last answer.
+    fn number(&self, place: usize) -> u64 {
+        assert!(place < 16);
+        // Inside the mapped file and aligned to 8.
+        unsafe { self.shared.add(DESK + 8 * place).cast::<u64>().read_volatile() }
+    }
+
+    /// Sends a request with its numbers and waits until it is served.
+    fn call(&mut self, request: u8, numbers: [u64; 3]) -> Result<(), String> {
+        for (place, number) in numbers.into_iter().enumerate() {
+            self.part(DESK + 8 * place, 8).copy_from_slice(&number.to_le_bytes());
+        }
+        if self.process.is_none() {
+            self.process = Some(start(&self.command)?);
+        }
+        let Some(process) = &mut self.process else { return Ok(()) };
+        let mut answer = [0];
+        let sent = process.to.write_all(&[request]).and_then(|()| process.from.read_exact(&mut answer));
+        if sent.is_err() || answer[0] != request {
+            return Err(format!("the library process ended{}", self.stop()));
+        }
+        Ok(())
+    }
+
+    /// Ends the library process by ending its requests, and gives its exit status in words.
+    fn stop(&mut self) -> String {
+        let Some(Process { mut child, to, from }) = self.process.take() else {
+            return String::new();
+        };
+        drop((to, from));
+        child.wait().map_or(String::new(), |status| format!(", {status}"))
+    }
+
+    /// The answer to the event that was last served.
+    fn event_answer(&self) -> Result<Answer, String> {
+        let value = self.number(2) as u8;
+        let record = match self.number(1) {
+            0 => Record::None,
+            1 => Record::Floating,
+            2 => Record::Driven(value),
+            3 => Record::Verdict(value),
+            tag => return Err(format!("a record with the tag {tag}")),
+        };
+        let (refusal, ticks) = (self.number(0) as u8, self.number(3));
+        Ok(Answer { refusal, record, offset: 0, written: 0, ticks })
+    }
+}
+
+impl Drop for Library {
+    /// Ends the library process.
+    fn drop(&mut self) {
+        self.stop();
+    }
+}
+
+/// Makes a file of the right length and maps it, shared.
+fn map_file(path: &str) -> Result<*mut u8, String> {
+    let mut options = File::options();
+    let file = options.read(true).write(true).create(true).truncate(true).open(path);
+    let file = file.map_err(|error| format!("{path}: {error}"))?;
+    file.set_len(FILE_LENGTH as u64).map_err(|error| format!("{path}: {error}"))?;
+    // Protection 3 is read and write, flag 1 is shared; the mapping outlives the descriptor.
+    let at = unsafe { mmap(std::ptr::null_mut(), FILE_LENGTH, 3, 1, file.as_raw_fd(), 0) };
+    if at as isize == -1 {
+        return Err(format!("{path} cannot be mapped"));
+    }
+    Ok(at.cast())
+}
+
+/// Starts the library process.
+fn start(command: &[String]) -> Result<Process, String> {
+    let mut child = Command::new(&command[0])
+        .args(&command[1..])
+        .stdin(Stdio::piped())
+        .stdout(Stdio::piped())
+        .spawn()
+        .map_err(|error| format!("the library process does not start: {error}"))?;
+    match (child.stdin.take(), child.stdout.take()) {
+        (Some(to), Some(from)) => Ok(Process { child, to, from }),
+        _ => Err("the library process has no pipes".to_string()),
+    }
+}
+
+/// Writes an image as the list of fields that the shim reads.
+fn pack(image: &Image) -> Vec<u8> {
+    let mut bytes = image.flags.to_vec();
+    bytes.extend([image.level, image.job_kind, image.job_value]);
+    bytes.extend([image.opcode, image.offset, image.count, image.judgement]);
+    for number in [image.job_place, image.job_done, image.address] {
+        bytes.extend(number.to_le_bytes());
+    }
+    bytes.extend(image.place.to_le_bytes());
+    bytes.extend(image.load);
+    bytes.extend(image.page);
+    bytes
+}
+
+/// Reads an image from the list of fields that the shim writes.
+fn unpack(bytes: &[u8; IMAGE_LENGTH]) -> Image {
+    let number = |at: usize| u32::from_le_bytes([0, 1, 2, 3].map(|i| bytes[at + i]));
+    let part = |at: usize| std::array::from_fn(|i| bytes[at + i]);
+    Image {
+        flags: std::array::from_fn(|i| bytes[i]),
+        level: bytes[8],
+        job_kind: bytes[9],
+        job_value: bytes[10],
+        opcode: bytes[11],
+        offset: bytes[12],
+        count: bytes[13],
+        judgement: bytes[14],
+        job_place: number(15),
+        job_done: number(19),
+        address: number(23),
+        place: u64::from(number(27)) | u64::from(number(31)) << 32,
+        load: part(35),
+        page: part(291),
+    }
+}
+
+impl Side for Library {
+    fn fresh(&mut self, status: u8) -> Result<(), String> {
+        self.call(b'f', [u64::from(status), 0, 0])
+    }
+
+    fn put(&mut self, chip: &Chip, edit: &Edit) -> Result<(), String> {
+        let bytes = pack(&edited_image(chip, edit));
+        self.part(IMAGE, IMAGE_LENGTH).copy_from_slice(&bytes);
+        self.call(b'p', [0; 3])
+    }
+
+    fn image(&self) -> Image {
+        // Inside the mapped file; bytes have no alignment.
+        unpack(unsafe { &*self.shared.add(IMAGE).cast::<[u8; IMAGE_LENGTH]>() })
+    }
+
+    fn legal(&mut self, length: usize) -> Result<bool, String> {
+        self.call(b'l', [length as u64, 0, 0])?;
+        Ok(self.number(0) != 0)
+    }
+
+    fn event(&mut self, length: usize, event: (u64, u64), lent: bool) -> Result<Answer, String> {
+        let request = if lent { b'b' } else { b'e' };
+        self.call(request, [length as u64, event.0, event.1])?;
+        self.event_answer()
+    }
+
+    fn run(&mut self, length: usize, script: &[u8], room: usize) -> Result<Answer, String> {
+        self.part(SCRIPT, script.len()).copy_from_slice(script);
+        self.call(b'r', [length as u64, script.len() as u64, room as u64])?;
+        if *self.part(SCRIPT, script.len()) != *script {
+            return Err("the script was written to".to_string());
+        }
+        Ok(Answer {
+            refusal: self.number(0) as u8,
+            record: Record::None,
+            offset: self.number(1),
+            written: self.number(2),
+            ticks: self.number(3),
+        })
+    }
+
+    fn memory(&mut self) -> &mut [u8] {
+        self.part(0, MEMORY_AREA)
+    }
+
+    fn output(&mut self) -> &mut [u8] {
+        self.part(OUTPUT, OUTPUT_AREA)
+    }
+
+    fn has_lent(&self) -> bool {
+        self.lent
+    }
+}

@@ -1,0 +1,109 @@
+// The library process: one chip of the library, served over two pipes and one shared file.
+// A request is one byte on standard input, its answer the same byte on standard output; all that
+// goes with them stands in the shared file. There are no C headers, so all is declared here.
+
+typedef unsigned char u8;
+typedef unsigned int u32;
+typedef unsigned long u64;
+
+int open(const char *path, int flags, ...);
+void *mmap(void *at, u64 length, int protection, int flags, int file, long offset);
+long read(int file, void *to, u64 length);
+long write(int file, const void *from, u64 length);
+
+// The chip as the library exports it.
+struct chip {
+    _Bool tb, srwp, wen, suspended, wp, deep, armed, selected;
+    u8 level, job_kind, job_value;
+    u8 opcode, offset, count, judgement;
+    u32 job_place, job_done, address;
+    u64 place;
+    u8 load[256];
+    u8 page[256];
+};
+struct event_answer { struct chip chip; u8 refusal, tag, value; u32 ticks; };
+struct run_answer { struct chip chip; u8 refusal; u64 offset, written, ticks; };
+
+struct chip chip_fresh(u8 status);
+_Bool chip_legal(struct chip c, u64 memory_length);
+struct event_answer chip_event(struct chip c, u8 *mem, u64 mem_len, u64 kind, u64 body);
+struct run_answer chip_run(struct chip c, u8 *mem, u64 mem_len, const u8 *script, u64 script_len,
+                           u8 *out, u64 out_len);
+#ifdef LENT
+struct event_answer chip_event_lent(struct chip c, u8 *mem, u64 mem_len, u64 kind, u64 body);
+#endif
+
+// The areas of the shared file; the harness has the same numbers.
+enum { SECTOR = 65536, MEMORY = 0, SCRIPT = 65 * SECTOR, OUTPUT = 68 * SECTOR, DESK = 73 * SECTOR };
+enum { FILE_LENGTH = 74 * SECTOR, IMAGE = 128 };
+
+static u8 *shared;
+static struct chip chip;
+
+// Copies bytes from one place to another and gives the place after the last one written or read.
+static u8 *copy(u8 *to, const u8 *from, u64 length, u8 *next) {
+    for (u64 i = 0; i < length; i++) to[i] = from[i];
+    return next + length;
+}
+
+// Moves one field between the chip and its image.
+#define FIELD(f) at = out ? copy(at, (u8 *)&chip.f, sizeof chip.f, at) : copy((u8 *)&chip.f, at, sizeof chip.f, at)
+
+// Writes the chip to the desk as a list of fields, or takes it from there.
+static void cross(int out) {
+    u8 *at = shared + DESK + IMAGE;
+    FIELD(tb); FIELD(srwp); FIELD(wen); FIELD(suspended);
+    FIELD(wp); FIELD(deep); FIELD(armed); FIELD(selected);
+    FIELD(level); FIELD(job_kind); FIELD(job_value);
+    FIELD(opcode); FIELD(offset); FIELD(count); FIELD(judgement);
+    FIELD(job_place); FIELD(job_done); FIELD(address); FIELD(place);
+    FIELD(load); FIELD(page);
+}
+
+// Keeps the chip of an event's answer and puts the rest of it on the desk.
+static void event_done(struct event_answer a, u64 *desk) {
+    chip = a.chip;
+    desk[0] = a.refusal; desk[1] = a.tag; desk[2] = a.value; desk[3] = a.ticks;
+}
+
+// Keeps the chip of a run's answer and puts the rest of it on the desk.
+static void run_done(struct run_answer a, u64 *desk) {
+    chip = a.chip;
+    desk[0] = a.refusal; desk[1] = a.offset; desk[2] = a.written; desk[3] = a.ticks;
+}
+
+// Serves one request, whose numbers stand on the desk.
+static void serve(u8 request) {
+    u64 *desk = (u64 *)(shared + DESK);
+    u8 *mem = shared + MEMORY;
+    switch (request) {
+    case 'f': chip = chip_fresh((u8)desk[0]); break;
+    case 'p': cross(0); break;
+    case 'l': desk[0] = chip_legal(chip, desk[0]); break;
+    case 'e': event_done(chip_event(chip, mem, desk[0], desk[1], desk[2]), desk); break;
+    case 'r':
+        run_done(chip_run(chip, mem, desk[0], shared + SCRIPT, desk[1], shared + OUTPUT, desk[2]), desk);
+        break;
+#ifdef LENT
+    case 'b': event_done(chip_event_lent(chip, mem, desk[0], desk[1], desk[2]), desk); break;
+    case 'h': desk[0] = 1; break;
+#else
+    case 'h': desk[0] = 0; break;
+#endif
+    }
+    cross(1);
+}
+
+// Maps the shared file and serves requests until there are no more.
+int main(int count, char **words) {
+    u8 request;
+    int file = count == 2 ? open(words[1], 2) : -1;
+    if (file < 0) return 2;
+    shared = mmap(0, FILE_LENGTH, 3, 1, file, 0);
+    if (shared == (u8 *)-1) return 2;
+    while (read(0, &request, 1) == 1) {
+        serve(request);
+        if (write(1, &request, 1) != 1) return 2;
+    }
+    return 0;
+}

@@ -1,0 +1,231 @@
+// Makes a failing case smaller while it still fails.
+
+use crate::case::{events_of, script_of, Bench, Case, Content, Event, Start, Step, LENGTHS};
+use crate::model::Chip;
+use crate::side::Edit;
+
+/// The most replays that one case is given.
+const REPLAYS: u32 = 4_000;
+
+/// A failing case on its way to a smaller one.
+struct Shrinker<'a, 'b> {
+    bench: &'a mut Bench<'b>,
+    case: Case,
+    replays: u32,
+}
+
+/// The smallest case found that fails as the given one does, and its difference.
+pub fn shrink(bench: &mut Bench, case: Case) -> (Case, Option<String>) {
+    let Some((steps, _)) = bench.replay(&case) else { return (case, None) };
+    let mut shrinker = Shrinker { bench, case, replays: 0 };
+    shrinker.case.steps.truncate(steps);
+    while shrinker.replays < REPLAYS && shrinker.round() {}
+    let Shrinker { bench, case, .. } = shrinker;
+    let difference = bench.replay(&case).map(|(_, difference)| difference);
+    (case, difference)
+}
+
+impl Shrinker<'_, '_> {
+    /// Takes a changed case if it still fails, without the steps after its difference.
+    fn keep(&mut self, changed: Case) -> bool {
+        if self.replays >= REPLAYS {
+            return false;
+        }
+        self.replays += 1;
+        let failed = self.bench.replay(&changed);
+        if let Some((steps, _)) = &failed {
+            self.case = changed;
+            self.case.steps.truncate(*steps);
+        }
+        failed.is_some()
+    }
+
+    /// One round of every way to make the case smaller; says whether any did.
+    fn round(&mut self) -> bool {
+        let mut smaller = self.delete_steps();
+        for number in (0..self.case.steps.len()).rev() {
+            smaller |= self.shrink_step(number);
+        }
+        smaller | self.simplify_start()
+    }
+
+    /// Deletes rows of steps, long rows first.
+    fn delete_steps(&mut self) -> bool {
+        let mut smaller = false;
+        let mut row = self.case.steps.len();
+        while row > 0 {
+            let mut at = self.case.steps.len().saturating_sub(row);
+            loop {
+                let mut changed = self.case.clone();
+                let end = (at + row).min(changed.steps.len());
+                changed.steps.drain(at.min(end)..end);
+                smaller |= at < end && self.keep(changed);
+                if at == 0 {
+                    break;
+                }
+                at = at.saturating_sub(row);
+            }
+            row /= 2;
+        }
+        smaller
+    }
+
+    /// Tries the case with another step in one place.
+    fn try_step(&mut self, number: usize, step: Step) -> bool {
+        if number >= self.case.steps.len() || self.case.steps[number] == step {
+            return false;
+        }
+        let mut changed = self.case.clone();
+        changed.steps[number] = step;
+        self.keep(changed)
+    }
+
+    /// Makes one step smaller.
+    fn shrink_step(&mut self, number: usize) -> bool {
+        match self.case.steps.get(number).cloned() {
+            Some(Step::Event { event, lent, length }) => {
+                let plain = Step::Event { event, lent: false, length };
+                let mut smaller = lent && self.try_step(number, plain);
+                for event in smaller_events(event) {
+                    smaller |= self.try_step(number, Step::Event { event, lent, length });
+                }
+                smaller
+            }
+            Some(Step::Run { .. }) => {
+                self.run_to_events(number) || self.delete_from_run(number) | self.shrink_run(number)
+            }
+            _ => false,
+        }
+    }
+
+    /// Puts single events in the place of a run.
+    fn run_to_events(&mut self, number: usize) -> bool {
+        let Step::Run { script, length, .. } = &self.case.steps[number] else { return false };
+        let single = |(_, event)| Step::Event { event, lent: false, length: *length };
+        let events: Vec<Step> = events_of(script).0.into_iter().map(single).collect();
+        if events.len() > 2_000 {
+            return false;
+        }
+        let mut changed = self.case.clone();
+        changed.steps.splice(number..=number, events);
+        self.keep(changed)
+    }
+
+    /// Deletes rows of events from a run's script, long rows first.
+    fn delete_from_run(&mut self, number: usize) -> bool {
+        let mut smaller = false;
+        let Some(mut row) = self.script_pieces(number).map(|pieces| pieces.len()) else {
+            return false;
+        };
+        while row > 0 {
+            let mut at = 0;
+            while let Some(pieces) = self.script_pieces(number).filter(|pieces| at < pieces.len()) {
+                let end = (at + row).min(pieces.len());
+                let kept = [&pieces[..at], &pieces[end..]].concat().concat();
+                if self.try_script(number, kept) {
+                    smaller = true;
+                } else {
+                    at += row;
+                }
+            }
+            row /= 2;
+        }
+        smaller
+    }
+
+    /// The script of a run in pieces: its events, and each byte from its first bad event on.
+    fn script_pieces(&self, number: usize) -> Option<Vec<Vec<u8>>> {
+        let Step::Run { script, .. } = self.case.steps.get(number)? else { return None };
+        let (events, end) = events_of(script);
+        let mut pieces: Vec<_> = events.iter().map(|(_, event)| script_of(&[*event])).collect();
+        pieces.extend(script[end..].iter().map(|byte| vec![*byte]));
+        Some(pieces)
+    }
+
+    /// Tries a run with another script.
+    fn try_script(&mut self, number: usize, script: Vec<u8>) -> bool {
+        let Some(Step::Run { spare, length, .. }) = self.case.steps.get(number) else {
+            return false;
+        };
+        let step = Step::Run { script, spare: *spare, length: *length };
+        self.try_step(number, step)
+    }
+
+    /// Makes the numbers in a run's script, and its spare room, smaller.
+    fn shrink_run(&mut self, number: usize) -> bool {
+        let Some(Step::Run { script, length, .. }) = self.case.steps.get(number).cloned() else {
+            return false;
+        };
+        let mut smaller = self.try_step(number, Step::Run { script, spare: 0, length });
+        let mut at = 0;
+        while let Some(pieces) = self.script_pieces(number).filter(|pieces| at < pieces.len()) {
+            for event in events_of(&pieces[at]).0.first().map_or(Vec::new(), |e| smaller_events(e.1)) {
+                let script = [pieces[..at].concat(), script_of(&[event]), pieces[at + 1..].concat()];
+                smaller |= self.try_script(number, script.concat());
+            }
+            at += 1;
+        }
+        smaller
+    }
+
+    /// Makes the start plainer: a blank and short memory, a fresh state.
+    fn simplify_start(&mut self) -> bool {
+        let mut changes = vec![self.case.clone(), self.case.clone()];
+        changes[0].content = Content::Blank;
+        changes[1].start = Start::Fresh(0);
+        if let Start::Fresh(status) = self.case.start {
+            for bit in [0x80, 0x20, 0x10, 0x08, 0x04] {
+                let start = Start::Fresh(status & !bit);
+                changes.push(Case { start, ..self.case.clone() });
+            }
+        }
+        if let Start::Lent(chip, edit) = &self.case.start {
+            for chip in plainer_chips(chip) {
+                let start = Start::Lent(Box::new(chip), edit.clone());
+                changes.push(Case { start, ..self.case.clone() });
+            }
+            let start = Start::Lent(chip.clone(), Edit::None);
+            changes.push(Case { start, ..self.case.clone() });
+        }
+        for length in LENGTHS {
+            changes.push(Case { length, ..self.case.clone() });
+        }
+        let new = |case: &Case, old: &Case| {
+            (case.content, &case.start) != (old.content, &old.start) || case.length < old.length
+        };
+        changes.into_iter().any(|changed| new(&changed, &self.case) && self.keep(changed))
+    }
+}
+
+/// Events with the same kind and a smaller body, the smallest first.
+fn smaller_events((kind, body): Event) -> Vec<Event> {
+    let mut bodies = vec![0, 1, body / 2, body.saturating_sub(1)];
+    bodies.retain(|smaller| *smaller < body);
+    bodies.dedup();
+    bodies.into_iter().map(|body| (kind, body)).collect()
+}
+
+/// Chips with one part of a lent chip made as in a fresh state.
+fn plainer_chips(chip: &Chip) -> Vec<Chip> {
+    let fresh = Chip::fresh(0);
+    let changes: [fn(&mut Chip, &Chip); 9] = [
+        |chip, fresh| chip.frame = fresh.frame.clone(),
+        |chip, fresh| chip.frame.load = fresh.frame.load,
+        |chip, _| chip.frame.address = 0,
+        |chip, _| chip.level = 0,
+        |chip, _| chip.tb = false,
+        |chip, _| chip.srwp = false,
+        |chip, _| chip.wp_high = true,
+        |chip, _| chip.armed = false,
+        |chip, _| chip.job = None,
+    ];
+    let mut plainer = Vec::new();
+    for change in changes {
+        let mut changed = chip.clone();
+        change(&mut changed, &fresh);
+        if changed != *chip {
+            plainer.push(changed);
+        }
+    }
+    plainer
+}
