@@ -8,7 +8,14 @@ use crate::side::{self, Answer, Edit, Side, GUARD, MEMORY_AREA, OUTPUT_AREA};
 pub type Event = (u64, u64);
 
 /// The six memory lengths.
-pub const LENGTHS: [usize; 6] = [1, 2, 4, 8, 16, 32].map(|sectors| sectors * Chip::SECTOR);
+pub const LENGTHS: [usize; 6] = [
+    Chip::SECTOR,
+    2 * Chip::SECTOR,
+    4 * Chip::SECTOR,
+    8 * Chip::SECTOR,
+    16 * Chip::SECTOR,
+    32 * Chip::SECTOR,
+];
 
 /// The state that a case starts from.
 #[derive(Clone, Debug, PartialEq)]

@@ -179,13 +179,12 @@ impl Shrinker<'_, '_> {
                 changes.push(Case { start, ..self.case.clone() });
             }
         }
-        if let Start::Lent(chip, edit) = &self.case.start {
-            for chip in plainer_chips(chip) {
-                let start = Start::Lent(Box::new(chip), edit.clone());
+        // The edits that are not legal go with a model's chip that is not, so they are left alone.
+        if let Start::Lent(chip, Edit::None | Edit::Free(_)) = &self.case.start {
+            for chip in [vec![(**chip).clone()], plainer_chips(chip)].concat() {
+                let start = Start::Lent(Box::new(chip), Edit::None);
                 changes.push(Case { start, ..self.case.clone() });
             }
-            let start = Start::Lent(chip.clone(), Edit::None);
-            changes.push(Case { start, ..self.case.clone() });
         }
         for length in LENGTHS {
             changes.push(Case { length, ..self.case.clone() });

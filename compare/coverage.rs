@@ -1,0 +1,430 @@
+// What has occurred: opcodes by verdicts, refusals by entry points, jobs by fates, and situations.
+
+use crate::case::{events_of, Event, Start, Step, LENGTHS};
+use crate::generate::Class;
+use crate::model::{self, Chip, Record};
+use crate::side::Answer;
+use std::collections::BTreeSet;
+
+/// A row of the table of verdicts: an opcode, or none for the rows after the opcodes.
+pub struct Command {
+    pub opcode: Option<u8>,
+    pub name: &'static str,
+    /// The verdicts that can occur.
+    pub verdicts: &'static [u8],
+}
+
+/// A row of an opcode.
+const fn command(opcode: u8, name: &'static str, verdicts: &'static [u8]) -> Command {
+    Command { opcode: Some(opcode), name, verdicts }
+}
+
+/// A row without an opcode.
+const fn other(name: &'static str, verdicts: &'static [u8]) -> Command {
+    Command { opcode: None, name, verdicts }
+}
+
+/// The opcodes, the bytes that are none, and the deselects without an opcode, each with the
+/// verdicts that can occur on a legal state after a frame that was sent byte by byte. (A frame that
+/// came with a lent state may carry any judgement and is not counted here.)
+pub const COMMANDS: [Command; 23] = [
+    command(0x06, "write enable", &[1, 4, 5, 6, 7]),
+    command(0x04, "write disable", &[1, 4, 5, 6, 7]),
+    command(0x05, "read status", &[0, 5]),
+    command(0x01, "write status", &[2, 4, 5, 6, 7, 8, 10]),
+    command(0x03, "low-power read", &[0, 5, 6]),
+    command(0x0B, "high-speed read", &[0, 5, 6]),
+    command(0x20, "small sector erase", &[2, 4, 5, 6, 8, 9]),
+    command(0xD7, "small sector erase", &[2, 4, 5, 6, 8, 9]),
+    command(0xD8, "sector erase", &[2, 4, 5, 6, 8, 9]),
+    command(0x60, "chip erase", &[2, 4, 5, 6, 8, 9]),
+    command(0xC7, "chip erase", &[2, 4, 5, 6, 8, 9]),
+    command(0x02, "page program", &[2, 4, 5, 6, 8, 9]),
+    command(0x0A, "page program", &[2, 4, 5, 6, 8, 9]),
+    command(0xB0, "suspend", &[1, 4, 5, 7, 11]),
+    command(0x30, "resume", &[1, 4, 5, 6, 11]),
+    command(0x9F, "JEDEC ID", &[0, 5, 6, 7]),
+    command(0xAB, "device ID, wake", &[1, 4, 6, 7]),
+    command(0xB9, "deep power-down", &[1, 4, 5, 6, 7]),
+    command(0x66, "reset enable", &[1, 4, 5]),
+    command(0x99, "reset", &[1, 4, 5, 11]),
+    other("unknown", &[3]),
+    other("empty frame", &[0]),
+    other("unselected", &[0]),
+];
+
+/// The rows after the opcodes.
+const UNKNOWN: usize = 20;
+const EMPTY: usize = 21;
+const UNSELECTED: usize = 22;
+
+/// Why a verdict cannot occur in the rows that do not list it.
+const REASONS: [&str; 13] = [
+    "of the opcodes only the four reads end so; ABh is none of them",
+    "a read is 0 before, and what begins a job is 2",
+    "only programs, erases and write status begin a job",
+    "only a byte without a row of the table",
+    "a read is 0 before, an unknown opcode 3 before, and an empty frame has no length",
+    "ABh is taken asleep; an unknown opcode is 3 before",
+    "05h, B0h, 66h and 99h are taken while a job runs; an unknown opcode is 3 before",
+    "05h, 03h, 0Bh, programs, erases, 30h, 66h and 99h are taken while suspended",
+    "only programs, erases and write status need WEN",
+    "only programs and erases have a target",
+    "only write status looks at SRWP and WP",
+    "only suspend, resume and reset can be without a point",
+    "a suspended job means WEN 1 in every legal state",
+];
+
+/// The entry points, rows of the table of refusals, each with the numbers that can occur.
+/// A single event has no script, so that 3, 4 and 7 cannot: its kind and body are two numbers.
+const ENTRIES: [(&str, &[u8]); 3] = [
+    ("event", &[0, 1, 2, 5, 6]),
+    ("event, lent", &[0, 1, 2, 5, 6]),
+    ("run", &[0, 1, 2, 3, 4, 5, 6, 7]),
+];
+
+/// The kinds of job that the table of fates has as rows.
+const JOBS: [&str; 6] = [
+    "write status",
+    "program",
+    "small sector erase",
+    "sector erase",
+    "chip erase, 1 sector",
+    "chip erase, more",
+];
+
+/// What can become of a job after its k steps.
+const FATES: [&str; 8] =
+    ["ended", "suspended", "resumed", "dropped", "reset", "reset sus", "cut", "cut sus"];
+
+/// How many different k a fate has to be seen at for a job.
+fn wanted(job: usize, fate: usize) -> usize {
+    match job {
+        // A write status cannot be suspended: B0h is verdict 11 while it runs.
+        0 => usize::from(matches!(fate, 0 | 4 | 6)),
+        1 | 2 => 16,
+        3 | 4 => 256,
+        // Of the 512 to 8,192 k of the larger parts, all are suspended and resumed; the others some.
+        _ => 1,
+    }
+}
+
+/// Situations that have to occur, beside the cells of the tables.
+const SITUATIONS: [&str; 21] = [
+    "working tick inside a frame",
+    "last step inside a frame",
+    "frame judged 6, ended without a job",
+    "load that wraps",
+    "load of more than 256 bytes",
+    "address beyond the memory length",
+    "status read while running",
+    "status read while suspended",
+    "status read, changed by ticks between two bytes",
+    "select while selected",
+    "exchange unselected",
+    "device ID driven asleep",
+    "JEDEC cycle come round",
+    "arming kept over an empty frame",
+    "arming lost by another frame",
+    "job begun while suspended after ticks",
+    "run that begins inside a frame",
+    "run that ends inside a frame",
+    "run with the exact room",
+    "script of 65,536 bytes done",
+    "empty script done",
+];
+
+/// All that has occurred.
+pub struct Coverage {
+    verdicts: [[u64; 13]; 23],
+    refusals: [[u64; 8]; 3],
+    fates: Vec<Vec<BTreeSet<u32>>>,
+    situations: [u64; 21],
+    over_top: [[u64; 2]; 6],
+    rules: [u64; 14],
+    has_lent: bool,
+    frame_lent: bool,
+    frame_bytes: usize,
+    last_status: Option<u8>,
+    memory: Vec<u8>,
+}
+
+impl Coverage {
+    /// Nothing yet.
+    pub fn new(has_lent: bool) -> Coverage {
+        Coverage {
+            verdicts: [[0; 13]; 23],
+            refusals: [[0; 8]; 3],
+            fates: vec![vec![BTreeSet::new(); FATES.len()]; JOBS.len()],
+            situations: [0; 21],
+            over_top: [[0; 2]; 6],
+            rules: [0; 14],
+            has_lent,
+            frame_lent: false,
+            frame_bytes: 0,
+            last_status: None,
+            memory: vec![0; LENGTHS[5]],
+        }
+    }
+
+    /// Takes note of the start of a case.
+    pub fn note_start(&mut self, start: &Start) {
+        self.frame_lent = matches!(start, Start::Lent(chip, _) if chip.frame.byte_count > 0);
+        self.frame_bytes = 0;
+        self.last_status = None;
+    }
+
+    /// Takes note of a rule of legality that was broken alone and refused.
+    pub fn note_rule(&mut self, rule: usize) {
+        self.rules[rule] += 1;
+    }
+
+    /// Takes note of a step that was answered, from the model's chip before it.
+    pub fn note_step(&mut self, before: &Chip, step: &Step, answer: &Answer, length: usize) {
+        match step {
+            Step::HandOver => {}
+            Step::Event { event, lent, .. } => {
+                self.refusals[usize::from(*lent)][usize::from(answer.refusal)] += 1;
+                if answer.refusal == 0 {
+                    self.replay(before.clone(), &[*event], length);
+                }
+            }
+            Step::Run { script, spare, .. } => {
+                self.refusals[2][usize::from(answer.refusal)] += 1;
+                if answer.refusal == 0 {
+                    let events: Vec<_> = events_of(script).0.into_iter().map(|e| e.1).collect();
+                    let after = self.replay(before.clone(), &events, length);
+                    self.note_run(before, script, *spare, &after);
+                }
+            }
+        }
+    }
+
+    /// Takes note of a run as a whole.
+    fn note_run(&mut self, before: &Chip, script: &[u8], spare: i64, after: &Chip) {
+        self.situations[16] += u64::from(before.frame.byte_count > 0 && !script.is_empty());
+        self.situations[17] += u64::from(after.frame.byte_count > 0 && !script.is_empty());
+        self.situations[18] += u64::from(spare == 0 && !script.is_empty());
+        self.situations[19] += u64::from(script.len() == 65_536);
+        self.situations[20] += u64::from(script.is_empty());
+    }
+
+    /// Applies events to the model's chip once more, over a memory whose content does not matter.
+    fn replay(&mut self, mut chip: Chip, events: &[Event], length: usize) -> Chip {
+        for event in events {
+            let before = chip.clone();
+            let memory = &mut self.memory[..length];
+            let answer = model::event(&mut chip, memory, event.0, event.1);
+            self.note_job(&before, *event, answer.record, &chip, length);
+            match event.0 {
+                1 => self.situations[9] += u64::from(before.selected),
+                2 => self.note_exchange(&before, answer.record, length),
+                3 | 8 => self.note_deselect(&before, answer.record, length),
+                4 | 5 => self.note_ticks(&before, &chip, answer.ticks),
+                7 => self.close_frame(),
+                _ => {}
+            }
+        }
+        chip
+    }
+
+    /// Forgets the frame that has ended.
+    fn close_frame(&mut self) {
+        self.frame_lent = false;
+        self.frame_bytes = 0;
+        self.last_status = None;
+    }
+
+    /// Takes note of an exchange.
+    fn note_exchange(&mut self, before: &Chip, record: Record, length: usize) {
+        self.situations[10] += u64::from(!before.selected);
+        self.frame_bytes += usize::from(before.selected);
+        let Record::Driven(byte) = record else { return };
+        let frame = &before.frame;
+        match frame.opcode {
+            0x05 => {
+                self.situations[6] += u64::from(byte & 1 == 1);
+                self.situations[7] += u64::from(byte & 0x40 != 0);
+                self.situations[8] += u64::from(self.last_status.is_some_and(|last| last != byte));
+                self.last_status = Some(byte);
+            }
+            0xAB => self.situations[11] += u64::from(before.deep),
+            0x9F => self.situations[12] += u64::from(frame.read_place == 0 && self.frame_bytes > 2),
+            0x03 | 0x0B => {
+                let fast = usize::from(frame.opcode == 0x0B);
+                let crossed = frame.read_place == 0 && self.frame_bytes > 5 + fast;
+                if let Some(number) = LENGTHS.iter().position(|known| *known == length) {
+                    self.over_top[number][fast] += u64::from(crossed);
+                }
+            }
+            _ => {}
+        }
+    }
+
+    /// Takes note of ticks.
+    fn note_ticks(&mut self, before: &Chip, after: &Chip, ticks: u64) {
+        let inside = before.frame.byte_count > 0;
+        self.situations[0] += u64::from(inside && ticks > 0);
+        self.situations[1] += u64::from(inside && ticks > 0 && after.job.is_none());
+    }
+
+    /// Takes note of a deselect and its verdict.
+    fn note_deselect(&mut self, before: &Chip, record: Record, length: usize) {
+        let Record::Verdict(verdict) = record else { return };
+        let frame = &before.frame;
+        let row = if !before.selected {
+            UNSELECTED
+        } else if frame.byte_count == 0 {
+            EMPTY
+        } else {
+            let opcode = Some(frame.opcode);
+            COMMANDS.iter().position(|command| command.opcode == opcode).unwrap_or(UNKNOWN)
+        };
+        if !self.frame_lent {
+            self.verdicts[row][usize::from(verdict)] += 1;
+            self.note_load(before, verdict, length);
+        }
+        self.situations[2] += u64::from(frame.judgement == Some(6) && before.job.is_none());
+        self.situations[13] += u64::from(row == EMPTY && before.armed);
+        self.situations[14] += u64::from(row < EMPTY && before.armed && frame.opcode != 0x99);
+        self.close_frame();
+    }
+
+    /// Takes note of the address and the load of a job that begins.
+    fn note_load(&mut self, before: &Chip, verdict: u8, length: usize) {
+        if verdict != 2 {
+            return;
+        }
+        let address = before.frame.address as usize;
+        self.situations[5] += u64::from(address >= length);
+        if matches!(before.frame.opcode, 0x02 | 0x0A) {
+            let data = self.frame_bytes.saturating_sub(4);
+            self.situations[3] += u64::from(address % 256 + data > 256);
+            self.situations[4] += u64::from(data > 256);
+        }
+    }
+
+    /// Takes note of what an event does to a job after its k steps.
+    fn note_job(&mut self, before: &Chip, event: Event, record: Record, after: &Chip, length: usize) {
+        let Some(job) = &before.job else { return };
+        let row = match Class::of(job) {
+            Class::Chip if length > Chip::SECTOR => 5,
+            class => class as usize - 1,
+        };
+        let suspended = usize::from(before.suspended);
+        let fate = match (event.0, record, before.frame.opcode) {
+            (4 | 5, _, _) if after.job.is_none() => 0,
+            (3, Record::Verdict(1), 0xB0) => 1,
+            (3, Record::Verdict(1), 0x30) => 2,
+            (3, Record::Verdict(2), _) => 3,
+            (3, Record::Verdict(1), 0x99) => 4 + suspended,
+            (7, _, _) => 6 + suspended,
+            _ => return,
+        };
+        self.situations[15] += u64::from(fate == 3 && job.steps_done > 0);
+        self.fates[row][fate].insert(job.steps_done);
+    }
+
+    /// Prints the tables and gives the number of cells that are empty, or filled and should not be.
+    pub fn report(&self) -> usize {
+        let mut faults = self.report_verdicts();
+        faults += self.report_refusals();
+        faults += self.report_fates();
+        faults + self.report_situations()
+    }
+
+    /// Prints opcodes by verdicts.
+    fn report_verdicts(&self) -> usize {
+        println!("frames by verdict (- cannot occur)");
+        let head: String = (0..13).map(|verdict| format!("{verdict:>8}")).collect();
+        println!("{:24}{head}", "");
+        let mut faults = 0;
+        for (command, counts) in COMMANDS.iter().zip(&self.verdicts) {
+            let opcode = command.opcode.map_or("  ".to_string(), |opcode| format!("{opcode:02X}"));
+            let can = |verdict: usize| command.verdicts.contains(&(verdict as u8));
+            print!("{opcode}h {:20}", command.name);
+            faults += print_cells(counts, can);
+        }
+        for (verdict, reason) in REASONS.iter().enumerate() {
+            println!("  - under {verdict}: {reason}");
+        }
+        faults
+    }
+
+    /// Prints refusals by entry points.
+    fn report_refusals(&self) -> usize {
+        println!("\nrefusals by entry point (- cannot occur: a single event has no script and no output)");
+        let head: String = (0..8).map(|number| format!("{number:>8}")).collect();
+        println!("{:24}{head}", "");
+        let mut faults = 0;
+        for ((name, numbers), counts) in ENTRIES.iter().zip(&self.refusals) {
+            if *name == "event, lent" && !self.has_lent {
+                println!("{name:24} not in the library");
+                continue;
+            }
+            print!("{name:24}");
+            faults += print_cells(counts, |number| numbers.contains(&(number as u8)));
+        }
+        println!("\nstates that break one rule of legality alone, refused by 2");
+        for ((name, _), count) in crate::states::RULES.iter().zip(&self.rules) {
+            println!("  {name:48}{count:>8}{}", mark(*count == 0));
+            faults += usize::from(*count == 0);
+        }
+        faults
+    }
+
+    /// Prints jobs by fates.
+    fn report_fates(&self) -> usize {
+        println!("\njobs by fate: at how many k, of how many (- cannot occur: B0h then is 11)");
+        let head: String = FATES.iter().map(|fate| format!("{fate:>10}")).collect();
+        println!("{:24}{head}", "");
+        let mut faults = 0;
+        for (job, name) in JOBS.iter().enumerate() {
+            print!("{name:24}");
+            for fate in 0..FATES.len() {
+                let (seen, wanted) = (self.fates[job][fate].len(), wanted(job, fate));
+                let bad = seen < wanted || (wanted == 0 && seen > 0);
+                let cell = if wanted == 0 { "-".to_string() } else { format!("{seen}/{wanted}") };
+                print!("{:>10}", cell + mark(bad));
+                faults += usize::from(bad);
+            }
+            println!();
+        }
+        faults
+    }
+
+    /// Prints the situations.
+    fn report_situations(&self) -> usize {
+        println!("\nsituations");
+        let mut lines: Vec<(String, u64)> =
+            SITUATIONS.iter().map(|name| name.to_string()).zip(self.situations).collect();
+        for (length, counts) in LENGTHS.iter().zip(self.over_top) {
+            lines.push((format!("03h over the top of {length}"), counts[0]));
+            lines.push((format!("0Bh over the top of {length}"), counts[1]));
+        }
+        let mut faults = 0;
+        for (name, count) in lines {
+            println!("  {name:48}{count:>8}{}", mark(count == 0));
+            faults += usize::from(count == 0);
+        }
+        faults
+    }
+}
+
+/// The mark of a cell that is not as it should be.
+fn mark(bad: bool) -> &'static str {
+    if bad { "!" } else { "" }
+}
+
+/// Prints a row of counts and gives the number of those that are not as they should be.
+fn print_cells(counts: &[u64], can: impl Fn(usize) -> bool) -> usize {
+    let mut faults = 0;
+    for (column, count) in counts.iter().enumerate() {
+        let bad = can(column) != (*count > 0);
+        let cell = if can(column) || bad { count.to_string() } else { "-".to_string() };
+        print!("{:>8}", cell + mark(bad));
+        faults += usize::from(bad);
+    }
+    println!();
+    faults
+}

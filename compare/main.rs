@@ -1,0 +1,96 @@
+// Random scripts: the library held to the second model after each event and each run.
+
+#[path = "../second/model.rs"]
+mod model;
+
+mod case;
+mod coverage;
+mod faults;
+mod generate;
+mod library;
+mod plan;
+mod shrink;
+mod side;
+mod states;
+
+use case::{case_words, Bench};
+use plan::Session;
+use side::Side;
+use std::process::ExitCode;
+
+/// Random events of the quick run, after those that are planned.
+const QUICK: u64 = 150_000;
+/// Random events that a planted fault is given to show itself.
+const SELF_TEST: u64 = 200_000;
+
+/// Runs the plan and a number of random events; prints the tables, or the difference made small.
+fn compare(other: &mut dyn Side, seed: u64, events: u64, quiet: bool) -> bool {
+    let mut session = Session::new(Bench::new(other), seed);
+    let failed = session.planned().and_then(|()| session.random(events)).err();
+    let Some(failure) = failed else {
+        println!("seed {seed}: {} cases, {} events, no difference", session.cases, session.events);
+        let faults = if quiet { 0 } else { session.coverage.report() };
+        if faults > 0 {
+            println!("\n{faults} cells marked ! are empty, or filled and listed as impossible");
+        }
+        return faults == 0;
+    };
+    let number = session.cases;
+    println!("seed {seed}: a difference in case {number}, after {} events", session.events);
+    println!("{}", failure.difference);
+    let (small, difference) = shrink::shrink(&mut session.bench, failure.case);
+    println!("made smaller:\n{}", case_words(&small));
+    println!("{}", difference.unwrap_or("it does not come again".to_string()));
+    false
+}
+
+/// Tests the harness: a true copy of the model must pass, each wrong copy must be found out.
+fn self_test(seed: u64) -> bool {
+    println!("a true copy");
+    let mut good = compare(&mut faults::WrongCopy::new(None), seed, SELF_TEST, false);
+    for (number, words) in faults::FAULTS.iter().enumerate() {
+        println!("\nfault {number}: {words}");
+        let mut copy = faults::WrongCopy::new(Some(number));
+        if compare(&mut copy, seed, SELF_TEST, true) {
+            println!("NOT FOUND");
+            good = false;
+        }
+    }
+    good
+}
+
+/// A number on the command line, or what stands for it.
+fn number(word: Option<&String>, otherwise: u64) -> Result<u64, String> {
+    word.map_or(Ok(otherwise), |word| word.parse().map_err(|_| format!("{word} is no number")))
+}
+
+/// Does what the command line asks for and says whether all is well.
+fn compare_as_asked(words: &[String]) -> Result<bool, String> {
+    let split = words.iter().position(|word| word == "--").unwrap_or(words.len());
+    let (asked, rest) = (&words[..split], words.get(split + 1..).unwrap_or(&[]));
+    let mode = asked.first().map_or("quick", String::as_str);
+    let (events, seed) = match mode {
+        "quick" => (QUICK, number(asked.get(1), 1)?),
+        "long" => (number(asked.get(1), 1)? * 1_000_000, number(asked.get(2), 1)?),
+        "self" => return Ok(self_test(number(asked.get(1), 1)?)),
+        _ => return Err(format!("{mode} is none of quick, long and self")),
+    };
+    let [shared, command @ ..] = rest else { return Err("no library process".to_string()) };
+    println!("seed {seed}");
+    let mut library = library::Library::new(shared, command)?;
+    Ok(compare(&mut library, seed, events, false))
+}
+
+/// The command line: quick [SEED], long MILLIONS [SEED] or self [SEED]; then, for the first two,
+/// `--`, the shared file, and the command that starts the library process over it.
+fn main() -> ExitCode {
+    let words: Vec<String> = std::env::args().skip(1).collect();
+    match compare_as_asked(&words) {
+        Ok(true) => ExitCode::SUCCESS,
+        Ok(false) => ExitCode::from(1),
+        Err(error) => {
+            eprintln!("compare: {error}");
+            ExitCode::from(2)
+        }
+    }
+}

@@ -1,0 +1,314 @@
+// States that are lent: legal ones of every sort, and those that break one rule of legality alone.
+
+use crate::coverage::COMMANDS;
+use crate::generate::{Class, Rng, LONG_JOBS};
+use crate::model::{Chip, Job, JobKind};
+use crate::side::Edit;
+
+/// A rule of legality: its words, and whether a chip over a memory length keeps it.
+pub type Rule = (&'static str, fn(&Chip, usize) -> bool);
+
+/// The place in a 9Fh frame's cycle is below this number.
+const CYCLE: u32 = 4;
+
+/// The rules of legality, one by one. That the load place is below 256 is none of them: the library
+/// has no room for another. That a job is one of the five is one: the model has no room for another.
+pub const RULES: [Rule; 14] = [
+    ("level at most 7", |chip, _| chip.level <= 7),
+    ("job inside memory", |chip, length| job(chip, |job| (job.place as usize) < length)),
+    ("job aligned to its size", |chip, _| job(chip, |job| job.place % size(job) == 0)),
+    ("fewer steps than the total", |chip, length| {
+        job(chip, |job| job.steps_done < Class::of(job).steps(length))
+    }),
+    ("a job means WEN 1", |chip, _| chip.job.is_none() || chip.wen),
+    ("suspended means a program or erase", |chip, _| {
+        let class = chip.job.as_ref().map(Class::of);
+        !chip.suspended || !matches!(class, None | Some(Class::WriteStatus))
+    }),
+    ("deep means no job", |chip, _| !chip.deep || chip.job.is_none()),
+    ("deep means not armed", |chip, _| !chip.deep || !chip.armed),
+    ("address below 2^24", |chip, _| chip.frame.address < 1 << 24),
+    ("read place inside", |chip, length| {
+        let end = if chip.frame.opcode == 0x9F { CYCLE } else { length as u32 };
+        chip.frame.read_place < end
+    }),
+    ("byte count at most 6", |chip, _| chip.frame.byte_count <= 6),
+    ("judgement none, 3, 5, 6 or 7", |chip, _| {
+        matches!(chip.frame.judgement, None | Some(3 | 5 | 6 | 7))
+    }),
+    ("unselected or no byte means an empty frame", |chip, _| {
+        (chip.selected && chip.frame.byte_count > 0) || chip.frame == Chip::fresh(0).frame
+    }),
+    ("a job that is one of the five", |_, _| true),
+];
+
+/// Whether a chip has no job, or one that keeps a rule.
+fn job(chip: &Chip, keeps: impl Fn(&Job) -> bool) -> bool {
+    chip.job.as_ref().map_or(true, keeps)
+}
+
+/// The bytes that a job's place is aligned to; a write status and a chip erase are at 0.
+fn size(job: &Job) -> u32 {
+    match Class::of(job) {
+        Class::Program => 256,
+        Class::SmallSector => 4_096,
+        Class::Sector => 65_536,
+        Class::WriteStatus | Class::Chip => u32::MAX,
+    }
+}
+
+/// A job of a class, legal over a memory length.
+fn legal_job(rng: &mut Rng, class: Class, length: usize) -> Job {
+    let mut load = [0xFF; 256];
+    let kind = match class {
+        Class::WriteStatus => JobKind::WriteStatus(rng.byte()),
+        Class::Program => {
+            rng.fill(&mut load);
+            JobKind::Program(load)
+        }
+        Class::SmallSector => JobKind::SmallSectorErase,
+        Class::Sector => JobKind::SectorErase,
+        Class::Chip => JobKind::ChipErase,
+    };
+    let total = class.steps(length) as usize;
+    let any = rng.below(total);
+    let steps_done = rng.pick(&[0, any, any, total - 1]) as u32;
+    let mut job = Job { kind, place: 0, steps_done };
+    if LONG_JOBS[..3].contains(&class) {
+        let places = length as u32 / size(&job);
+        let any = rng.below(places as usize) as u32;
+        job.place = rng.pick(&[0, any, any, places - 1]) * size(&job);
+    }
+    job
+}
+
+/// A chip without a frame, legal over a memory length, with a job of a class or none.
+fn legal_unselected(rng: &mut Rng, length: usize, class: Option<Class>) -> Chip {
+    let mut chip = Chip::fresh(rng.byte());
+    chip.wp_high = rng.once_in(2);
+    chip.armed = rng.once_in(3);
+    chip.wen = rng.once_in(2);
+    if let Some(class) = class {
+        chip.job = Some(legal_job(rng, class, length));
+        chip.wen = true;
+        chip.suspended = class != Class::WriteStatus && rng.once_in(2);
+    } else if rng.once_in(4) {
+        chip.deep = true;
+        chip.armed = false;
+    }
+    chip
+}
+
+/// Selects a chip and gives it a frame of an opcode, with bytes enough to be one, but otherwise
+/// any that is legal, also such as no bytes could have led to.
+fn open_frame(rng: &mut Rng, chip: &mut Chip, opcode: u8, length: usize) {
+    let address_end = 1 << 24;
+    let place_end = if opcode == 0x9F { CYCLE as usize } else { length };
+    let any = rng.below(address_end);
+    chip.selected = true;
+    let frame = &mut chip.frame;
+    frame.opcode = opcode;
+    frame.byte_count = 1 + rng.below(6) as u8;
+    frame.address = rng.pick(&[0, any, any, length - 1, length % address_end, address_end - 1]) as u32;
+    frame.read_place = rng.below(place_end) as u32;
+    if rng.once_in(3) {
+        frame.read_place = place_end as u32 - 1;
+    }
+    frame.load_place = rng.byte().into();
+    frame.judgement = rng.pick(&[None, None, None, Some(3), Some(5), Some(6), Some(7)]);
+    if rng.once_in(2) {
+        rng.fill(&mut frame.load);
+    }
+}
+
+/// Any opcode, or a byte that is none.
+fn any_opcode(rng: &mut Rng) -> u8 {
+    let number = rng.below(22);
+    COMMANDS.get(number).and_then(|command| command.opcode).unwrap_or(rng.byte())
+}
+
+/// A job's class or none.
+fn any_class(rng: &mut Rng) -> Option<Class> {
+    let [program, small, sector, whole] = LONG_JOBS.map(Some);
+    rng.pick(&[None, None, Some(Class::WriteStatus), program, small, sector, whole])
+}
+
+/// Any legal state, fresh ones aside.
+pub fn legal(rng: &mut Rng, length: usize) -> Chip {
+    let class = any_class(rng);
+    let mut chip = legal_unselected(rng, length, class);
+    chip.selected = rng.once_in(2);
+    if chip.selected && !rng.once_in(6) {
+        let opcode = any_opcode(rng);
+        open_frame(rng, &mut chip, opcode, length);
+    }
+    chip
+}
+
+/// A state with a job, legal but for what a change does to it.
+fn spoilt_job(
+    rng: &mut Rng,
+    length: usize,
+    class: Class,
+    change: impl Fn(&mut Chip, &mut Job),
+) -> Chip {
+    let mut chip = legal_unselected(rng, length, Some(class));
+    if let Some(mut job) = chip.job.take() {
+        change(&mut chip, &mut job);
+        chip.job = Some(job);
+    }
+    chip
+}
+
+/// A state with an open frame, legal but for what a change does to it.
+fn spoilt_frame(rng: &mut Rng, length: usize, opcode: u8, change: impl Fn(&mut Chip)) -> Chip {
+    let class = any_class(rng);
+    let mut chip = legal_unselected(rng, length, class);
+    open_frame(rng, &mut chip, opcode, length);
+    change(&mut chip);
+    chip
+}
+
+/// States that break one rule about the job alone.
+fn broken_jobs(rng: &mut Rng, length: usize) -> Vec<Chip> {
+    let mut states = Vec::new();
+    for class in [LONG_JOBS.as_slice(), &[Class::WriteStatus]].concat() {
+        let total = class.steps(length);
+        let off = match class {
+            Class::Program => [1, 255, 128],
+            Class::SmallSector => [1, 256, 4_095],
+            Class::Sector => [1, 256, 4_096],
+            Class::Chip | Class::WriteStatus => [1, 256, length as u32 - 256],
+        };
+        for off in off {
+            states.push(spoilt_job(rng, length, class, |_, job| job.place += off));
+        }
+        for done in [total, total + 1, u32::MAX] {
+            states.push(spoilt_job(rng, length, class, |_, job| job.steps_done = done));
+        }
+        states.push(spoilt_job(rng, length, class, |chip, _| chip.wen = false));
+        states.push(spoilt_job(rng, length, class, |chip, _| {
+            (chip.deep, chip.armed) = (true, false);
+        }));
+    }
+    for class in &LONG_JOBS[..3] {
+        for place in [length as u32, 2 * length as u32, 1 << 31] {
+            states.push(spoilt_job(rng, length, *class, |_, job| job.place = place));
+        }
+    }
+    states.push(spoilt_job(rng, length, Class::WriteStatus, |chip, _| chip.suspended = true));
+    states
+}
+
+/// States that break one rule alone, about neither job nor frame.
+fn broken_flags(rng: &mut Rng, length: usize) -> Vec<Chip> {
+    let mut states = Vec::new();
+    for level in [8, 9, 15, 128, 255] {
+        let class = any_class(rng);
+        let mut chip = legal_unselected(rng, length, class);
+        chip.level = level;
+        states.push(chip);
+    }
+    let mut chip = legal_unselected(rng, length, None);
+    chip.suspended = true;
+    states.push(chip);
+    let mut chip = legal_unselected(rng, length, None);
+    (chip.deep, chip.armed) = (true, true);
+    states.push(chip);
+    states
+}
+
+/// States that break one rule about an open frame alone.
+fn broken_frames(rng: &mut Rng, length: usize) -> Vec<Chip> {
+    let mut states = Vec::new();
+    let mut push = |rng: &mut Rng, change: &dyn Fn(&mut Chip)| {
+        let opcode = any_opcode(rng);
+        states.push(spoilt_frame(rng, length, opcode, change));
+    };
+    for address in [1 << 24, (1 << 24) + 1, u32::MAX] {
+        push(rng, &|chip| chip.frame.address = address);
+    }
+    for place in [length as u32, length as u32 + 1, u32::MAX] {
+        push(rng, &|chip| chip.frame.read_place = place);
+    }
+    for count in [7, 8, 255] {
+        push(rng, &|chip| chip.frame.byte_count = count);
+    }
+    for judgement in [1, 2, 4, 8, 9, 10, 11, 12, 13, 255] {
+        push(rng, &|chip| chip.frame.judgement = Some(judgement));
+    }
+    for place in [CYCLE, CYCLE + 1, length as u32 - 1] {
+        states.push(spoilt_frame(rng, length, 0x9F, |chip| chip.frame.read_place = place));
+    }
+    states
+}
+
+/// States whose frame is not empty though they are unselected or have no byte.
+fn broken_empty_frames(rng: &mut Rng, length: usize) -> Vec<Chip> {
+    let changes: [fn(&mut Chip); 9] = [
+        |chip| chip.frame.opcode = 0x05,
+        |chip| chip.frame.opcode = 0xFF,
+        |chip| chip.frame.address = 1,
+        |chip| chip.frame.read_place = 1,
+        |chip| chip.frame.load_place = 1,
+        |chip| chip.frame.judgement = Some(6),
+        |chip| chip.frame.load[0] = 0,
+        |chip| chip.frame.load[128] = 0x7F,
+        |chip| chip.frame.load[255] = 0xFE,
+    ];
+    let mut states = Vec::new();
+    for selected in [false, true] {
+        for change in changes {
+            let class = any_class(rng);
+            let mut chip = legal_unselected(rng, length, class);
+            chip.selected = selected;
+            change(&mut chip);
+            states.push(chip);
+        }
+    }
+    for count in 1..=6 {
+        let mut chip = legal_unselected(rng, length, None);
+        chip.frame.byte_count = count;
+        states.push(chip);
+    }
+    let opcode = any_opcode(rng);
+    states.push(spoilt_frame(rng, length, opcode, |chip| chip.selected = false));
+    states
+}
+
+/// States that are not legal and that the model has no room for; its chip is not legal in a near way.
+fn broken_images(rng: &mut Rng, length: usize) -> Vec<(Chip, Edit)> {
+    let mut states = Vec::new();
+    for number in [6, 7, 128, 255] {
+        let change = |chip: &mut Chip, job: &mut Job| {
+            chip.suspended = false;
+            job.place = u32::MAX;
+        };
+        states.push((spoilt_job(rng, length, Class::Program, change), Edit::JobKind(number)));
+    }
+    for place in [1 << 32, (1 << 32) + 2, 1 << 63, u64::MAX] {
+        let opcode = any_opcode(rng);
+        let chip = spoilt_frame(rng, length, opcode, |chip| chip.frame.read_place = u32::MAX);
+        states.push((chip, Edit::Place(place)));
+    }
+    states
+}
+
+/// Every way of breaking a rule alone, with the number of that rule.
+pub fn broken(rng: &mut Rng, length: usize) -> Vec<(usize, Chip, Edit)> {
+    let mut states = broken_flags(rng, length);
+    states.extend(broken_jobs(rng, length));
+    states.extend(broken_frames(rng, length));
+    states.extend(broken_empty_frames(rng, length));
+    let mut list = Vec::new();
+    for chip in states {
+        let broken: Vec<usize> = (0..RULES.len()).filter(|rule| !RULES[*rule].1(&chip, length)).collect();
+        assert_eq!(broken.len(), 1, "a state that breaks not one rule alone: {broken:?} {chip:?}");
+        list.push((broken[0], chip, Edit::None));
+    }
+    for (chip, edit) in broken_images(rng, length) {
+        let rule = if matches!(edit, Edit::Place(_)) { 9 } else { 13 };
+        list.push((rule, chip, edit));
+    }
+    list
+}
