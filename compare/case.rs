@@ -57,6 +57,8 @@ pub struct Bench<'a> {
     pub length: usize,
     memory: Vec<u8>,
     output: Vec<u8>,
+    /// The memories may differ, for the last step found a difference.
+    differs: bool,
     other: &'a mut dyn Side,
 }
 
@@ -126,9 +128,8 @@ impl<'a> Bench<'a> {
     /// A bench with the side to compare.
     pub fn new(other: &'a mut dyn Side) -> Bench<'a> {
         let (memory, output) = (vec![0; MEMORY_AREA], vec![0; OUTPUT_AREA]);
-        let mut bench = Bench { chip: Chip::fresh(0), length: LENGTHS[0], memory, output, other };
-        bench.wipe();
-        bench
+        let (chip, length) = (Chip::fresh(0), LENGTHS[0]);
+        Bench { chip, length, memory, output, differs: true, other }
     }
 
     /// Whether the other side has the event through a lent chip record.
@@ -136,14 +137,18 @@ impl<'a> Bench<'a> {
         self.other.has_lent()
     }
 
-    /// Makes both memory areas the same again, after a difference.
-    pub fn wipe(&mut self) {
-        self.memory.fill(0);
-        self.other.memory().fill(0);
+    /// Makes both memory areas the same again, if they may differ.
+    fn wipe(&mut self) {
+        if self.differs {
+            self.memory.fill(0);
+            self.other.memory().fill(0);
+        }
+        self.differs = false;
     }
 
     /// Puts the start of a case on both sides and compares the states and their legality.
     pub fn start(&mut self, case: &Case) -> Result<(), String> {
+        self.wipe();
         self.length = case.length;
         let cells = &mut self.memory[..case.length];
         match case.content {
@@ -183,6 +188,7 @@ impl<'a> Bench<'a> {
 
     /// Does one step on both sides, compares all that came of it and gives the answer.
     pub fn perform(&mut self, step: &Step) -> Result<Answer, String> {
+        self.differs = true;
         let before = self.other.image();
         let (length, wanted, found, output_end) = match step {
             Step::HandOver => return self.hand_over(),
@@ -208,6 +214,7 @@ impl<'a> Bench<'a> {
             0 => self.compare_state()?,
             _ => state_words(side::image_difference(&before, &self.other.image()))?,
         }
+        self.differs = false;
         Ok(wanted)
     }
 
@@ -242,9 +249,8 @@ impl<'a> Bench<'a> {
         state_words(different.or(too))
     }
 
-    /// Does a whole case from wiped memories and gives its first difference and the step it is at.
+    /// Does a whole case and gives its first difference and the step that it is at.
     pub fn replay(&mut self, case: &Case) -> Option<(usize, String)> {
-        self.wipe();
         if let Err(difference) = self.start(case) {
             return Some((0, difference));
         }
@@ -260,17 +266,6 @@ impl<'a> Bench<'a> {
 /// A difference as an error.
 fn state_words(difference: Option<String>) -> Result<(), String> {
     difference.map_or(Ok(()), Err)
-}
-
-impl Step {
-    /// How many events a step has.
-    pub fn events(&self) -> u64 {
-        match self {
-            Step::Event { .. } => 1,
-            Step::Run { script, .. } => events_of(script).0.len() as u64,
-            Step::HandOver => 0,
-        }
-    }
 }
 
 /// One event in words.
@@ -289,6 +284,9 @@ fn event_words((kind, body): Event) -> String {
     }
 }
 
+/// How many events are shown at the start, and at the end, of a long run.
+const SHOWN: usize = 40;
+
 /// A step in words, one line an event.
 fn step_words(step: &Step) -> String {
     let over = |length: &Option<usize>| {
@@ -304,8 +302,12 @@ fn step_words(step: &Step) -> String {
             let (events, end) = events_of(script);
             let room = room(script, *spare);
             let mut text = format!("run of {} bytes, room {room}{}", script.len(), over(length));
-            for (_, event) in events.iter().take(400) {
-                text += &format!("\n      {}", event_words(*event));
+            for (number, (_, event)) in events.iter().enumerate() {
+                if number < SHOWN || number + SHOWN >= events.len() {
+                    text += &format!("\n      {}", event_words(*event));
+                } else if number == SHOWN {
+                    text += &format!("\n      {} events more", events.len() - 2 * SHOWN);
+                }
             }
             let rest = &script[end..];
             if !rest.is_empty() {

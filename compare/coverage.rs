@@ -179,24 +179,28 @@ impl Coverage {
         self.rules[rule] += 1;
     }
 
-    /// Takes note of a step that was answered, from the model's chip before it.
-    pub fn note_step(&mut self, before: &Chip, step: &Step, answer: &Answer, length: usize) {
+    /// Takes note of a step that was answered, from the model's chip before it, and gives the
+    /// number of its events; what is refused counts as one.
+    pub fn note_step(&mut self, before: &Chip, step: &Step, answer: &Answer, length: usize) -> u64 {
+        let entry = match step {
+            Step::HandOver => return 0,
+            Step::Event { lent, .. } => usize::from(*lent),
+            Step::Run { .. } => 2,
+        };
+        self.refusals[entry][usize::from(answer.refusal)] += 1;
         match step {
-            Step::HandOver => {}
-            Step::Event { event, lent, .. } => {
-                self.refusals[usize::from(*lent)][usize::from(answer.refusal)] += 1;
-                if answer.refusal == 0 {
-                    self.replay(before.clone(), &[*event], length);
-                }
-            }
+            _ if answer.refusal != 0 => 1,
             Step::Run { script, spare, .. } => {
-                self.refusals[2][usize::from(answer.refusal)] += 1;
-                if answer.refusal == 0 {
-                    let events: Vec<_> = events_of(script).0.into_iter().map(|e| e.1).collect();
-                    let after = self.replay(before.clone(), &events, length);
-                    self.note_run(before, script, *spare, &after);
-                }
+                let events: Vec<_> = events_of(script).0.into_iter().map(|e| e.1).collect();
+                let after = self.replay(before.clone(), &events, length);
+                self.note_run(before, script, *spare, &after);
+                events.len() as u64
             }
+            Step::Event { event, .. } => {
+                self.replay(before.clone(), &[*event], length);
+                1
+            }
+            Step::HandOver => 0,
         }
     }
 

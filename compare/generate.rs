@@ -692,6 +692,11 @@ impl Writer<'_> {
     /// A read of cells that crosses the top.
     fn read_over_top(&mut self) {
         let opcode = self.rng.pick(&[0x03, 0x0B]);
+        self.over_top(opcode);
+    }
+
+    /// A frame of 03h or 0Bh that reads the last cells and then the first.
+    pub fn over_top(&mut self, opcode: u8) {
         self.allow(opcode);
         let below_top = 1 + self.rng.below(4);
         let copies = (1 << 24) / self.length();

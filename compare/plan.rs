@@ -81,10 +81,9 @@ impl<'a> Session<'a> {
     /// Does a step on both sides.
     fn step(&mut self, step: Step) -> Result<u8, Failure> {
         let before = self.bench.chip.clone();
-        self.events += step.events();
         let answer = self.bench.perform(&step);
         if let Ok(answer) = &answer {
-            self.coverage.note_step(&before, &step, answer, self.case.length);
+            self.events += self.coverage.note_step(&before, &step, answer, self.case.length);
         }
         self.case.steps.push(step);
         let answer = answer.map_err(|difference| self.failure(difference))?;
@@ -216,6 +215,11 @@ impl<'a> Session<'a> {
     /// Every opcode with every verdict that it can get, by events and by runs, on all lengths.
     fn all_cells(&mut self) -> Outcome {
         for length in LENGTHS {
+            self.open_fresh(length, 0)?;
+            for opcode in [0x03, 0x0B] {
+                let events = self.write(|writer| writer.over_top(opcode));
+                self.deliver(&events)?;
+            }
             for command in &COMMANDS[..21] {
                 self.open_fresh(length, 0)?;
                 for verdict in command.verdicts {

@@ -3,23 +3,24 @@
 use crate::case::{events_of, script_of, Bench, Case, Content, Event, Start, Step, LENGTHS};
 use crate::model::Chip;
 use crate::side::Edit;
+use std::time::{Duration, Instant};
 
-/// The most replays that one case is given.
-const REPLAYS: u32 = 4_000;
+/// The longest time that one case is given.
+const PATIENCE: Duration = Duration::from_secs(20);
 
 /// A failing case on its way to a smaller one.
 struct Shrinker<'a, 'b> {
     bench: &'a mut Bench<'b>,
     case: Case,
-    replays: u32,
+    begun: Instant,
 }
 
 /// The smallest case found that fails as the given one does, and its difference.
 pub fn shrink(bench: &mut Bench, case: Case) -> (Case, Option<String>) {
     let Some((steps, _)) = bench.replay(&case) else { return (case, None) };
-    let mut shrinker = Shrinker { bench, case, replays: 0 };
+    let mut shrinker = Shrinker { bench, case, begun: Instant::now() };
     shrinker.case.steps.truncate(steps);
-    while shrinker.replays < REPLAYS && shrinker.round() {}
+    while shrinker.round() {}
     let Shrinker { bench, case, .. } = shrinker;
     let difference = bench.replay(&case).map(|(_, difference)| difference);
     (case, difference)
@@ -28,10 +29,9 @@ pub fn shrink(bench: &mut Bench, case: Case) -> (Case, Option<String>) {
 impl Shrinker<'_, '_> {
     /// Takes a changed case if it still fails, without the steps after its difference.
     fn keep(&mut self, changed: Case) -> bool {
-        if self.replays >= REPLAYS {
+        if self.begun.elapsed() > PATIENCE {
             return false;
         }
-        self.replays += 1;
         let failed = self.bench.replay(&changed);
         if let Some((steps, _)) = &failed {
             self.case = changed;
@@ -85,11 +85,11 @@ impl Shrinker<'_, '_> {
         match self.case.steps.get(number).cloned() {
             Some(Step::Event { event, lent, length }) => {
                 let plain = Step::Event { event, lent: false, length };
-                let mut smaller = lent && self.try_step(number, plain);
+                let mut changes = vec![plain];
                 for event in smaller_events(event) {
-                    smaller |= self.try_step(number, Step::Event { event, lent, length });
+                    changes.push(Step::Event { event, lent, length });
                 }
-                smaller
+                changes.into_iter().any(|step| self.try_step(number, step))
             }
             Some(Step::Run { .. }) => {
                 self.run_to_events(number) || self.delete_from_run(number) | self.shrink_run(number)
@@ -159,10 +159,11 @@ impl Shrinker<'_, '_> {
         let mut smaller = self.try_step(number, Step::Run { script, spare: 0, length });
         let mut at = 0;
         while let Some(pieces) = self.script_pieces(number).filter(|pieces| at < pieces.len()) {
-            for event in events_of(&pieces[at]).0.first().map_or(Vec::new(), |e| smaller_events(e.1)) {
+            let event = events_of(&pieces[at]).0.first().map(|(_, event)| *event);
+            smaller |= event.map_or(Vec::new(), smaller_events).into_iter().any(|event| {
                 let script = [pieces[..at].concat(), script_of(&[event]), pieces[at + 1..].concat()];
-                smaller |= self.try_script(number, script.concat());
-            }
+                self.try_script(number, script.concat())
+            });
             at += 1;
         }
         smaller

@@ -1,8 +1,18 @@
 // The cells of the array: what the steps of a job write, each function with the whole memory in its contract.
 ghost use mathlib.Core.Path.{_≡_};
 ghost use Prim.Native.Nat.{_-_, min};
-ghost use lib.ListN.{length};
+ghost use lib.ListN.{length, getD};
 ghost use Rattle.cells.specs.Cells.{sweep, blanked, anded, later};
+
+// The byte at a place, or 0 past the end.
+pub fn byte_at(s: &[u8], i: usize) -> u8
+    ensures { λ r. ⌜ r ≡ getD (now (s .entry)) i 0 ⌝ }
+{
+    if i < s.len() {
+        return s[i];
+    }
+    0
+}
 
 // How many of the n cells from `from` lie inside a memory of `len` cells.
 pub fn inside(len: usize, from: usize, n: usize) -> usize

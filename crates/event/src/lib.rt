@@ -138,7 +138,7 @@ pub fn is_known_kind(kind: u64) -> bool
 
 // The length of a kind's body.
 pub fn body_length(kind: u64) -> usize
-    ensures { λ r. ⌜ r ≡ bodyLength kind ⌝ }
+    ensures { λ r. ⌜ (r ≡ bodyLength kind) × (r ≤ 2) ⌝ }
 {
     match kind {
         2 => 1,

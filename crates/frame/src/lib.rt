@@ -2,7 +2,6 @@
 ghost use mathlib.Core.Path.{_≡_};
 ghost use mathlib.Core.Bool.{cond, not, _&&_};
 ghost use Prim.Native.Nat.{_%_, _*_, _+_, _<_, _≤_};
-ghost use lib.ListN.{getD};
 ghost use Rattle.part.specs.Part.{reduced};
 ghost use Rattle.chip.specs.declared.Record.{Record};
 ghost use Rattle.frame.specs.Frame.{judge, counted, shifted, nextPlace, nextOffset, opened, counting, reading, loading, addressing, readsCell, takesData, exchange, taken, exchanged};
@@ -133,16 +132,6 @@ fn address(n: usize, b: u8, f: Frame) -> Frame
     next
 }
 
-// The cell at a place; 0 past the end, where no legal frame reads.
-fn cell_at(mem: &[u8], place: usize) -> u8
-    ensures { λ r. ⌜ r ≡ getD (now (mem .entry)) place 0 ⌝ }
-{
-    if place < mem.len() {
-        return mem[place];
-    }
-    0
-}
-
 fn reads_cell(f: Frame) -> bool
     ensures { λ r. ⌜ r ≡ readsCell f ⌝ }
 {
@@ -178,7 +167,7 @@ fn take(core: Core, f: Frame, load: &mut [u8; 256], mem: &[u8], b: u8) -> Exchan
     ensures { λ r. ⌜ exchange (r .said) (r .frame) (now (load .exit)) ≡ taken core f (now (load .entry)) (now (mem .entry)) b ⌝ }
 {
     if reads_cell(f) {
-        return drives(cell_at(mem, f.place), read(mem.len(), f));
+        return drives(cells::byte_at(mem, f.place), read(mem.len(), f));
     }
     if takes_data(f) {
         let offset = f.offset as usize;

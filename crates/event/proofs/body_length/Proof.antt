@@ -9,27 +9,27 @@ use Rattle.event.proofs.body_length.Lts as lts
 -- src/lib.rt:140:1
 returns : tie.Need-returns
 unfolding bodyLength
-returns c = rw (c .match .keys1)
+returns c = (rw (c .match .keys1), search needs)
 
 -- src/lib.rt:140:1
 returns-2 : tie.Need-returns-2
 unfolding bodyLength
-returns-2 c = rw (c .match .keys2)
+returns-2 c = (rw (c .match .keys2), search needs)
 
 -- src/lib.rt:140:1
 returns-3 : tie.Need-returns-3
 unfolding bodyLength
-returns-3 c = rw (c .match .keys3)
+returns-3 c = (rw (c .match .keys3), search needs)
 
 -- src/lib.rt:140:1
 returns-4 : tie.Need-returns-4
 unfolding bodyLength
-returns-4 c = rw (c .match .keys4)
+returns-4 c = (rw (c .match .keys4), search needs)
 
 -- src/lib.rt:140:1
 returns-5 : tie.Need-returns-5
 unfolding bodyLength
-returns-5 c = rw (ne-eqb _ _ (c .match .rest .0 .0 .0 .1), ne-eqb _ _ (c .match .rest .0 .0 .1), ne-eqb _ _ (c .match .rest .0 .1), ne-eqb _ _ (c .match .rest .1))
+returns-5 c = (rw (ne-eqb _ _ (c .match .rest .0 .0 .0 .1), ne-eqb _ _ (c .match .rest .0 .0 .1), ne-eqb _ _ (c .match .rest .0 .1), ne-eqb _ _ (c .match .rest .1)), search needs)
 
 pub body-length-spec : {M : Type 1} → statement M
 body-length-spec = tie.close (tie.spec returns returns-2 returns-3 returns-4 returns-5)

@@ -14,12 +14,12 @@ body-length-requires c κs = search needs
 -- src/lib.rt:169:9
 returns : tie.Need-returns
 unfolding bodyUsed
-returns c = rw (← c .before .body-length .ensures, eq-eqb _ _ (c .if1 .taken))
+returns c = rw (← c .before .body-length .ensures .0, eq-eqb _ _ (c .if1 .taken))
 
 -- src/lib.rt:165:1
 returns-2 : tie.Need-returns-2
 unfolding bodyUsed
-returns-2 c = rw (← c .before .body-length .ensures, ne-eqb _ _ (c .if1 .left))
+returns-2 c = rw (← c .before .body-length .ensures .0, ne-eqb _ _ (c .if1 .left))
 
 pub body-used-spec : {M : Type 1} → statement M
 body-used-spec = tie.close (tie.spec body-length-requires returns returns-2)
