@@ -17,7 +17,7 @@ pub const FAULTS: [&str; 16] = [
     "a refused run clears a byte of output",
     "a run writes one byte too many",
     "an event that is refused by 6 disarms",
-    "address bits beyond the memory length are kept out of no frame: legality lets 2^24 pass",
+    "a frame's address of 2^24 counts as legal",
     "an event with a kind above 255 is taken modulo 256",
     "a loose deselect is taken as a deselect",
     "a power cut raises WP",

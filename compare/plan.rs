@@ -480,7 +480,8 @@ fn fate_after(writer: &mut Writer, class: Class, fate: u32, k: u32) {
     match fate {
         0 => {
             frame(writer, 0x30);
-            writer.ticks(class.steps(writer.length()) - k);
+            let left = class.steps(writer.length()) - k;
+            writer.put(5, u64::from(left));
         }
         1 => {
             let next = writer.rng.pick(&LONG_JOBS);

@@ -27,9 +27,14 @@ pub fn shrink(bench: &mut Bench, case: Case) -> (Case, Option<String>) {
 }
 
 impl Shrinker<'_, '_> {
+    /// Whether the time is over.
+    fn tired(&self) -> bool {
+        self.begun.elapsed() > PATIENCE
+    }
+
     /// Takes a changed case if it still fails, without the steps after its difference.
     fn keep(&mut self, changed: Case) -> bool {
-        if self.begun.elapsed() > PATIENCE {
+        if self.tired() {
             return false;
         }
         let failed = self.bench.replay(&changed);
@@ -53,7 +58,7 @@ impl Shrinker<'_, '_> {
     fn delete_steps(&mut self) -> bool {
         let mut smaller = false;
         let mut row = self.case.steps.len();
-        while row > 0 {
+        while row > 0 && !self.tired() {
             let mut at = self.case.steps.len().saturating_sub(row);
             loop {
                 let mut changed = self.case.clone();
@@ -117,7 +122,7 @@ impl Shrinker<'_, '_> {
         let Some(mut row) = self.script_pieces(number).map(|pieces| pieces.len()) else {
             return false;
         };
-        while row > 0 {
+        while row > 0 && !self.tired() {
             let mut at = 0;
             while let Some(pieces) = self.script_pieces(number).filter(|pieces| at < pieces.len()) {
                 let end = (at + row).min(pieces.len());
@@ -133,9 +138,13 @@ impl Shrinker<'_, '_> {
         smaller
     }
 
-    /// The script of a run in pieces: its events, and each byte from its first bad event on.
+    /// The script of a run in pieces: its events, and each byte from its first bad event on; none
+    /// when the step is no run or the time is over.
     fn script_pieces(&self, number: usize) -> Option<Vec<Vec<u8>>> {
         let Step::Run { script, .. } = self.case.steps.get(number)? else { return None };
+        if self.tired() {
+            return None;
+        }
         let (events, end) = events_of(script);
         let mut pieces: Vec<_> = events.iter().map(|(_, event)| script_of(&[*event])).collect();
         pieces.extend(script[end..].iter().map(|byte| vec![*byte]));

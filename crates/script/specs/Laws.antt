@@ -1,20 +1,24 @@
 -- What is true of scripts and runs: a script event by event, its faults and its room, and a run in two parts.
-use Prim.Native.Nat.{ℕ, zero, suc, _+_, _*_, _<_, _≤_}
+use Prim.Native.Nat.{ℕ, zero, suc, _+_, _*_, _%_, _<_, _≤_, zero-le}
 use mathlib.Core.Bool.{Bool, true, false, cond, not, _||_}
-use mathlib.Core.List.{List, [], _∷_, _++_, append-assoc}
+use mathlib.Core.List.{List, [], _∷_, _++_, append-assoc, append-nil}
 use mathlib.Core.Path.{_≡_, refl, sym, ap, _∙_}
 use native.Mathlib.Nat.{add-zero, add-assoc}
 use native.Mathlib.Omega.{arith}
 use lib.Dec.{eqb, ltb, leb}
-use lib.ListN.{length, getD, take, drop, length-append}
+use lib.ListN.{length, getD, set, take, drop, length-append, length-set}
+use lib.Seq.{take-suc-set, drop-set-lt}
+use native.Mathlib.Numerals.{add-one}
 use borrow.Author.Tests.{eq-eqb, ne-eqb, lt-leb, le-leb, ltb-false, leb-true}
 use Rattle.cells.specs.Choice.{cond-yes, cond-no, cond-either, and-left, and-right}
 use Rattle.chip.specs.declared.Chip.{Chip}
 use Rattle.chip.specs.declared.Record.{Record}
-use Rattle.event.specs.Event.{Outcome, applied}
+use Rattle.chip.specs.declared.Record.the-variants.{Nothing, Floating, Driven, Verdict}
+use Rattle.event.specs.Event.{Outcome, exchangeByte, deselect, applied}
 use Rattle.event.specs.Alone.{knownKind, bodyLength, inRange}
+use Rattle.event.specs.Laws.{applied-each}
 use Rattle.script.specs.Script.{Event, bodyAt, nextAt, faultAt, eventAt, walk, eventsFrom, events, Refusal, refusalOf, firstBad, yields, room}
-use Rattle.script.specs.Run.{World, world, after, recordBytes, runs}
+use Rattle.script.specs.Run.{World, world, after, recordBytes, Stored, runs}
 
 -- ---- a script, event by event
 
@@ -81,6 +85,16 @@ good-event s at = go (knownKind (getD s at 0)) (ltb (length s) (nextAt s at)) (i
     go true true r a b d h = absurd (omega arith)
     go false l r a b d h = absurd (omega arith)
 
+-- ---- an exchange in a script: two bytes, the second of them its body
+
+pub exchange-body : (s : List ℕ) (at : ℕ) → getD s at 0 ≡ 2 → bodyAt s at ≡ getD s (at + 1) 0
+unfolding bodyLength
+exchange-body s at e = rw e
+
+pub exchange-next : (s : List ℕ) (at : ℕ) → getD s at 0 ≡ 2 → nextAt s at ≡ at + 2
+unfolding bodyLength
+exchange-next s at e = rw e (omega arith)
+
 -- ---- room
 
 pub room-none : (s : List ℕ) (at : ℕ) → length s ≤ at → room (eventsFrom s at) ≡ 0
@@ -90,6 +104,67 @@ room-none s at h = ap room (events-none s at h)
 pub room-more : (s : List ℕ) (at : ℕ) → at < length s → room (eventsFrom s at) ≡ cond (yields (getD s at 0)) 2 0 + room (eventsFrom s (nextAt s at))
 unfolding room
 room-more s at h = ap room (events-more s at h)
+
+-- ---- records
+
+-- a record is at most two bytes
+pub recordBytes-two : (r : Record) → length (recordBytes r) ≤ 2
+recordBytes-two Nothing = omega arith
+recordBytes-two Floating = omega arith
+recordBytes-two (Driven b) = omega arith
+recordBytes-two (Verdict v) = omega arith
+
+-- an event finds the room that was counted for it
+pub said-room : (S : ℕ) (c : Chip) (m : List ℕ) (kind body : ℕ) → knownKind kind ≡ true → length (recordBytes (applied S c m kind body .said)) ≤ cond (yields kind) 2 0
+unfolding yields
+said-room S c m kind body k =
+    applied-each S c m kind body (λ o. length (recordBytes (o .said)) ≤ cond (yields kind) 2 0)
+    (λ e. zero-le)
+    (λ e. rw e (recordBytes-two (exchangeByte c m (body % 256) .said)))
+    (λ e. rw e (recordBytes-two (deselect S c m false .said)))
+    (λ e. zero-le)
+    (λ e. zero-le)
+    (λ e. zero-le)
+    (λ e. zero-le)
+    (λ e. rw (e k) (recordBytes-two (deselect S c m true .said)))
+
+-- a byte or two stored from a place on: what stands before the next place, and what stands from there on
+pub store-one : (o : List ℕ) (p a : ℕ) → p < length o → take (p + 1) (set o p a) ≡ take p o ++ (a ∷ [])
+store-one o p a h = rw (add-one) (take-suc-set o p a h)
+
+pub store-two : (o : List ℕ) (p a b : ℕ) → p + 1 < length o → take (p + 2) (set (set o p a) (p + 1) b) ≡ take p o ++ (a ∷ b ∷ [])
+store-two o p a b h =
+    let e : p + 2 ≡ p + 1 + 1 = omega arith in
+    let l : p + 1 < length (set o p a) = omega (arith, length-set o p a) in
+    ap (λ (q : ℕ). take q (set (set o p a) (p + 1) b)) e
+    ∙ store-one (set o p a) (p + 1) b l
+    ∙ ap (λ (x : List ℕ). x ++ (b ∷ [])) (store-one o p a (omega arith))
+    ∙ append-assoc (take p o) (a ∷ []) (b ∷ [])
+
+-- a record of no, one or two bytes is stored by as many stores
+pub stored-none : (o : List ℕ) (p : ℕ) (said : Record) → recordBytes said ≡ [] → Stored o p said p o
+stored-none o p said e =
+    record
+    { place = sym (ap (λ (bs : List ℕ). p + length bs) e ∙ add-zero p)
+    ; before = sym (ap (λ (bs : List ℕ). take p o ++ bs) e ∙ append-nil (take p o))
+    ; beyond = refl
+    }
+
+pub stored-one : (o : List ℕ) (p a : ℕ) (said : Record) → recordBytes said ≡ a ∷ [] → p < length o → Stored o p said (p + 1) (set o p a)
+stored-one o p a said e h =
+    record
+    { place = sym (ap (λ (bs : List ℕ). p + length bs) e)
+    ; before = store-one o p a h ∙ ap (λ (bs : List ℕ). take p o ++ bs) (sym e)
+    ; beyond = drop-set-lt (p + 1) o p a (omega arith)
+    }
+
+pub stored-two : (o : List ℕ) (p a b : ℕ) (said : Record) → recordBytes said ≡ a ∷ b ∷ [] → p + 1 < length o → Stored o p said (p + 2) (set (set o p a) (p + 1) b)
+stored-two o p a b said e h =
+    record
+    { place = sym (ap (λ (bs : List ℕ). p + length bs) e)
+    ; before = store-two o p a b h ∙ ap (λ (bs : List ℕ). take p o ++ bs) (sym e)
+    ; beyond = drop-set-lt (p + 2) (set o p a) (p + 1) b (omega arith) ∙ drop-set-lt (p + 2) o p a (omega arith)
+    }
 
 -- ---- a run
 

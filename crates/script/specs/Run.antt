@@ -1,10 +1,10 @@
 -- A run: the events of a script one after the other, and the whole answer with its refusals (01, Events; Refusal numbers).
-use Prim.Native.Nat.{ℕ, _+_}
+use Prim.Native.Nat.{ℕ, _+_, _≤_}
 use mathlib.Core.Bool.{Bool, cond, not}
 use mathlib.Core.List.{List, [], _∷_, _++_}
 use mathlib.Core.Path.{_≡_}
 use lib.Dec.{eqb, ltb}
-use lib.ListN.{length, drop}
+use lib.ListN.{length, take, drop}
 use Rattle.part.specs.Part.{permitted, sectors}
 use Rattle.chip.specs.declared.Chip.{Chip}
 use Rattle.chip.specs.declared.Record.{Record}
@@ -45,6 +45,12 @@ pub record Scan (s : List ℕ) (number offset space : ℕ) : Type 0 where
   pub bad : refusalOf number offset ≡ firstBad (events s)
   pub rooms : number ≡ 0 → space ≡ room (events s)
 
+-- a record stored in the output at a place: the bytes before the next place, and what stands from there on
+pub record Stored (o : List ℕ) (p : ℕ) (said : Record) (p′ : ℕ) (o′ : List ℕ) : Type 0 where
+  pub place : p′ ≡ p + length (recordBytes said)
+  pub before : take p′ o′ ≡ take p o ++ recordBytes said
+  pub beyond : drop p′ o′ ≡ drop p′ o
+
 -- "Checked in the order 1, 2, 3, then the script from the left, then 7"; n is the memory's length, space the output's
 unfoldable pub refusal : Chip → ℕ → List ℕ → ℕ → Refusal
 refusal c n s space =
@@ -76,3 +82,15 @@ memoryOf c m s out = cond (eqb (refusal c (length m) s (length out) .number) 0) 
 unfoldable pub outputOf : Chip → List ℕ → List ℕ → List ℕ → List ℕ
 outputOf c m s out =
     cond (eqb (refusal c (length m) s (length out) .number) 0) (outcome c m s .written ++ drop (length (outcome c m s .written)) out) out
+
+-- a script that nothing refuses, for an output of that length
+pub record Playable (s : List ℕ) (space : ℕ) : Type 0 where
+  pub short : length s ≤ 65536
+  pub clean : firstBad (events s) .number ≡ 0
+  pub roomy : room (events s) ≤ space
+
+-- what playing it leaves, on a part of S sectors
+pub record Played (S : ℕ) (c : Chip) (m s out : List ℕ) (r : Ran) (m′ out′ : List ℕ) : Type 0 where
+  pub answer : r ≡ done (runs S (events s) (world c m [] 0))
+  pub memory : m′ ≡ runs S (events s) (world c m [] 0) .memory
+  pub output : out′ ≡ runs S (events s) (world c m [] 0) .written ++ drop (length (runs S (events s) (world c m [] 0) .written)) out

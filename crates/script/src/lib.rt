@@ -5,7 +5,7 @@ ghost use mathlib.Core.List.{List, [], _++_};
 ghost use Prim.Native.Nat.{ℕ, _+_, _≤_, _<_};
 ghost use lib.ListN.{length, take, drop, getD};
 ghost use Rattle.script.specs.Script.{bodyAt, nextAt, faultAt, yields, events, firstBad, room};
-ghost use Rattle.script.specs.Run.{recordBytes, Scan, refusal, answerOf, memoryOf, outputOf};
+ghost use Rattle.script.specs.Run.{recordBytes, Scan, Stored, Playable, Played, refusal, answerOf, memoryOf, outputOf};
 
 use chip::Chip;
 use chip::Core;
@@ -36,7 +36,7 @@ pub struct Scanned {
 // The body of the event at an offset.
 fn body_at(s: &[u8], at: usize) -> u64
     requires { ⌜ at < length (now s) ⌝ }
-    ensures { λ r. ⌜ r ≡ bodyAt (now (s .entry)) at ⌝ }
+    ensures { λ r. ⌜ (r ≡ bodyAt (now (s .entry)) at) × (r ≤ 65535) ⌝ }
 {
     let n = event::body_length(s[at] as u64);
     if n == 1 {
@@ -115,5 +115,74 @@ fn scan(s: &[u8]) -> Scanned
             offset: 0,
         },
         room: space,
+    }
+}
+
+// Stores a record's bytes at a place of the output; the answer is the place after them.
+fn put(out: &mut [u8], at: usize, said: Record) -> usize
+    requires { ⌜ at + length (recordBytes said) ≤ length (now out) ⌝ }
+    ensures { λ r. ⌜ Stored (now (out .entry)) at said r (now (out .exit)) ⌝ }
+{
+    match said {
+        Record::Nothing => at,
+        Record::Floating => {
+            out[at] = 0x80;
+            at + 1
+        }
+        Record::Driven(b) => {
+            out[at] = 0x81;
+            out[at + 1] = b;
+            at + 2
+        }
+        Record::Verdict(v) => {
+            out[at] = 0x82;
+            out[at + 1] = v;
+            at + 2
+        }
+    }
+}
+
+// Runs a script that nothing refuses: the chip is taken apart once, and put together at the end.
+fn play(chip: Chip, mem: &mut [u8], script: &[u8], out: &mut [u8], sectors: u8) -> Ran
+    requires { ⌜ Playable (now script) (length (now out)) ⌝ }
+    ensures { λ r. ⌜ Played sectors chip (now (mem .entry)) (now (script .entry)) (now (out .entry)) r (now (mem .exit)) (now (out .exit)) ⌝ }
+{
+    let mut core = chip.core;
+    let mut frame = chip.frame;
+    let mut load = chip.load;
+    let mut page = chip.page;
+    let mut at = 0;
+    let mut pos = 0;
+    let mut ticks: u64 = 0;
+    while at < script.len() {
+        let kind = script[at];
+        if kind == 2 {
+            let e = frame::exchange(core, frame, &mut load, mem, script[at + 1]);
+            let heard = e.said;
+            pos = put(out, pos, heard);
+            frame = e.frame;
+            at += 2;
+            continue;
+        }
+        let body = body_at(script, at);
+        let s = event::step(core, frame, &mut load, &mut page, mem, sectors, kind, body as u32);
+        let said = s.said;
+        pos = put(out, pos, said);
+        core = s.core;
+        frame = s.frame;
+        ticks += s.ticks as u64;
+        at = next_at(script, at);
+    }
+    Ran {
+        chip: Chip {
+            core: core,
+            frame: frame,
+            load: load,
+            page: page,
+        },
+        refusal: 0,
+        offset: 0,
+        written: pos,
+        ticks: ticks,
     }
 }

@@ -34,7 +34,7 @@ cast-result c = search needs
 
 -- src/lib.rt:43:9
 returns : tie.Need-returns
-returns c = rw (← c .before .before .body-length .ensures .0, eq-eqb _ _ (c .before .if1 .taken)) (c .byte-at .ensures)
+returns c = (rw (← c .before .before .body-length .ensures .0, eq-eqb _ _ (c .before .if1 .taken)) (c .byte-at .ensures), search needs)
 
 -- src/lib.rt:46:38
 add-byte-at-2 : tie.Need-add-byte-at-2
@@ -70,11 +70,11 @@ add-result c = search needs
 
 -- src/lib.rt:48:9
 returns-2 : tie.Need-returns-2
-returns-2 c = rw (← c .before .before .before .before .body-length .ensures .0, ne-eqb _ _ (c .before .before .before .if1 .left), eq-eqb _ _ (c .before .before .if2 .taken), c .before .byte-at2 .ensures, c .byte-at3 .ensures)
+returns-2 c = (rw (← c .before .before .before .before .body-length .ensures .0, ne-eqb _ _ (c .before .before .before .if1 .left), eq-eqb _ _ (c .before .before .if2 .taken), c .before .byte-at2 .ensures, c .byte-at3 .ensures), search needs)
 
 -- src/lib.rt:37:1
 returns-3 : tie.Need-returns-3
-returns-3 c = rw (← c .before .before .body-length .ensures .0, ne-eqb _ _ (c .before .if1 .left), ne-eqb _ _ (c .if2 .left))
+returns-3 c = (rw (← c .before .before .body-length .ensures .0, ne-eqb _ _ (c .before .if1 .left), ne-eqb _ _ (c .if2 .left)), search needs)
 
 pub body-at-spec : {M : Type 1} → statement M
 body-at-spec =

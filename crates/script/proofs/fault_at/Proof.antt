@@ -48,12 +48,12 @@ is-in-range-requires c κs = search needs
 -- src/lib.rt:74:9
 returns-3 : tie.Need-returns-3
 unfolding faultAt
-returns-3 c = rw (← c .before .before .before .before .before .before .is-known-kind .ensures, c .before .before .before .before .before .if1 .left, ← c .before .before .before .before .next-at .ensures, le-ltb _ _ (c .before .before .before .if2 .left), ← c .before .before .body-at .ensures, ← c .before .is-in-range .ensures, c .if3 .taken)
+returns-3 c = rw (← c .before .before .before .before .before .before .is-known-kind .ensures, c .before .before .before .before .before .if1 .left, ← c .before .before .before .before .next-at .ensures, le-ltb _ _ (c .before .before .before .if2 .left), ← c .before .before .body-at .ensures .0, ← c .before .is-in-range .ensures, c .if3 .taken)
 
 -- src/lib.rt:62:1
 returns-4 : tie.Need-returns-4
 unfolding faultAt
-returns-4 c = rw (← c .before .before .before .before .before .before .is-known-kind .ensures, c .before .before .before .before .before .if1 .left, ← c .before .before .before .before .next-at .ensures, le-ltb _ _ (c .before .before .before .if2 .left), ← c .before .before .body-at .ensures, ← c .before .is-in-range .ensures, c .if3 .left)
+returns-4 c = rw (← c .before .before .before .before .before .before .is-known-kind .ensures, c .before .before .before .before .before .if1 .left, ← c .before .before .before .before .next-at .ensures, le-ltb _ _ (c .before .before .before .if2 .left), ← c .before .before .body-at .ensures .0, ← c .before .is-in-range .ensures, c .if3 .left)
 
 pub fault-at-spec : {M : Type 1} → statement M
 fault-at-spec =
