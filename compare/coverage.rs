@@ -309,7 +309,14 @@ impl Coverage {
     }
 
     /// Takes note of what an event does to a job after its k steps.
-    fn note_job(&mut self, before: &Chip, event: Event, record: Record, after: &Chip, length: usize) {
+    fn note_job(
+        &mut self,
+        before: &Chip,
+        event: Event,
+        record: Record,
+        after: &Chip,
+        length: usize,
+    ) {
         let Some(job) = &before.job else { return };
         let row = match Class::of(job) {
             Class::Chip if length > Chip::SECTOR => 5,
@@ -417,7 +424,11 @@ impl Coverage {
 
 /// The mark of a cell that is not as it should be.
 fn mark(bad: bool) -> &'static str {
-    if bad { "!" } else { "" }
+    if bad {
+        "!"
+    } else {
+        ""
+    }
 }
 
 /// Prints a row of counts and gives the number of those that are not as they should be.

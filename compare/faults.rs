@@ -99,9 +99,9 @@ impl WrongCopy {
     fn store(&mut self, job: Option<&Job>) {
         let Some(Job { kind: JobKind::Program(load), place, steps_done }) = job else { return };
         let end = self.chip.job.as_ref().map_or(16, |job| job.steps_done);
-        for at in 16 * *steps_done as usize..16 * end as usize {
-            self.memory[*place as usize + at] = load[at];
-        }
+        let part = 16 * *steps_done as usize..16 * end as usize;
+        let page = &mut self.memory[*place as usize..][..256];
+        page[part.clone()].copy_from_slice(&load[part]);
     }
 
     /// Plants the faults that are seen in a record.

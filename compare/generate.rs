@@ -145,12 +145,12 @@ impl<'a> Writer<'a> {
     }
 
     /// Selects, with any number in the place of the body that the event has not.
-    fn select(&mut self) {
+    pub fn select(&mut self) {
         self.put(1, 0);
     }
 
     /// Exchanges bytes, now and then with something else between them.
-    fn send(&mut self, bytes: &[u8]) {
+    pub fn send(&mut self, bytes: &[u8]) {
         for byte in bytes {
             if !self.calm && self.rng.once_in(24) {
                 self.disturb();
@@ -160,7 +160,7 @@ impl<'a> Writer<'a> {
     }
 
     /// Something that may fall inside a frame.
-    fn disturb(&mut self) {
+    pub fn disturb(&mut self) {
         match self.rng.below(8) {
             0 => self.select(),
             1 => self.wp(),
@@ -171,20 +171,29 @@ impl<'a> Writer<'a> {
     }
 
     /// Any WP level.
-    fn wp(&mut self) {
+    pub fn wp(&mut self) {
         let level = self.rng.below(2) as u64;
         self.put(6, level);
     }
 
     /// Ends a frame on a byte boundary.
-    fn end(&mut self) {
+    pub fn end(&mut self) {
         self.put(3, 0);
     }
 
     /// Ends a frame loosely.
-    fn end_loose(&mut self) {
+    pub fn end_loose(&mut self) {
         let bits = 1 + self.rng.below(7) as u64;
         self.put(8, bits);
+    }
+
+    /// Ends a frame in one of the two ways.
+    pub fn finish(&mut self, loose: bool) {
+        if loose {
+            self.end_loose();
+        } else {
+            self.end();
+        }
     }
 
     /// Ends the frame, if one is open.
@@ -195,7 +204,7 @@ impl<'a> Writer<'a> {
     }
 
     /// Sends a whole frame on its own.
-    fn frame(&mut self, bytes: &[u8]) {
+    pub fn frame(&mut self, bytes: &[u8]) {
         self.settle();
         self.select();
         self.send(bytes);
@@ -216,13 +225,13 @@ impl<'a> Writer<'a> {
     }
 
     /// The steps that the job has left; 0 without a job.
-    fn steps_left(&self) -> u32 {
+    pub fn steps_left(&self) -> u32 {
         let job = self.chip.job.as_ref();
         job.map_or(0, |job| Class::of(job).steps(self.length()) - job.steps_done)
     }
 
     /// Some ticks: few, or about as many as the job has left, or very many.
-    fn some_ticks(&mut self) {
+    pub fn some_ticks(&mut self) {
         let left = self.steps_left();
         let few = 1 + self.rng.below(20) as u32;
         let count = self.rng.pick(&[1, 2, few, left.max(2) - 1, left, left + 1, left / 2, 65_535]);
@@ -230,12 +239,12 @@ impl<'a> Writer<'a> {
     }
 
     /// Whether a job is running.
-    fn running(&self) -> bool {
+    pub fn running(&self) -> bool {
         self.chip.job.is_some() && !self.chip.suspended
     }
 
     /// Brings the chip out of deep power-down.
-    fn wake(&mut self) {
+    pub fn wake(&mut self) {
         self.settle();
         if self.chip.deep {
             if self.rng.once_in(5) {
@@ -277,7 +286,7 @@ impl<'a> Writer<'a> {
     }
 
     /// Brings WEN to 1; a job has it already.
-    fn enable(&mut self) {
+    pub fn enable(&mut self) {
         if self.chip.job.is_none() && !self.chip.wen {
             self.frame(&[0x06]);
         }
@@ -295,7 +304,7 @@ impl<'a> Writer<'a> {
     }
 
     /// A sector that is, or is not, protected.
-    fn sector(&mut self, wanted: bool) -> Option<usize> {
+    pub fn sector(&mut self, wanted: bool) -> Option<usize> {
         let sectors = self.length() / Chip::SECTOR;
         let first = self.rng.below(sectors);
         let order = (first..sectors).chain(0..first);
@@ -303,15 +312,16 @@ impl<'a> Writer<'a> {
     }
 
     /// An address inside a sector, often at an edge, its bits above the memory length any.
-    fn address_in(&mut self, sector: usize) -> u32 {
+    pub fn address_in(&mut self, sector: usize) -> u32 {
         let any = self.rng.below(Chip::SECTOR);
-        let inside = self.rng.pick(&[0, 1, 0xFFFF, 0xFFFE, 0xFFF, 0x1000, any, any, any, any | 0xFF]);
+        let inside =
+            self.rng.pick(&[0, 1, 0xFFFF, 0xFFFE, 0xFFF, 0x1000, any, any, any, any | 0xFF]);
         let high = self.rng.below(256) * self.length();
         ((high + sector * Chip::SECTOR + inside) % (1 << 24)) as u32
     }
 
     /// Any address, often near the top.
-    fn address(&mut self) -> u32 {
+    pub fn address(&mut self) -> u32 {
         if self.rng.once_in(4) {
             let below_top = 1 + self.rng.below(8);
             let copies = (1 << 24) / self.length();
@@ -322,7 +332,7 @@ impl<'a> Writer<'a> {
     }
 
     /// The number of data bytes of a program, seldom a large one.
-    fn data_length(&mut self) -> usize {
+    pub fn data_length(&mut self) -> usize {
         let any = 1 + self.rng.below(600);
         match self.rng.below(12) {
             0 => self.rng.pick(&[255, 256, 257, 260, 300, 512, 513, any]),
@@ -332,13 +342,13 @@ impl<'a> Writer<'a> {
     }
 
     /// An opcode with the bytes of an address.
-    fn with_address(opcode: u8, address: u32) -> Vec<u8> {
+    pub fn with_address(opcode: u8, address: u32) -> Vec<u8> {
         let [_, high, middle, low] = address.to_be_bytes();
         vec![opcode, high, middle, low]
     }
 
     /// A frame of the right length for an opcode, over an address.
-    fn whole_frame(&mut self, opcode: u8, address: u32) -> Vec<u8> {
+    pub fn whole_frame(&mut self, opcode: u8, address: u32) -> Vec<u8> {
         let mut bytes = Self::with_address(opcode, address);
         match opcode {
             0x20 | 0xD7 | 0xD8 => {}
@@ -357,7 +367,7 @@ impl<'a> Writer<'a> {
     }
 
     /// A frame that may begin a job of a class, or one over a protected target.
-    fn job_frame(&mut self, class: Class, protection: bool) -> Vec<u8> {
+    pub fn job_frame(&mut self, class: Class, protection: bool) -> Vec<u8> {
         let opcode = class.opcode(self.rng);
         let sector = self.sector(protection).unwrap_or(0);
         let address = self.address_in(sector);
@@ -365,7 +375,7 @@ impl<'a> Writer<'a> {
     }
 
     /// Makes sure that a job of a class finds a target that is not protected.
-    fn unprotect(&mut self, class: Class) {
+    pub fn unprotect(&mut self, class: Class) {
         let blocked = match class {
             Class::WriteStatus => false,
             Class::Chip => self.chip.level != 0,
@@ -396,7 +406,7 @@ impl<'a> Writer<'a> {
     }
 
     /// Begins a job that can be suspended, lets it do some steps, and suspends it.
-    fn suspend_some(&mut self) {
+    pub fn suspend_some(&mut self) {
         if self.chip.suspended {
             return self.settle();
         }
@@ -408,7 +418,7 @@ impl<'a> Writer<'a> {
     }
 
     /// Brings the chip to deep power-down.
-    fn sleep(&mut self) {
+    pub fn sleep(&mut self) {
         self.settle();
         if !self.chip.deep {
             self.idle();
@@ -417,7 +427,7 @@ impl<'a> Writer<'a> {
     }
 
     /// Begins any job.
-    fn run_some(&mut self) {
+    pub fn run_some(&mut self) {
         if self.running() {
             return self.settle();
         }
@@ -427,371 +437,12 @@ impl<'a> Writer<'a> {
     }
 
     /// A byte that is no opcode.
-    fn unknown(&mut self) -> u8 {
+    pub fn unknown(&mut self) -> u8 {
         loop {
             let byte = self.rng.byte();
             if COMMANDS.iter().all(|command| command.opcode != Some(byte)) {
                 return byte;
             }
-        }
-    }
-
-    /// Sends a frame of an opcode that is to end with a verdict.
-    pub fn reach(&mut self, opcode: Option<u8>, verdict: u8) {
-        let Some(opcode) = opcode else {
-            self.settle();
-            let bytes = [self.unknown(), self.rng.byte(), self.rng.byte()];
-            let length = 1 + self.rng.below(3);
-            return self.frame(&bytes[..length]);
-        };
-        match verdict {
-            0 => self.reach_read(opcode),
-            1 => self.reach_done(opcode),
-            2 => self.reach_begun(opcode),
-            4 => self.reach_spoiled(opcode),
-            5 => self.sleep(),
-            6 => self.run_some(),
-            7 => self.suspend_some(),
-            8 => self.reach_disabled(),
-            9 => self.reach_protected(opcode),
-            10 => self.reach_locked(),
-            11 => self.reach_pointless(opcode),
-            _ => {}
-        }
-        if matches!(verdict, 5..=8) {
-            let address = self.address();
-            let bytes = self.whole_frame(opcode, address);
-            self.frame(&bytes);
-        }
-    }
-
-    /// Brings the chip to a state in which an opcode is taken.
-    fn allow(&mut self, opcode: u8) {
-        self.settle();
-        match opcode {
-            0xB0 if !self.running() => {
-                let class = self.rng.pick(&LONG_JOBS);
-                self.begin(class);
-            }
-            0xB0 => {}
-            0x30 => self.suspend_some(),
-            0xAB if self.rng.once_in(2) => self.sleep(),
-            0x05 | 0x66 | 0x99 => self.wake(),
-            0x03 | 0x0B if self.rng.once_in(3) => self.suspend_some(),
-            0x20 | 0xD7 | 0xD8 | 0x60 | 0xC7 | 0x02 | 0x0A if self.rng.once_in(3) => {
-                self.suspend_some();
-            }
-            _ => self.idle(),
-        }
-    }
-
-    /// A read, loose or not.
-    fn reach_read(&mut self, opcode: u8) {
-        self.allow(opcode);
-        let address = self.address();
-        let mut bytes = Self::with_address(opcode, address);
-        let length = 1 + self.rng.below(20);
-        bytes.resize(length, self.rng.byte());
-        self.settle();
-        self.select();
-        self.send(&bytes);
-        if self.rng.once_in(3) {
-            self.end_loose();
-        } else {
-            self.end();
-        }
-    }
-
-    /// A frame that is done at once.
-    fn reach_done(&mut self, opcode: u8) {
-        if matches!(opcode, 0x66 | 0x99) && self.rng.once_in(2) {
-            self.run_some();
-        }
-        self.allow(opcode);
-        if opcode == 0x99 {
-            self.frame(&[0x66]);
-        }
-        let bytes = self.whole_frame(opcode, 0);
-        self.frame(&bytes);
-    }
-
-    /// A frame that begins a job, perhaps in the place of a suspended one.
-    fn reach_begun(&mut self, opcode: u8) {
-        let class = match opcode {
-            0x01 => Class::WriteStatus,
-            0x02 | 0x0A => Class::Program,
-            0x20 | 0xD7 => Class::SmallSector,
-            0xD8 => Class::Sector,
-            _ => Class::Chip,
-        };
-        self.allow(opcode);
-        if self.chip.job.is_none() {
-            self.unprotect(class);
-            self.enable();
-        }
-        if self.chip.srwp && !self.chip.wp_high && self.rng.once_in(2) {
-            self.put(6, 1);
-        }
-        let sector = self.sector(false).unwrap_or(0);
-        let address = self.address_in(sector);
-        let bytes = self.whole_frame(opcode, address);
-        self.frame(&bytes);
-    }
-
-    /// A frame that is loose or of the wrong length.
-    fn reach_spoiled(&mut self, opcode: u8) {
-        self.allow(opcode);
-        let address = self.address();
-        let mut bytes = self.whole_frame(opcode, address);
-        let loose = opcode == 0xAB || self.rng.once_in(2);
-        if !loose {
-            let right = bytes.len().min(5);
-            let lengths: Vec<usize> = match opcode {
-                0x02 | 0x0A => (1..=4).collect(),
-                _ => (1..=7).filter(|length| *length != right).collect(),
-            };
-            let length = self.rng.pick(&lengths);
-            bytes.resize(length, self.rng.byte());
-        }
-        self.settle();
-        self.select();
-        self.send(&bytes);
-        if loose {
-            self.end_loose();
-        } else {
-            self.end();
-        }
-    }
-
-    /// Brings the chip to WEN 0 without a job.
-    fn reach_disabled(&mut self) {
-        self.idle();
-        if self.chip.wen {
-            self.frame(&[0x04]);
-        }
-    }
-
-    /// A frame over a protected target, now and then while suspended.
-    fn reach_protected(&mut self, opcode: u8) {
-        if self.chip.level == 0 || self.sector(true).is_none() {
-            let status = (1 + self.rng.byte() % 7) << 2 | self.rng.pick(&[0x00, 0x20, 0x80]);
-            self.write_status(status);
-        }
-        if self.rng.once_in(3) && self.sector(false).is_some() && !self.chip.suspended {
-            let class = self.rng.pick(&LONG_JOBS[..3]);
-            self.begin(class);
-            self.frame(&[0xB0]);
-        }
-        if !self.chip.suspended {
-            self.idle();
-            self.enable();
-        }
-        let sector = self.sector(true).unwrap_or(0);
-        let address = self.address_in(sector);
-        let bytes = self.whole_frame(opcode, address);
-        self.frame(&bytes);
-    }
-
-    /// A write status with SRWP 1 and WP low.
-    fn reach_locked(&mut self) {
-        if !self.chip.srwp {
-            let status = self.rng.byte() | 0x80;
-            self.write_status(status);
-        }
-        self.idle();
-        self.put(6, 0);
-        self.enable();
-        let status = self.rng.byte();
-        self.frame(&[0x01, status]);
-    }
-
-    /// A suspend with nothing to suspend, a resume with nothing suspended, a reset unarmed.
-    fn reach_pointless(&mut self, opcode: u8) {
-        match opcode {
-            0xB0 if self.rng.once_in(2) => self.begin(Class::WriteStatus),
-            0x99 => {
-                self.wake();
-                if self.chip.armed {
-                    self.frame(&[0x05]);
-                }
-            }
-            _ => self.idle(),
-        }
-        self.frame(&[opcode]);
-    }
-}
-
-/// The scenes that a random row of events is made of.
-pub const SCENES: [fn(&mut Writer); 13] = [
-    |writer| writer.any_cell(),
-    |writer| writer.any_cell(),
-    |writer| writer.any_cell(),
-    |writer| writer.any_cell(),
-    |writer| writer.wild_frame(),
-    |writer| writer.wild_frame(),
-    |writer| writer.loose_ends(),
-    |writer| writer.read_over_top(),
-    |writer| writer.long_load(),
-    |writer| writer.read_while_running(),
-    |writer| writer.spoil_while_suspended(),
-    |writer| writer.watch_status(),
-    |writer| writer.pass_time(),
-];
-
-impl Writer<'_> {
-    /// Any opcode with any verdict that it can get.
-    fn any_cell(&mut self) {
-        let command = &COMMANDS[self.rng.below(21)];
-        let verdict = self.rng.pick(command.verdicts);
-        self.reach(command.opcode, verdict);
-    }
-
-    /// A frame of any opcode on the chip as it is, ended in any way or left open.
-    fn wild_frame(&mut self) {
-        let opcode = match self.rng.below(8) {
-            0 => self.rng.byte(),
-            _ => {
-                let number = self.rng.below(20);
-                COMMANDS[number].opcode.unwrap_or(0)
-            }
-        };
-        let address = self.address();
-        let mut bytes = Self::with_address(opcode, address);
-        let length = self.rng.below(9);
-        bytes.resize(length, self.rng.byte());
-        self.select();
-        self.send(&bytes);
-        match self.rng.below(12) {
-            0 => self.put(7, 0),
-            1 => {}
-            2 | 3 => self.end_loose(),
-            _ => self.end(),
-        }
-    }
-
-    /// Events without much sense: unselected exchanges and deselects, WP, ticks, power cuts.
-    fn loose_ends(&mut self) {
-        for _ in 0..1 + self.rng.below(5) {
-            match self.rng.below(9) {
-                0 => self.select(),
-                1 => self.put(2, 0xAB),
-                2 => self.end(),
-                3 => self.end_loose(),
-                4 => self.wp(),
-                5 => self.put(7, 0),
-                6 => self.put(4, 0),
-                7 => {
-                    let any = 1 + self.rng.below(65_535) as u64;
-                    self.put(5, any);
-                }
-                _ => self.some_ticks(),
-            }
-        }
-    }
-
-    /// A read of cells that crosses the top.
-    fn read_over_top(&mut self) {
-        let opcode = self.rng.pick(&[0x03, 0x0B]);
-        self.over_top(opcode);
-    }
-
-    /// A frame of 03h or 0Bh that reads the last cells and then the first.
-    pub fn over_top(&mut self, opcode: u8) {
-        self.allow(opcode);
-        let below_top = 1 + self.rng.below(4);
-        let copies = (1 << 24) / self.length();
-        let address = (1 + self.rng.below(copies)) * self.length() - below_top;
-        let mut bytes = Self::with_address(opcode, address as u32);
-        let data = below_top + 1 + self.rng.below(6) + usize::from(opcode == 0x0B);
-        bytes.resize(4 + data, self.rng.byte());
-        self.frame(&bytes);
-    }
-
-    /// A program whose load wraps or runs past 256 bytes, and its steps.
-    fn long_load(&mut self) {
-        self.allow(0x02);
-        if self.chip.job.is_none() {
-            self.unprotect(Class::Program);
-            self.enable();
-        }
-        let sector = self.sector(false).unwrap_or(0);
-        let address = self.address_in(sector) | self.rng.pick(&[0, 0xF8, 0xFF, 0x80]);
-        let mut bytes = Self::with_address(self.rng.pick(&[0x02, 0x0A]), address);
-        let data = self.rng.pick(&[2, 9, 130, 256, 257, 260, 400]);
-        bytes.extend((0..data).map(|_| self.rng.byte()));
-        self.frame(&bytes);
-        let done = self.rng.pick(&[1, 8, 15, 16, 17]);
-        self.ticks(done);
-    }
-
-    /// A frame begun while a job runs, which goes on after the job has ended.
-    fn read_while_running(&mut self) {
-        self.run_some();
-        let opcode = self.rng.pick(&[0x03, 0x0B, 0x9F, 0xAB, 0x02, 0x20, 0x05, 0xB0]);
-        let address = self.address();
-        let mut bytes = Self::with_address(opcode, address);
-        let length = self.rng.pick(&[1, 4, 5, 6, 7, 8]);
-        bytes.resize(length, self.rng.byte());
-        let before = self.rng.below(bytes.len()) + 1;
-        self.settle();
-        self.select();
-        self.send(&bytes[..before]);
-        let left = self.steps_left();
-        self.ticks(left);
-        self.send(&bytes[before..]);
-        self.end();
-    }
-
-    /// A spoiled program sent while a program is suspended, and the end of the suspended one.
-    fn spoil_while_suspended(&mut self) {
-        self.begin(Class::Program);
-        let done = self.rng.below(16) as u32;
-        self.ticks(done);
-        self.frame(&[0xB0]);
-        let opcode = self.rng.pick(&[0x02, 0x0A]);
-        self.reach_spoiled_here(opcode);
-        self.frame(&[0x30]);
-        let left = self.steps_left();
-        self.ticks(left);
-    }
-
-    /// A loose program frame with data, or one too short, on the chip as it is.
-    fn reach_spoiled_here(&mut self, opcode: u8) {
-        let address = self.address();
-        let mut bytes = self.whole_frame(opcode, address);
-        let loose = self.rng.once_in(2);
-        if !loose {
-            bytes.truncate(4);
-        }
-        self.select();
-        self.send(&bytes);
-        if loose {
-            self.end_loose();
-        } else {
-            self.end();
-        }
-    }
-
-    /// A status read with ticks between its bytes.
-    fn watch_status(&mut self) {
-        self.settle();
-        self.select();
-        self.send(&[0x05]);
-        for _ in 0..1 + self.rng.below(4) {
-            self.send(&[0]);
-            self.some_ticks();
-        }
-        self.send(&[0]);
-        self.end();
-    }
-
-    /// Ticks for the job that there is, or for a new one.
-    fn pass_time(&mut self) {
-        if self.chip.job.is_none() {
-            self.run_some();
-        }
-        for _ in 0..1 + self.rng.below(3) {
-            self.some_ticks();
         }
     }
 }

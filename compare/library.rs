@@ -85,7 +85,8 @@ impl Library {
         }
         let Some(process) = &mut self.process else { return Ok(()) };
         let mut answer = [0];
-        let sent = process.to.write_all(&[request]).and_then(|()| process.from.read_exact(&mut answer));
+        let sent =
+            process.to.write_all(&[request]).and_then(|()| process.from.read_exact(&mut answer));
         if sent.is_err() || answer[0] != request {
             return Err(format!("the library process ended{}", self.stop()));
         }

@@ -9,6 +9,7 @@ mod faults;
 mod generate;
 mod library;
 mod plan;
+mod scenes;
 mod shrink;
 mod side;
 mod states;

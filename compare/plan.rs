@@ -2,8 +2,9 @@
 
 use crate::case::{room_needed, script_of, Bench, Case, Content, Event, Start, Step, LENGTHS};
 use crate::coverage::{Coverage, COMMANDS};
-use crate::generate::{Class, Rng, Writer, LONG_JOBS, SCENES};
+use crate::generate::{Class, Rng, Writer, LONG_JOBS};
 use crate::model::Chip;
+use crate::scenes::SCENES;
 use crate::side::Edit;
 use crate::states;
 
@@ -187,7 +188,9 @@ impl<'a> Session<'a> {
             if self.bench.has_lent() {
                 steps.push(Step::Event { event: second, lent: true, length: None });
             }
-            for script in [vec![], vec![1, 2, 5, 2, 0, 3], vec![1, 9], vec![2]] {
+            let scripts =
+                [vec![], vec![1, 2, 5, 2, 0, 3], vec![1, 9], vec![2], vec![4; LONGEST + 1]];
+            for script in scripts {
                 let spare = self.rng.pick(&[0, -1, 3]);
                 steps.push(Step::Run { script, spare, length: None });
             }
@@ -208,7 +211,8 @@ impl<'a> Session<'a> {
         let lent = self.lent();
         let event = self.rng.pick(&[(1, 0), (4, 0), (0, 0), (6, 2), (7, 0)]);
         self.step(Step::Event { event, lent, length })?;
-        let script = self.rng.pick(&[&[][..], &[1, 2, 5, 3], &[9], &[5, 0]]).to_vec();
+        let script =
+            self.rng.pick(&[&[][..], &[1, 2, 5, 3], &[9], &[5, 0], &[4; LONGEST + 1]]).to_vec();
         self.step(Step::Run { script, spare: -1, length }).map(|_| ())
     }
 
@@ -292,14 +296,9 @@ impl<'a> Session<'a> {
     /// Scripts of 65,536 bytes and more, and the rooms about what they ask for.
     fn limits(&mut self, length: usize) -> Outcome {
         self.open_fresh(length, 0)?;
-        for extra in [0, 1, 2, LONGEST] {
-            for spare in [-1, 0, 1] {
-                let script = self.long_script(LONGEST + extra);
-                self.step(Step::Run { script, spare, length: None })?;
-            }
-        }
-        for kind in [3, 4] {
-            for (bytes, spare) in [(LONGEST, -1), (LONGEST, 0), (LONGEST - 1, 5), (LONGEST + 1, 0)] {
+        for kind in [4, 3] {
+            for (bytes, spare) in [(LONGEST, -1), (LONGEST, 0), (LONGEST - 1, 5), (LONGEST + 1, 0)]
+            {
                 self.step(Step::Run { script: vec![kind; bytes], spare, length: None })?;
             }
         }
@@ -307,6 +306,12 @@ impl<'a> Session<'a> {
         script[LONGEST - 1] = 2;
         self.step(Step::Run { script, spare: 0, length: None })?;
         self.step(Step::Run { script: vec![9; LONGEST + 1], spare: 0, length: None })?;
+        for extra in [0, 1, 2, LONGEST] {
+            for spare in [-1, 0, 1] {
+                let script = self.long_script(LONGEST + extra);
+                self.step(Step::Run { script, spare, length: None })?;
+            }
+        }
         self.close()
     }
 
@@ -425,9 +430,9 @@ impl<'a> Session<'a> {
         let scene = self.rng.pick(&SCENES);
         let events = self.write(scene);
         let mut script = Vec::new();
-        let bad = 1 + self.rng.below(3 * (events.len() + 1));
+        let bad = self.rng.below(3 * (events.len() + 1));
         for (number, event) in events.iter().enumerate() {
-            if number == bad || self.rng.once_in(200) {
+            if number == bad || number == 0 && self.rng.once_in(8) || self.rng.once_in(200) {
                 script.extend(self.bad_bytes());
             }
             script.extend(script_of(&[*event]));

@@ -10,6 +10,7 @@ int open(const char *path, int flags, ...);
 void *mmap(void *at, u64 length, int protection, int flags, int file, long offset);
 long read(int file, void *to, u64 length);
 long write(int file, const void *from, u64 length);
+u32 alarm(u32 seconds);
 
 // The chip as the library exports it.
 struct chip {
@@ -36,6 +37,9 @@ struct event_answer chip_event_lent(struct chip c, u8 *mem, u64 mem_len, u64 kin
 // The areas of the shared file; the harness has the same numbers.
 enum { SECTOR = 65536, MEMORY = 0, SCRIPT = 65 * SECTOR, OUTPUT = 68 * SECTOR, DESK = 73 * SECTOR };
 enum { FILE_LENGTH = 74 * SECTOR, IMAGE = 128 };
+
+// Seconds after which a request without an answer ends the process.
+enum { PATIENCE = 60 };
 
 static u8 *shared;
 static struct chip chip;
@@ -102,7 +106,9 @@ int main(int count, char **words) {
     shared = mmap(0, FILE_LENGTH, 3, 1, file, 0);
     if (shared == (u8 *)-1) return 2;
     while (read(0, &request, 1) == 1) {
+        alarm(PATIENCE);
         serve(request);
+        alarm(0);
         if (write(1, &request, 1) != 1) return 2;
     }
     return 0;

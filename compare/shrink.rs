@@ -170,7 +170,8 @@ impl Shrinker<'_, '_> {
         while let Some(pieces) = self.script_pieces(number).filter(|pieces| at < pieces.len()) {
             let event = events_of(&pieces[at]).0.first().map(|(_, event)| *event);
             smaller |= event.map_or(Vec::new(), smaller_events).into_iter().any(|event| {
-                let script = [pieces[..at].concat(), script_of(&[event]), pieces[at + 1..].concat()];
+                let script =
+                    [pieces[..at].concat(), script_of(&[event]), pieces[at + 1..].concat()];
                 self.try_script(number, script.concat())
             });
             at += 1;

@@ -92,7 +92,8 @@ fn job_numbers(kind: &JobKind) -> (u8, u8, [u8; 256]) {
 pub fn image_of(chip: &Chip) -> Image {
     let frame = &chip.frame;
     let nothing = (0, 0, [0xFF; 256]);
-    let (job_kind, job_value, page) = chip.job.as_ref().map_or(nothing, |job| job_numbers(&job.kind));
+    let (job_kind, job_value, page) =
+        chip.job.as_ref().map_or(nothing, |job| job_numbers(&job.kind));
     let flags = [
         chip.tb,
         chip.srwp,
@@ -160,8 +161,8 @@ fn seen_address(opcode: u8, count: u8) -> u32 {
         _ => 0xFF_FFFF,
     };
     match opcode {
-        0x01 if count == 2 => 0xFF, // the byte to write
-        0x03 | 0x0B if count < 4 => taken, // at byte 4 it goes to the read place
+        0x01 if count == 2 => 0xFF,                // the byte to write
+        0x03 | 0x0B if count < 4 => taken,         // at byte 4 it goes to the read place
         0x20 | 0xD7 | 0xD8 if count <= 4 => taken, // longer ones are verdict 4
         0x02 | 0x0A => taken,
         _ => 0,
@@ -176,6 +177,7 @@ fn seen_address(opcode: u8, count: u8) -> u32 {
 ///   program;
 /// - the byte to write of a job that is no write status, the load of one that is no program and,
 ///   of a program, the part of the load whose steps are done; the place and steps of no job.
+///
 /// Of an empty frame nothing is left out, for a legal state says what it is.
 fn forget_unseen(image: &mut Image, chip: &Chip) {
     let frame = &chip.frame;

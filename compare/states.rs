@@ -44,7 +44,7 @@ pub const RULES: [Rule; 14] = [
 
 /// Whether a chip has no job, or one that keeps a rule.
 fn job(chip: &Chip, keeps: impl Fn(&Job) -> bool) -> bool {
-    chip.job.as_ref().map_or(true, keeps)
+    chip.job.as_ref().is_none_or(keeps)
 }
 
 /// The bytes that a job's place is aligned to; a write status and a chip erase are at 0.
@@ -109,7 +109,8 @@ fn open_frame(rng: &mut Rng, chip: &mut Chip, opcode: u8, length: usize) {
     let frame = &mut chip.frame;
     frame.opcode = opcode;
     frame.byte_count = 1 + rng.below(6) as u8;
-    frame.address = rng.pick(&[0, any, any, length - 1, length % address_end, address_end - 1]) as u32;
+    frame.address =
+        rng.pick(&[0, any, any, length - 1, length % address_end, address_end - 1]) as u32;
     frame.read_place = rng.below(place_end) as u32;
     if rng.once_in(3) {
         frame.read_place = place_end as u32 - 1;
@@ -302,7 +303,8 @@ pub fn broken(rng: &mut Rng, length: usize) -> Vec<(usize, Chip, Edit)> {
     states.extend(broken_empty_frames(rng, length));
     let mut list = Vec::new();
     for chip in states {
-        let broken: Vec<usize> = (0..RULES.len()).filter(|rule| !RULES[*rule].1(&chip, length)).collect();
+        let broken: Vec<usize> =
+            (0..RULES.len()).filter(|rule| !RULES[*rule].1(&chip, length)).collect();
         assert_eq!(broken.len(), 1, "a state that breaks not one rule alone: {broken:?} {chip:?}");
         list.push((broken[0], chip, Edit::None));
     }

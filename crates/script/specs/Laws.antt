@@ -9,16 +9,18 @@ use lib.Dec.{eqb, ltb, leb}
 use lib.ListN.{length, getD, set, take, drop, length-append, length-set}
 use lib.Seq.{take-suc-set, drop-set-lt}
 use native.Mathlib.Numerals.{add-one}
-use borrow.Author.Tests.{eq-eqb, ne-eqb, lt-leb, le-leb, ltb-false, leb-true}
+use borrow.Author.Tests.{eq-eqb, ne-eqb, eqb-true, eqb-false, lt-ltb, le-ltb, lt-leb, le-leb, ltb-false, leb-true}
 use Rattle.cells.specs.Choice.{cond-yes, cond-no, cond-either, and-left, and-right}
+use Rattle.part.specs.Part.{permitted, sectors}
 use Rattle.chip.specs.declared.Chip.{Chip}
+use Rattle.chip.specs.Legal.{legal}
 use Rattle.chip.specs.declared.Record.{Record}
 use Rattle.chip.specs.declared.Record.the-variants.{Nothing, Floating, Driven, Verdict}
 use Rattle.event.specs.Event.{Outcome, exchangeByte, deselect, applied}
 use Rattle.event.specs.Alone.{knownKind, bodyLength, inRange}
 use Rattle.event.specs.Laws.{applied-each}
 use Rattle.script.specs.Script.{Event, bodyAt, nextAt, faultAt, eventAt, walk, eventsFrom, events, Refusal, refusalOf, firstBad, yields, room}
-use Rattle.script.specs.Run.{World, world, after, recordBytes, Stored, runs}
+use Rattle.script.specs.Run.{World, world, after, recordBytes, Stored, runs, Playable, refusal, outcome, refused, done, answerOf, memoryOf, outputOf}
 
 -- ---- a script, event by event
 
@@ -182,3 +184,94 @@ pub runs-add : (S : ℕ) (es fs : List Event) (w : World) → runs S (es ++ fs) 
 unfolding runs
 runs-add S [] fs w = refl
 runs-add S (e ∷ es) fs w = runs-add S es fs (after w (applied S (w .chip) (w .memory) (e .kind) (e .body)))
+
+-- ---- refusals
+
+module _ (c : Chip) (n : ℕ) (s : List ℕ) (space : ℕ) where
+  pub refusal-length : permitted n ≡ false → refusal c n s space ≡ refusalOf 1 0
+  unfolding refusal
+  refusal-length p = cond-yes _ _ _ (ap not p)
+
+  module _ (p : permitted n ≡ true) where
+    pub refusal-state : legal c n ≡ false → refusal c n s space ≡ refusalOf 2 0
+    unfolding refusal
+    refusal-state l = cond-no _ _ _ (ap not p) ∙ cond-yes _ _ _ (ap not l)
+
+    module _ (l : legal c n ≡ true) where
+      pub refusal-long : 65536 < length s → refusal c n s space ≡ refusalOf 3 0
+      unfolding refusal
+      refusal-long h = cond-no _ _ _ (ap not p) ∙ cond-no _ _ _ (ap not l) ∙ cond-yes _ _ _ (lt-ltb _ _ h)
+
+      module _ (short : length s ≤ 65536) where
+        pub refusal-bad : (firstBad (events s) .number ≡ 0 → ⊥) → refusal c n s space ≡ firstBad (events s)
+        unfolding refusal
+        refusal-bad b = cond-no _ _ _ (ap not p) ∙ cond-no _ _ _ (ap not l) ∙ cond-no _ _ _ (le-ltb _ _ short) ∙ cond-yes _ _ _ (ap not (ne-eqb _ _ b))
+
+        module _ (clean : firstBad (events s) .number ≡ 0) where
+          pub refusal-room : space < room (events s) → refusal c n s space ≡ refusalOf 7 0
+          unfolding refusal
+          refusal-room h =
+              cond-no _ _ _ (ap not p) ∙ cond-no _ _ _ (ap not l) ∙ cond-no _ _ _ (le-ltb _ _ short) ∙ cond-no _ _ _ (ap not (eq-eqb _ _ clean)) ∙ cond-yes _ _ _ (lt-ltb _ _ h)
+
+          pub refusal-none : room (events s) ≤ space → refusal c n s space ≡ refusalOf 0 0
+          unfolding refusal
+          refusal-none h =
+              cond-no _ _ _ (ap not p) ∙ cond-no _ _ _ (ap not l) ∙ cond-no _ _ _ (le-ltb _ _ short) ∙ cond-no _ _ _ (ap not (eq-eqb _ _ clean)) ∙ cond-no _ _ _ (le-ltb _ _ h)
+
+-- done means: a permitted length, a legal state, and a script that can be played
+pub record Accepted (c : Chip) (n : ℕ) (s : List ℕ) (space : ℕ) : Type 0 where
+  pub length-permitted : permitted n ≡ true
+  pub state-legal : legal c n ≡ true
+  pub script-playable : Playable s space
+
+pub accepted : (c : Chip) (n : ℕ) (s : List ℕ) (space : ℕ) → refusal c n s space .number ≡ 0 → Accepted c n s space
+unfolding refusal
+accepted c n s space = go (permitted n) (legal c n) (ltb 65536 (length s)) (eqb (firstBad (events s) .number) 0) (ltb space (room (events s))) refl refl refl refl refl
+  where
+    go : (p l t b r : Bool) → permitted n ≡ p → legal c n ≡ l → ltb 65536 (length s) ≡ t → eqb (firstBad (events s) .number) 0 ≡ b → ltb space (room (events s)) ≡ r
+        → cond (not p) (refusalOf 1 0) (cond (not l) (refusalOf 2 0) (cond t (refusalOf 3 0) (cond (not b) (firstBad (events s)) (cond r (refusalOf 7 0) (refusalOf 0 0))))) .number ≡ 0
+        → Accepted c n s space
+    go true true false true false pe le te be re h =
+        record
+        { length-permitted = pe
+        ; state-legal = le
+        ; script-playable = record { short = ltb-false _ _ te; clean = eqb-true _ _ be; roomy = ltb-false _ _ re }
+        }
+    go true true false true true pe le te be re h = absurd (omega arith)
+    go true true false false r pe le te be re h = absurd (eqb-false _ _ be h)
+    go true true true b r pe le te be re h = absurd (omega arith)
+    go true false t b r pe le te be re h = absurd (omega arith)
+    go false l t b r pe le te be re h = absurd (omega arith)
+
+-- refused: all as it was; done: what the run comes to
+module _ (c : Chip) (m s out : List ℕ) where
+  module _ (no : refusal c (length m) s (length out) .number ≡ 0 → ⊥) where
+    pub answer-refused : answerOf c m s out ≡ refused c (refusal c (length m) s (length out))
+    unfolding answerOf
+    answer-refused = cond-no _ _ _ (ne-eqb _ _ no)
+
+    pub memory-refused : memoryOf c m s out ≡ m
+    unfolding memoryOf
+    memory-refused = cond-no _ _ _ (ne-eqb _ _ no)
+
+    pub output-refused : outputOf c m s out ≡ out
+    unfolding outputOf
+    output-refused = cond-no _ _ _ (ne-eqb _ _ no)
+
+  module _ (ok : refusal c (length m) s (length out) .number ≡ 0) where
+    pub answer-done : answerOf c m s out ≡ done (outcome c m s)
+    unfolding answerOf
+    answer-done = cond-yes _ _ _ (eq-eqb _ _ ok)
+
+    pub memory-done : memoryOf c m s out ≡ outcome c m s .memory
+    unfolding memoryOf
+    memory-done = cond-yes _ _ _ (eq-eqb _ _ ok)
+
+    pub output-done : outputOf c m s out ≡ outcome c m s .written ++ drop (length (outcome c m s .written)) out
+    unfolding outputOf
+    output-done = cond-yes _ _ _ (eq-eqb _ _ ok)
+
+-- what playing comes to is the run's outcome
+pub outcome-as : (c : Chip) (m s : List ℕ) (S : ℕ) → S ≡ sectors (length m) → runs S (events s) (world c m [] 0) ≡ outcome c m s
+unfolding outcome
+outcome-as c m s S e = rw e

@@ -4,7 +4,7 @@ ghost use mathlib.Core.Bool.{cond};
 ghost use mathlib.Core.List.{List, [], _++_};
 ghost use Prim.Native.Nat.{ℕ, _+_, _≤_, _<_};
 ghost use lib.ListN.{length, take, drop, getD};
-ghost use Rattle.script.specs.Script.{bodyAt, nextAt, faultAt, yields, events, firstBad, room};
+ghost use Rattle.script.specs.Script.{bodyAt, nextAt, faultAt, yields, events, firstBad, room, refusalOf};
 ghost use Rattle.script.specs.Run.{recordBytes, Scan, Stored, Playable, Played, refusal, answerOf, memoryOf, outputOf};
 
 use chip::Chip;
@@ -185,4 +185,57 @@ fn play(chip: Chip, mem: &mut [u8], script: &[u8], out: &mut [u8], sectors: u8) 
         written: pos,
         ticks: ticks,
     }
+}
+
+fn refuse(number: u8) -> Refused
+    ensures { λ r. ⌜ r ≡ record { number = number; offset = 0 } ⌝ }
+{
+    Refused {
+        number: number,
+        offset: 0,
+    }
+}
+
+// What refuses a run, in 01's order; the number 0 for nothing.
+fn refuses(chip: Chip, n: usize, script: &[u8], space: usize) -> Refused
+    ensures { λ r. ⌜ refusalOf (r .number) (r .offset) ≡ refusal chip n (now (script .entry)) space ⌝ }
+{
+    if part::sectors_of(n) == 0 {
+        return refuse(1);
+    }
+    if !chip::is_legal(chip, n) {
+        return refuse(2);
+    }
+    if 65536 < script.len() {
+        return refuse(3);
+    }
+    let found = scan(script);
+    let bad = found.bad;
+    if bad.number != 0 {
+        return bad;
+    }
+    if space < found.room {
+        return refuse(7);
+    }
+    refuse(0)
+}
+
+// A script run, for every chip, memory, script and output.
+pub fn run(chip: Chip, mem: &mut [u8], script: &[u8], out: &mut [u8]) -> Ran
+    ensures { λ r. ⌜ (r ≡ answerOf chip (now (mem .entry)) (now (script .entry)) (now (out .entry)))
+        × (now (mem .exit) ≡ memoryOf chip (now (mem .entry)) (now (script .entry)) (now (out .entry)))
+        × (now (out .exit) ≡ outputOf chip (now (mem .entry)) (now (script .entry)) (now (out .entry))) ⌝ }
+{
+    let n = mem.len();
+    let no = refuses(chip, n, script, out.len());
+    if no.number != 0 {
+        return Ran {
+            chip: chip,
+            refusal: no.number,
+            offset: no.offset,
+            written: 0,
+            ticks: 0,
+        };
+    }
+    play(chip, mem, script, out, part::sectors_of(n))
 }
