@@ -284,8 +284,24 @@ fn event_words((kind, body): Event) -> String {
     }
 }
 
-/// How many events are shown at the start, and at the end, of a long run.
+/// How many lines are shown of the start, and of the end, of a long run.
 const SHOWN: usize = 40;
+
+/// Events in words, one line for those that are alike and follow each other.
+fn event_lines(events: impl Iterator<Item = Event>) -> Vec<String> {
+    let mut alike: Vec<(Event, usize)> = Vec::new();
+    for event in events {
+        match alike.last_mut() {
+            Some((last, times)) if *last == event => *times += 1,
+            _ => alike.push((event, 1)),
+        }
+    }
+    let line = |(event, times)| match times {
+        1 => event_words(event),
+        _ => format!("{}, {times} times", event_words(event)),
+    };
+    alike.into_iter().map(line).collect()
+}
 
 /// A step in words, one line an event.
 fn step_words(step: &Step) -> String {
@@ -302,11 +318,12 @@ fn step_words(step: &Step) -> String {
             let (events, end) = events_of(script);
             let room = room(script, *spare);
             let mut text = format!("run of {} bytes, room {room}{}", script.len(), over(length));
-            for (number, (_, event)) in events.iter().enumerate() {
-                if number < SHOWN || number + SHOWN >= events.len() {
-                    text += &format!("\n      {}", event_words(*event));
+            let lines = event_lines(events.into_iter().map(|(_, event)| event));
+            for (number, line) in lines.iter().enumerate() {
+                if number < SHOWN || number + SHOWN >= lines.len() {
+                    text += &format!("\n      {line}");
                 } else if number == SHOWN {
-                    text += &format!("\n      {} events more", events.len() - 2 * SHOWN);
+                    text += &format!("\n      {} lines more", lines.len() - 2 * SHOWN);
                 }
             }
             let rest = &script[end..];

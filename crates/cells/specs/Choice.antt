@@ -1,5 +1,5 @@
 -- Laws of `cond`, the choice by a test, over any type: what every layer's laws and proofs pass on.
-use mathlib.Core.Bool.{Bool, true, false, cond, _&&_, false≢true}
+use mathlib.Core.Bool.{Bool, true, false, cond, not, _&&_, _||_, false≢true}
 use mathlib.Core.Path.{_≡_, refl, ap}
 
 pub cond-yes : {A : Type 0} (b : Bool) (x y : A) → b ≡ true → cond b x y ≡ x
@@ -30,3 +30,27 @@ and-right false b h = absurd (false≢true h)
 pub and-both : (a b : Bool) → a ≡ true → b ≡ true → (a && b) ≡ true
 and-both true b p q = q
 and-both false b p q = p
+
+-- `not a || b` is the test that a means b
+pub means-holds : (a b : Bool) → (not a || b) ≡ true → a ≡ true → b ≡ true
+means-holds true b h e = h
+means-holds false b h e = absurd (false≢true e)
+
+pub means-shown : (a b : Bool) → (a ≡ true → b ≡ true) → (not a || b) ≡ true
+means-shown true b h = h refl
+means-shown false b h = refl
+
+-- a Bool that is not true is false
+pub not-so : (a : Bool) → (a ≡ true → ⊥) → a ≡ false
+not-so true h = absurd (h refl)
+not-so false h = refl
+
+-- a conjunction of several, taken apart and put together
+pub and-four : (a b c d : Bool) → (a && b && c && d) ≡ true → (a ≡ true) × (b ≡ true) × (c ≡ true) × (d ≡ true)
+and-four a b c d h =
+    let abc = and-left (a && b && c) d h in
+    let ab = and-left (a && b) c abc in
+    (and-left a b ab, and-right a b ab, and-right (a && b) c abc, and-right (a && b && c) d h)
+
+pub four-and : (a b c d : Bool) → a ≡ true → b ≡ true → c ≡ true → d ≡ true → (a && b && c && d) ≡ true
+four-and a b c d p q r s = and-both (a && b && c) d (and-both (a && b) c (and-both a b p q) r) s

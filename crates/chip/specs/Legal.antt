@@ -30,14 +30,21 @@ placed ChipErase place n = eqb place 0
 unfoldable pub legalJob : Job → ℕ → ℕ → Bool
 legalJob j S n = placed (j .kind) (j .place) n && (not (isJob (j .kind)) || ltb (j .done) (total (j .kind) S))
 
--- "level ≤ 7"; the job's part; "a job means WEN is 1"; "suspended means the job is a program or erase"; "deep power-down means no job and not armed"
+-- "a job means WEN is 1"
+abbrev pub jobEnabled : Core → Bool
+jobEnabled k = not (isJob (k .job .kind)) || k .wen
+
+-- "suspended means the job is a program or erase"
+abbrev pub suspendedHasCells : Core → Bool
+suspendedHasCells k = not (k .suspended) || hasCells (k .job .kind)
+
+-- "deep power-down means no job and not armed"
+abbrev pub deepRests : Core → Bool
+deepRests k = not (k .deep) || not (isJob (k .job .kind)) && not (k .armed)
+
+-- "level ≤ 7"; the job's part; and the three above
 unfoldable pub legalCore : Core → ℕ → ℕ → Bool
-legalCore k S n =
-    leb (k .level) 7
-    && legalJob (k .job) S n
-    && (not (isJob (k .job .kind)) || k .wen)
-    && (not (k .suspended) || hasCells (k .job .kind))
-    && (not (k .deep) || not (isJob (k .job .kind)) && not (k .armed))
+legalCore k S n = leb (k .level) 7 && legalJob (k .job) S n && jobEnabled k && suspendedHasCells k && deepRests k
 
 -- "its opcode judgement none or verdict 3, 5, 6 or 7"; none is 0
 abbrev pub judgementKnown : ℕ → Bool
