@@ -39,7 +39,7 @@ enum { SECTOR = 65536, MEMORY = 0, SCRIPT = 65 * SECTOR, OUTPUT = 68 * SECTOR, D
 enum { FILE_LENGTH = 74 * SECTOR, IMAGE = 128 };
 
 // Seconds after which a request without an answer ends the process.
-enum { PATIENCE = 60 };
+enum { PATIENCE = 20 };
 
 static u8 *shared;
 static struct chip chip;

@@ -1,20 +1,21 @@
 -- What is true of a frame: each way that an exchange goes, and what it leaves alone.
 use Prim.Native.Nat.{ℕ, _+_, _<_, _≤_}
-use mathlib.Core.Bool.{Bool, true, false, cond, not, _&&_}
+use mathlib.Core.Bool.{Bool, true, false, cond, not, _&&_, false≢true}
 use mathlib.Core.List.{List}
 use mathlib.Core.Path.{_≡_, refl, sym, ap, _∙_}
+use native.Mathlib.Omega.{arith}
 use lib.Dec.{eqb, leb}
 use lib.ListN.{length, getD, set}
-use borrow.Author.Tests.{eq-eqb, ne-eqb}
+use borrow.Author.Tests.{eq-eqb, ne-eqb, eqb-true}
 use Rattle.cells.specs.Choice.{cond-yes, cond-no}
 use Rattle.part.specs.Part.{jedecByte, jedecCycle, deviceByte}
-use Rattle.part.specs.Table.{readStatus, jedecId, wake}
+use Rattle.part.specs.Table.{rowOf, readStatus, jedecId, wake}
 use Rattle.chip.specs.declared.Core.{Core}
 use Rattle.chip.specs.declared.Frame.{Frame}
 use Rattle.chip.specs.declared.Record.{Record}
 use Rattle.chip.specs.declared.Record.the-variants.{Floating, Driven}
-use Rattle.chip.specs.Chip.{statusByte}
-use Rattle.frame.specs.Frame.{Exchange, exchange, opened, counting, reading, loading, addressing, readsCell, takesData, taken, exchanged}
+use Rattle.chip.specs.Chip.{running, statusByte}
+use Rattle.frame.specs.Frame.{judge, Exchange, exchange, opened, counting, reading, loading, addressing, readsCell, takesData, taken, exchanged}
 
 -- ---- byte 2 and up, by what the frame is
 
@@ -68,3 +69,38 @@ module _ (k : Core) (f : Frame) (load m : List ℕ) (b : ℕ) where
       pub exchanged-taken : f .judgement ≡ 0 → exchanged k f load m b ≡ taken k f load m b
       unfolding exchanged
       exchanged-taken h = cond-no _ _ _ (ap not selected) ∙ cond-no _ _ _ (ne-eqb _ _ begun) ∙ cond-no _ _ _ (ap not (eq-eqb _ _ h))
+
+-- ---- judgement none
+
+-- what it says: a known opcode, asleep only the waking one, and allowed where the chip is
+pub record Allowed (k : Core) (opcode : ℕ) : Type 0 where
+  pub known : rowOf opcode .known ≡ true
+  pub asleep : k .deep ≡ true → opcode ≡ wake
+  pub while-running : running k ≡ true → rowOf opcode .running ≡ true
+  pub while-suspended : k .suspended ≡ true → rowOf opcode .suspended ≡ true
+
+-- a test `a && not b` that failed says that a means b
+means : (a b : Bool) → (a && not b) ≡ false → a ≡ true → b ≡ true
+means true true h e = refl
+means true false h e = sym h
+means false b h e = absurd (false≢true e)
+
+pub allowed : (k : Core) (opcode : ℕ) → judge k opcode ≡ 0 → Allowed k opcode
+unfolding judge
+allowed k opcode =
+    go (rowOf opcode .known) (k .deep && not (eqb opcode wake)) (running k && not (rowOf opcode .running)) (k .suspended && not (rowOf opcode .suspended)) refl refl refl refl
+  where
+    go : (a d r s : Bool) → rowOf opcode .known ≡ a → (k .deep && not (eqb opcode wake)) ≡ d → (running k && not (rowOf opcode .running)) ≡ r
+        → (k .suspended && not (rowOf opcode .suspended)) ≡ s → _≡_ {A = ℕ} (cond (not a) 3 (cond d 5 (cond r 6 (cond s 7 0)))) 0
+        → Allowed k opcode
+    go true false false false p q u v h =
+        record
+        { known = p
+        ; asleep = λ e. eqb-true _ _ (means (k .deep) (eqb opcode wake) q e)
+        ; while-running = means (running k) (rowOf opcode .running) u
+        ; while-suspended = means (k .suspended) (rowOf opcode .suspended) v
+        }
+    go true false false true p q u v h = absurd (omega arith)
+    go true false true s p q u v h = absurd (omega arith)
+    go true true r s p q u v h = absurd (omega arith)
+    go false d r s p q u v h = absurd (omega arith)

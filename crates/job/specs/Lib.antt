@@ -1,2 +1,3 @@
 pub mod Tick
 pub mod Laws
+pub mod Legality
