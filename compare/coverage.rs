@@ -110,7 +110,7 @@ fn wanted(job: usize, fate: usize) -> usize {
 }
 
 /// Situations that have to occur, beside the cells of the tables.
-const SITUATIONS: [&str; 21] = [
+const SITUATIONS: [&str; 24] = [
     "working tick inside a frame",
     "last step inside a frame",
     "frame judged 6, ended without a job",
@@ -132,6 +132,9 @@ const SITUATIONS: [&str; 21] = [
     "run with the exact room",
     "script of 65,536 bytes done",
     "empty script done",
+    "lent frame, ended",
+    "lent frame, byte driven",
+    "lent frame, job begun",
 ];
 
 /// All that has occurred.
@@ -139,7 +142,7 @@ pub struct Coverage {
     verdicts: [[u64; 13]; 23],
     refusals: [[u64; 8]; 3],
     fates: Vec<Vec<BTreeSet<u32>>>,
-    situations: [u64; 21],
+    situations: [u64; 24],
     over_top: [[u64; 2]; 6],
     rules: [u64; 14],
     has_lent: bool,
@@ -156,7 +159,7 @@ impl Coverage {
             verdicts: [[0; 13]; 23],
             refusals: [[0; 8]; 3],
             fates: vec![vec![BTreeSet::new(); FATES.len()]; JOBS.len()],
-            situations: [0; 21],
+            situations: [0; 24],
             over_top: [[0; 2]; 6],
             rules: [0; 14],
             has_lent,
@@ -164,6 +167,14 @@ impl Coverage {
             frame_bytes: 0,
             last_status: None,
             memory: vec![0; LENGTHS[5]],
+        }
+    }
+
+    /// Takes note of a situation, if it has occurred.
+    fn saw(&mut self, name: &str, occurred: bool) {
+        if occurred {
+            let number = SITUATIONS.iter().position(|known| *known == name);
+            self.situations[number.expect("a situation of the list")] += 1;
         }
     }
 
@@ -206,11 +217,14 @@ impl Coverage {
 
     /// Takes note of a run as a whole.
     fn note_run(&mut self, before: &Chip, script: &[u8], spare: i64, after: &Chip) {
-        self.situations[16] += u64::from(before.frame.byte_count > 0 && !script.is_empty());
-        self.situations[17] += u64::from(after.frame.byte_count > 0 && !script.is_empty());
-        self.situations[18] += u64::from(spare == 0 && !script.is_empty());
-        self.situations[19] += u64::from(script.len() == 65_536);
-        self.situations[20] += u64::from(script.is_empty());
+        self.saw(
+            "run that begins inside a frame",
+            before.frame.byte_count > 0 && !script.is_empty(),
+        );
+        self.saw("run that ends inside a frame", after.frame.byte_count > 0 && !script.is_empty());
+        self.saw("run with the exact room", spare == 0 && !script.is_empty());
+        self.saw("script of 65,536 bytes done", script.len() == 65_536);
+        self.saw("empty script done", script.is_empty());
     }
 
     /// Applies events to the model's chip once more, over a memory whose content does not matter.
@@ -221,7 +235,7 @@ impl Coverage {
             let answer = model::event(&mut chip, memory, event.0, event.1);
             self.note_job(&before, *event, answer.record, &chip, length);
             match event.0 {
-                1 => self.situations[9] += u64::from(before.selected),
+                1 => self.saw("select while selected", before.selected),
                 2 => self.note_exchange(&before, answer.record, length),
                 3 | 8 => self.note_deselect(&before, answer.record, length),
                 4 | 5 => self.note_ticks(&before, &chip, answer.ticks),
@@ -241,19 +255,25 @@ impl Coverage {
 
     /// Takes note of an exchange.
     fn note_exchange(&mut self, before: &Chip, record: Record, length: usize) {
-        self.situations[10] += u64::from(!before.selected);
+        self.saw("exchange unselected", !before.selected);
         self.frame_bytes += usize::from(before.selected);
         let Record::Driven(byte) = record else { return };
+        self.saw("lent frame, byte driven", self.frame_lent);
         let frame = &before.frame;
         match frame.opcode {
             0x05 => {
-                self.situations[6] += u64::from(byte & 1 == 1);
-                self.situations[7] += u64::from(byte & 0x40 != 0);
-                self.situations[8] += u64::from(self.last_status.is_some_and(|last| last != byte));
+                self.saw("status read while running", byte & 1 == 1);
+                self.saw("status read while suspended", byte & 0x40 != 0);
+                self.saw(
+                    "status read, changed by ticks between two bytes",
+                    self.last_status.is_some_and(|last| last != byte),
+                );
                 self.last_status = Some(byte);
             }
-            0xAB => self.situations[11] += u64::from(before.deep),
-            0x9F => self.situations[12] += u64::from(frame.read_place == 0 && self.frame_bytes > 2),
+            0xAB => self.saw("device ID driven asleep", before.deep),
+            0x9F => {
+                self.saw("JEDEC cycle come round", frame.read_place == 0 && self.frame_bytes > 2)
+            }
             0x03 | 0x0B => {
                 let fast = usize::from(frame.opcode == 0x0B);
                 let crossed = frame.read_place == 0 && self.frame_bytes > 5 + fast;
@@ -268,8 +288,8 @@ impl Coverage {
     /// Takes note of ticks.
     fn note_ticks(&mut self, before: &Chip, after: &Chip, ticks: u64) {
         let inside = before.frame.byte_count > 0;
-        self.situations[0] += u64::from(inside && ticks > 0);
-        self.situations[1] += u64::from(inside && ticks > 0 && after.job.is_none());
+        self.saw("working tick inside a frame", inside && ticks > 0);
+        self.saw("last step inside a frame", inside && ticks > 0 && after.job.is_none());
     }
 
     /// Takes note of a deselect and its verdict.
@@ -284,13 +304,21 @@ impl Coverage {
             let opcode = Some(frame.opcode);
             COMMANDS.iter().position(|command| command.opcode == opcode).unwrap_or(UNKNOWN)
         };
+        self.saw("lent frame, ended", self.frame_lent);
+        self.saw("lent frame, job begun", self.frame_lent && verdict == 2);
         if !self.frame_lent {
             self.verdicts[row][usize::from(verdict)] += 1;
             self.note_load(before, verdict, length);
         }
-        self.situations[2] += u64::from(frame.judgement == Some(6) && before.job.is_none());
-        self.situations[13] += u64::from(row == EMPTY && before.armed);
-        self.situations[14] += u64::from(row < EMPTY && before.armed && frame.opcode != 0x99);
+        self.saw(
+            "frame judged 6, ended without a job",
+            frame.judgement == Some(6) && before.job.is_none(),
+        );
+        self.saw("arming kept over an empty frame", row == EMPTY && before.armed);
+        self.saw(
+            "arming lost by another frame",
+            row < EMPTY && before.armed && !matches!(frame.opcode, 0x66 | 0x99),
+        );
         self.close_frame();
     }
 
@@ -300,11 +328,11 @@ impl Coverage {
             return;
         }
         let address = before.frame.address as usize;
-        self.situations[5] += u64::from(address >= length);
+        self.saw("address beyond the memory length", address >= length);
         if matches!(before.frame.opcode, 0x02 | 0x0A) {
             let data = self.frame_bytes.saturating_sub(4);
-            self.situations[3] += u64::from(address % 256 + data > 256);
-            self.situations[4] += u64::from(data > 256);
+            self.saw("load that wraps", address % 256 + data > 256);
+            self.saw("load of more than 256 bytes", data > 256);
         }
     }
 
@@ -332,7 +360,7 @@ impl Coverage {
             (7, _, _) => 6 + suspended,
             _ => return,
         };
-        self.situations[15] += u64::from(fate == 3 && job.steps_done > 0);
+        self.saw("job begun while suspended after ticks", fate == 3 && job.steps_done > 0);
         self.fates[row][fate].insert(job.steps_done);
     }
 

@@ -144,7 +144,7 @@ impl<'a> Writer<'a> {
         self.events.push((kind, body));
     }
 
-    /// Selects, with any number in the place of the body that the event has not.
+    /// Selects.
     pub fn select(&mut self) {
         self.put(1, 0);
     }
@@ -366,10 +366,10 @@ impl<'a> Writer<'a> {
         bytes
     }
 
-    /// A frame that may begin a job of a class, or one over a protected target.
-    pub fn job_frame(&mut self, class: Class, protection: bool) -> Vec<u8> {
+    /// A frame that begins a job of a class, if there is a target that is not protected.
+    pub fn job_frame(&mut self, class: Class) -> Vec<u8> {
         let opcode = class.opcode(self.rng);
-        let sector = self.sector(protection).unwrap_or(0);
+        let sector = self.sector(false).unwrap_or(0);
         let address = self.address_in(sector);
         self.whole_frame(opcode, address)
     }
@@ -395,13 +395,13 @@ impl<'a> Writer<'a> {
             self.put(6, 1);
         }
         self.enable();
-        let bytes = self.job_frame(class, false);
+        let bytes = self.job_frame(class);
         self.frame(&bytes);
     }
 
     /// Begins a job of a class in the place of the suspended one.
     pub fn drop_by(&mut self, class: Class) {
-        let bytes = self.job_frame(class, false);
+        let bytes = self.job_frame(class);
         self.frame(&bytes);
     }
 

@@ -157,6 +157,7 @@ impl<'a> Session<'a> {
             self.broken_states(length)?;
         }
         self.all_cells()?;
+        self.lent_frames()?;
         self.all_fates()?;
         for length in LENGTHS {
             self.some_fates(length)?;
@@ -239,6 +240,23 @@ impl<'a> Session<'a> {
         self.open_fresh(LENGTHS[0], 0)?;
         self.one_by_one(&[(1, 0), (3, 0), (3, 0), (1, 0), (8, 3), (8, 7), (2, 0)])?;
         self.close()
+    }
+
+    /// Frames of every opcode and byte count that come with a lent state, gone on with and ended.
+    fn lent_frames(&mut self) -> Outcome {
+        for command in &COMMANDS[..21] {
+            for count in [1, 2, 3, 4, 5, 6].repeat(8) {
+                let length = self.rng.pick(&[LENGTHS[0], LENGTHS[0], LENGTHS[1], LENGTHS[3]]);
+                let opcode = command.opcode.unwrap_or(self.rng.byte());
+                let chip = states::with_frame(&mut self.rng, length, opcode, count);
+                let content = Content::Noise(self.rng.next());
+                self.open(length, Start::Lent(Box::new(chip), Edit::None), content)?;
+                let events = self.write(|writer| writer.go_on());
+                self.deliver(&events)?;
+                self.close()?;
+            }
+        }
+        Ok(())
     }
 
     /// Every fate of every job after every k steps, on the one-sector part.
@@ -369,6 +387,10 @@ impl<'a> Session<'a> {
             }
         };
         self.open(length, start, content)?;
+        if self.bench.chip.selected && self.rng.once_in(2) {
+            let events = self.write(|writer| writer.go_on());
+            self.deliver(&events)?;
+        }
         for _ in 0..4 + self.rng.below(20) {
             match self.rng.below(12) {
                 0 => self.step(Step::HandOver).map(|_| ())?,

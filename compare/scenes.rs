@@ -183,7 +183,8 @@ impl Writer<'_> {
 }
 
 /// The scenes that a random row of events is made of.
-pub const SCENES: [fn(&mut Writer); 13] = [
+pub const SCENES: [fn(&mut Writer); 14] = [
+    |writer| writer.go_on(),
     |writer| writer.any_cell(),
     |writer| writer.any_cell(),
     |writer| writer.any_cell(),
@@ -200,6 +201,16 @@ pub const SCENES: [fn(&mut Writer); 13] = [
 ];
 
 impl Writer<'_> {
+    /// More of the frame that is open, its end, and time for the job that it may have begun.
+    pub fn go_on(&mut self) {
+        let mut bytes = vec![0; self.rng.pick(&[0, 1, 1, 2, 3, 4, 5, 8])];
+        self.rng.fill(&mut bytes);
+        self.send(&bytes);
+        let loose = self.rng.once_in(5);
+        self.finish(loose);
+        self.some_ticks();
+    }
+
     /// Any opcode with any verdict that it can get.
     fn any_cell(&mut self) {
         let command = &COMMANDS[self.rng.below(21)];

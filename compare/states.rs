@@ -146,6 +146,22 @@ pub fn legal(rng: &mut Rng, length: usize) -> Chip {
     chip
 }
 
+/// A legal state with an open frame of an opcode and a byte count, often one that can begin a job.
+pub fn with_frame(rng: &mut Rng, length: usize, opcode: u8, count: u8) -> Chip {
+    let class = any_class(rng);
+    let mut chip = legal_unselected(rng, length, class);
+    if rng.once_in(2) {
+        chip = legal_unselected(rng, length, None);
+        (chip.deep, chip.wen, chip.level) = (false, true, 0);
+    }
+    open_frame(rng, &mut chip, opcode, length);
+    chip.frame.byte_count = count;
+    if !rng.once_in(4) {
+        chip.frame.judgement = None;
+    }
+    chip
+}
+
 /// A state with a job, legal but for what a change does to it.
 fn spoilt_job(
     rng: &mut Rng,

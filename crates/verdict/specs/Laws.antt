@@ -5,8 +5,8 @@ use mathlib.Core.Path.{_≡_, refl, sym, ap, subst, _∙_}
 use native.Mathlib.Omega.{arith}
 use lib.Dec.{eqb}
 use borrow.Author.Tests.{eq-eqb, ne-eqb, eqb-true, eqb-false}
-use Rattle.cells.specs.Choice.{cond-yes, cond-no, and-left, and-right}
-use Rattle.part.specs.Table.{rowOf, fitsRule, isRead}
+use Rattle.cells.specs.Choice.{cond-yes, cond-no, cond-either, and-left, and-right}
+use Rattle.part.specs.Table.{rowOf, fitsRule, isRead, writeEnable, writeDisable, suspend, resume, wake, deepPowerDown, reset}
 use Rattle.chip.specs.declared.Core.{Core}
 use Rattle.chip.specs.declared.Frame.{Frame}
 use Rattle.chip.specs.declared.JobKind.{JobKind}
@@ -15,7 +15,7 @@ use Rattle.chip.specs.Legal.{judgementKnown}
 use Rattle.frame.specs.Frame.{judge}
 use Rattle.frame.specs.Legality.{judge-known}
 use Rattle.verdict.specs.Verdict.{jobOf, placeOf, targetProtected, pointless, jobVerdict, commandVerdict, listed, verdict}
-use Rattle.verdict.specs.Effect.{armedAs, begins, instantly, acted, settled}
+use Rattle.verdict.specs.Effect.{changed, armedAs, begins, resets, instantly, acted, settled}
 
 -- a judgement is neither 1 nor 2
 known-not-one : (v : ℕ) → judgementKnown v ≡ true → v ≡ 1 → ⊥
@@ -102,3 +102,24 @@ module _ (k : Core) (f : Frame) (loose : Bool) (S n : ℕ) (known : judgementKno
 pub acted-nothing : (k : Core) (f : Frame) (v n : ℕ) → (v ≡ 1 → ⊥) → (v ≡ 2 → ⊥) → acted k f v n ≡ k
 unfolding acted
 acted-nothing k f v n not-one not-two = cond-no (eqb v 2) _ _ (ne-eqb _ _ not-two) ∙ cond-no (eqb v 1) _ _ (ne-eqb _ _ not-one)
+
+-- what holds of each thing done at once holds of what an opcode does
+pub instantly-each : (k : Core) (opcode : ℕ) (P : Core → Type 0)
+    → (opcode ≡ writeEnable → P (changed true (k .suspended) (k .deep) (k .job) k))
+    → (opcode ≡ writeDisable → P (changed false (k .suspended) (k .deep) (k .job) k))
+    → (opcode ≡ suspend → P (changed (k .wen) true (k .deep) (k .job) k))
+    → (opcode ≡ resume → P (changed (k .wen) false (k .deep) (k .job) k))
+    → (opcode ≡ wake → P (changed (k .wen) (k .suspended) false (k .job) k))
+    → (opcode ≡ deepPowerDown → P (changed (k .wen) (k .suspended) true (k .job) k))
+    → (opcode ≡ reset → P (resets k))
+    → P k
+    → P (instantly k opcode)
+unfolding instantly
+instantly-each k opcode P p₁ p₂ p₃ p₄ p₅ p₆ p₇ p₈ =
+    cond-either P (eqb opcode writeEnable) _ _ (λ e. p₁ (eqb-true _ _ e))
+    (λ _. cond-either P (eqb opcode writeDisable) _ _ (λ e. p₂ (eqb-true _ _ e))
+    (λ _. cond-either P (eqb opcode suspend) _ _ (λ e. p₃ (eqb-true _ _ e))
+    (λ _. cond-either P (eqb opcode resume) _ _ (λ e. p₄ (eqb-true _ _ e))
+    (λ _. cond-either P (eqb opcode wake) _ _ (λ e. p₅ (eqb-true _ _ e))
+    (λ _. cond-either P (eqb opcode deepPowerDown) _ _ (λ e. p₆ (eqb-true _ _ e))
+    (λ _. cond-either P (eqb opcode reset) _ _ (λ e. p₇ (eqb-true _ _ e)) (λ _. p₈)))))))

@@ -1,0 +1,195 @@
+-- A legal core stays legal under a deselect.
+use Prim.Native.Nat.{ℕ, _+_, _*_, _-_, _%_, _<_, _≤_}
+use mathlib.Core.Bool.{Bool, true, false, cond, not, _&&_, _||_, false≢true}
+use mathlib.Core.Path.{_≡_, refl, sym, ap, subst, _∙_}
+use native.Mathlib.Nat.{mod-lt}
+use native.Mathlib.Omega.{arith}
+use native.Mathlib.Decide.{ℕ-discrete}
+use lib.Dec.{eqb, leb}
+use borrow.Author.Tests.{eq-eqb, ne-eqb, eqb-true, eqb-false, le-leb, not-true}
+use Rattle.cells.specs.Choice.{cond-either, cond-yes, cond-no, and-left, and-right, and-both, not-so}
+use Rattle.part.specs.Part.{page, smallSector, sector, reduced, roundedDown}
+use Rattle.part.specs.Table.{rowOf, rowIn, isProgram, writeEnable, writeDisable, suspend, resume, wake, deepPowerDown, resetEnable, reset}
+use Rattle.chip.specs.declared.Core.{Core}
+use Rattle.chip.specs.declared.Frame.{Frame}
+use Rattle.chip.specs.declared.Job.{Job}
+use Rattle.chip.specs.declared.JobKind.{JobKind}
+use Rattle.chip.specs.declared.JobKind.the-variants.{Idle, WriteStatus, Program, SmallErase, SectorErase, ChipErase}
+use Rattle.chip.specs.Job.{isJob, hasCells, total, noJob}
+use Rattle.chip.specs.Chip.{running}
+use Rattle.chip.specs.Legal.{placed, alignedTo, judgementKnown}
+use Rattle.chip.specs.Legality.{LegalCore}
+use Rattle.frame.specs.Frame.{judge}
+use Rattle.frame.specs.Laws.{Allowed, allowed}
+use Rattle.verdict.specs.Verdict.{jobOf, placeOf, pointless, verdict}
+use Rattle.verdict.specs.Effect.{changed, armedAs, begins, resets, instantly, acted, settled}
+use Rattle.verdict.specs.Laws.{Begins, ActsAtOnce, verdict-one, verdict-two, acted-nothing, instantly-each}
+
+-- ---- a job that begins
+
+aligned-at : (size p n : ℕ) → p % size ≡ 0 → p + size ≤ n → alignedTo size p n ≡ true
+aligned-at size p n a i = and-both (eqb (p % size) 0) (leb (p + size) n) (eq-eqb _ _ a) (le-leb _ _ i)
+
+-- its place is inside and aligned, on a whole number of sectors
+pub begun-placed : (kind : JobKind) (S n address : ℕ) → 1 ≤ S → S * sector ≡ n → placed kind (placeOf kind n address) n ≡ true
+begun-placed Idle S n address s e = refl
+begun-placed (WriteStatus value) S n address s e = refl
+begun-placed Program S n address s e =
+    let r : address % n < n = mod-lt address (omega arith) in
+    aligned-at page (roundedDown page (reduced n address)) n (omega arith) (omega arith)
+begun-placed SmallErase S n address s e =
+    let r : address % n < n = mod-lt address (omega arith) in
+    aligned-at smallSector (roundedDown smallSector (reduced n address)) n (omega arith) (omega arith)
+begun-placed SectorErase S n address s e =
+    let r : address % n < n = mod-lt address (omega arith) in
+    aligned-at sector (roundedDown sector (reduced n address)) n (omega arith) (omega arith)
+begun-placed ChipErase S n address s e = refl
+
+begun-unfinished : (kind : JobKind) (S : ℕ) → 1 ≤ S → isJob kind ≡ true → 0 < total kind S
+begun-unfinished Idle S s e = absurd (false≢true e)
+begun-unfinished (WriteStatus value) S s e = omega arith
+begun-unfinished Program S s e = omega arith
+begun-unfinished SmallErase S s e = omega arith
+begun-unfinished SectorErase S s e = omega arith
+begun-unfinished ChipErase S s e = omega arith
+
+-- the waking command begins none
+wake-begins-none : (opcode address : ℕ) → opcode ≡ wake → isJob (jobOf opcode address) ≡ false
+unfolding jobOf isProgram
+wake-begins-none opcode address e = rw e
+
+-- ---- what is done at once
+
+-- a core that is neither running nor suspended has no job
+resting-idle : (k : Core) → running k ≡ false → k .suspended ≡ false → isJob (k .job .kind) ≡ false
+resting-idle k r s = go (isJob (k .job .kind)) (k .suspended) s r
+  where
+    go : (j z : Bool) → z ≡ false → (j && not z) ≡ false → j ≡ false
+    go true false p q = q
+    go true true p q = absurd (false≢true (sym p))
+    go false z p q = refl
+
+-- a suspend that has something to act on finds cells
+has : (r h : Bool) → (not (r && h) || false || false) ≡ false → h ≡ true
+has true true e = refl
+has true false e = sym e
+has false h e = absurd (false≢true (sym e))
+
+module _ (S n : ℕ) (k : Core) (l : LegalCore k S n) where
+  -- arming or disarming keeps a core legal that is not both asleep and armed
+  armed-legal : (a : Bool) → (k .deep ≡ true → a ≡ false) → LegalCore (armedAs a k) S n
+  armed-legal a h =
+      record
+      { level-small = l .level-small
+      ; job-placed = l .job-placed
+      ; job-unfinished = l .job-unfinished
+      ; job-enabled = l .job-enabled
+      ; suspended-cells = l .suspended-cells
+      ; deep-idle = l .deep-idle
+      ; deep-unarmed = h
+      }
+
+  -- other flags keep it legal where they agree with the job
+  flags-legal : (wen sus deep a : Bool) → (isJob (k .job .kind) ≡ true → wen ≡ true) → (sus ≡ true → hasCells (k .job .kind) ≡ true)
+      → (deep ≡ true → isJob (k .job .kind) ≡ false) → (deep ≡ true → a ≡ false) → LegalCore (armedAs a (changed wen sus deep (k .job) k)) S n
+  flags-legal wen sus deep a w s d u =
+      record
+      { level-small = l .level-small
+      ; job-placed = l .job-placed
+      ; job-unfinished = l .job-unfinished
+      ; job-enabled = w
+      ; suspended-cells = s
+      ; deep-idle = d
+      ; deep-unarmed = u
+      }
+
+  -- a reset core is legal
+  resets-legal : (a : Bool) → (k .deep ≡ true → a ≡ false) → LegalCore (armedAs a (resets k)) S n
+  resets-legal a u =
+      record
+      { level-small = l .level-small
+      ; job-placed = refl
+      ; job-unfinished = λ e. absurd (false≢true e)
+      ; job-enabled = λ e. absurd (false≢true e)
+      ; suspended-cells = λ e. absurd (false≢true e)
+      ; deep-idle = λ _. refl
+      ; deep-unarmed = u
+      }
+
+  -- a begun job is legal
+  begins-legal : (f : Frame) (a : Bool) → 1 ≤ S → S * sector ≡ n → Begins k f S n → LegalCore (armedAs a (begins k f n)) S n
+  begins-legal f a s e b =
+      record
+      { level-small = l .level-small
+      ; job-placed = begun-placed (jobOf (f .opcode) (f .address)) S n (f .address) s e
+      ; job-unfinished = begun-unfinished (jobOf (f .opcode) (f .address)) S s
+      ; job-enabled = λ _. b .enabled
+      ; suspended-cells = λ h. absurd (false≢true h)
+      ; deep-idle = λ h. absurd (false≢true (sym (awake h) ∙ b .begins-job))
+      ; deep-unarmed = λ h. absurd (false≢true (sym (awake h) ∙ b .begins-job))
+      }
+    where
+      awake : k .deep ≡ true → isJob (jobOf (f .opcode) (f .address)) ≡ false
+      awake h = wake-begins-none (f .opcode) (f .address) (allowed k (f .opcode) (b .judged-none) .asleep h)
+
+  -- an opcode that is refused while running and while suspended finds no job
+  finds-idle : (opcode : ℕ) → Allowed k opcode → rowOf opcode .running ≡ false → rowOf opcode .suspended ≡ false → isJob (k .job .kind) ≡ false
+  finds-idle opcode p r s =
+      resting-idle k (not-so (running k) (λ e. false≢true (sym r ∙ p .while-running e))) (not-so (k .suspended) (λ e. false≢true (sym s ∙ p .while-suspended e)))
+
+  module _ (f : Frame) (acts-now : ActsAtOnce k f) (a : Bool) (arms : a ≡ true → f .opcode ≡ resetEnable) where
+    abbrev open-to : Allowed k (f .opcode)
+    open-to = allowed k (f .opcode) (acts-now .judged-none)
+
+    -- an opcode other than 66h does not arm
+    unarmed : (opcode : ℕ) → f .opcode ≡ opcode → (opcode ≡ resetEnable → ⊥) → a ≡ false
+    unarmed opcode e other = not-so a (λ h. other (sym e ∙ arms h))
+
+    -- asleep only the waking command is heard, which does not arm
+    asleep-unarmed : k .deep ≡ true → a ≡ false
+    asleep-unarmed h = unarmed wake (open-to .asleep h) (λ e. omega arith)
+
+    -- write disable and deep power-down find no job, a suspend finds one with cells
+    idle-at : (opcode : ℕ) → rowOf opcode .running ≡ false → rowOf opcode .suspended ≡ false → f .opcode ≡ opcode → isJob (k .job .kind) ≡ false
+    idle-at opcode r s e = finds-idle opcode (subst (Allowed k) e open-to) r s
+
+    can-suspend : f .opcode ≡ suspend → hasCells (k .job .kind) ≡ true
+    can-suspend e = has (running k) (hasCells (k .job .kind)) (subst (λ (q : ℕ). pointless k q ≡ false) e (acts-now .acts))
+
+    instantly-legal : LegalCore (armedAs a (instantly k (f .opcode))) S n
+    unfolding rowOf rowIn
+    instantly-legal =
+        instantly-each k (f .opcode) (λ (q : Core). LegalCore (armedAs a q) S n)
+        (λ _. flags-legal true (k .suspended) (k .deep) a (λ _. refl) (l .suspended-cells) (l .deep-idle) asleep-unarmed)
+        (λ e. flags-legal false (k .suspended) (k .deep) a (λ j. absurd (false≢true (sym (idle-at writeDisable refl refl e) ∙ j))) (l .suspended-cells) (l .deep-idle) asleep-unarmed)
+        (λ e. flags-legal (k .wen) true (k .deep) a (l .job-enabled) (λ _. can-suspend e) (l .deep-idle) asleep-unarmed)
+        (λ _. flags-legal (k .wen) false (k .deep) a (l .job-enabled) (λ h. absurd (false≢true h)) (l .deep-idle) asleep-unarmed)
+        (λ _. flags-legal (k .wen) (k .suspended) false a (l .job-enabled) (l .suspended-cells) (λ h. absurd (false≢true h)) (λ h. absurd (false≢true h)))
+        (λ e. flags-legal (k .wen) (k .suspended) true a (l .job-enabled) (l .suspended-cells) (λ _. idle-at deepPowerDown refl refl e) (λ _. unarmed deepPowerDown e (λ q. omega arith)))
+        (λ _. resets-legal a asleep-unarmed)
+        (armed-legal a asleep-unarmed)
+
+  -- ---- a verdict
+
+  module _ (f : Frame) (loose : Bool) (s : 1 ≤ S) (e : S * sector ≡ n) (known : judgementKnown (f .judgement) ≡ true) where
+    abbrev v : ℕ
+    v = verdict k f loose S n
+
+    abbrev arms : Bool
+    arms = eqb (f .opcode) resetEnable && eqb v 1
+
+    acted-legal : Dec (v ≡ 2) → Dec (v ≡ 1) → LegalCore (armedAs arms (acted k f v n)) S n
+    unfolding acted
+    acted-legal (yes two) o =
+        subst (λ (q : Core). LegalCore (armedAs arms q) S n) (sym (cond-yes (eqb v 2) _ _ (eq-eqb _ _ two)))
+        (begins-legal f arms s e (verdict-two k f loose S n known two))
+    acted-legal (no two) (yes one) =
+        subst (λ (q : Core). LegalCore (armedAs arms q) S n) (sym (cond-no (eqb v 2) _ _ (ne-eqb _ _ two) ∙ cond-yes (eqb v 1) _ _ (eq-eqb _ _ one)))
+        (instantly-legal f (verdict-one k f loose S n known one) arms (λ h. eqb-true _ _ (and-left (eqb (f .opcode) resetEnable) (eqb v 1) h)))
+    acted-legal (no two) (no one) =
+        subst (λ (q : Core). LegalCore (armedAs arms q) S n) (sym (acted-nothing k f v n one two))
+        (armed-legal arms (λ _. not-so arms (λ h. one (eqb-true _ _ (and-right (eqb (f .opcode) resetEnable) (eqb v 1) h)))))
+
+    pub settled-legal : LegalCore (settled k f v n) S n
+    unfolding settled
+    settled-legal = cond-either (λ (q : Core). LegalCore q S n) (eqb (f .count) 0) _ _ (λ _. l) (λ _. acted-legal (ℕ-discrete v 2) (ℕ-discrete v 1))
