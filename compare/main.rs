@@ -20,7 +20,7 @@ use side::Side;
 use std::process::ExitCode;
 
 /// Random events of the quick run, after those that are planned.
-const QUICK: u64 = 1_000_000;
+const QUICK: u64 = 600_000;
 /// Random events that a planted fault is given to show itself.
 const SELF_TEST: u64 = 200_000;
 

@@ -1,3 +1,4 @@
 pub mod Event
 pub mod Alone
 pub mod Laws
+pub mod Legality
