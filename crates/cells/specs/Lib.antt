@@ -1,3 +1,4 @@
 pub mod Choice
 pub mod Cells
 pub mod Laws
+pub mod Stepping

@@ -2,3 +2,4 @@ pub mod Event
 pub mod Alone
 pub mod Laws
 pub mod Legality
+pub mod Keeps
