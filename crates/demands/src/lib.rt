@@ -1,0 +1,1 @@
+// The three demands as theorems, the worked examples and the unique answers: specs/ has them all, and no code stands here.
