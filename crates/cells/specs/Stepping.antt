@@ -39,16 +39,16 @@ pub record Machine (World Event : Type 0) (step : Steps) (total : ℕ) : Type 1 
 
 module _ {World Event : Type 0} {step : Steps} {total : ℕ} (M : Machine World Event step total) where
   -- the world after a list of events, and the working ticks among them
-  pub after : List Event → World → World
+  unfoldable pub after : List Event → World → World
   after [] w = w
   after (e ∷ es) w = after es (M .next e w)
 
-  pub count : List Event → World → ℕ
+  unfoldable pub count : List Event → World → ℕ
   count [] w = 0
   count (e ∷ es) w = M .worked e w + count es (M .next e w)
 
   -- no event of the list drops the job or begins another
-  pub AllSpare : List Event → World → Type 0
+  unfoldable pub AllSpare : List Event → World → Type 0
   AllSpare [] w = Unit {0}
   AllSpare (e ∷ es) w = M .Spares e w × AllSpare es (M .next e w)
 

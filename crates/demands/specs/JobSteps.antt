@@ -187,7 +187,7 @@ module _ (S : ℕ) (kind : JobKind) (place : ℕ) (page : List ℕ) (bits : Bits
   -- ---- one event
 
   -- what an event from step i leaves: its working ticks' steps are done, and the job goes on or is over
-  abbrev Goes : ℕ → List ℕ → Outcome → Type 0
+  abbrev pub Goes : ℕ → List ℕ → Outcome → Type 0
   Goes i m o =
       (o .memory ≡ laid stepOf i (o .ticks) m)
       × (((i + o .ticks < total kind S) × AtStep (i + o .ticks) (o .chip)) ⊎ ((i + o .ticks ≡ total kind S) × JobOver (o .chip)))
@@ -273,7 +273,7 @@ module _ (S : ℕ) (kind : JobKind) (place : ℕ) (page : List ℕ) (bits : Bits
     over-rests = ap (λ (b : Bool). b && not (c .core .suspended)) (over .no-job)
 
     -- an event that begins none leaves it so
-    abbrev Rests : Outcome → Type 0
+    abbrev pub Rests : Outcome → Type 0
     Rests o = (o .memory ≡ m) × (o .ticks ≡ 0) × JobOver (o .chip)
 
     unchanged-rests : (o : Outcome) → Unchanged c m o → Rests o
@@ -298,23 +298,24 @@ module _ (S : ℕ) (kind : JobKind) (place : ℕ) (page : List ℕ) (bits : Bits
 
   -- ---- the machine
 
-  pub machine : Machine World Event stepOf (total kind S)
+  -- an event of a world
+  abbrev pub happens : Event → World → Outcome
+  happens e w = applied S (w .chip) (w .memory) (e .kind) (e .body)
+
+  pub went : (i : ℕ) (o : Outcome) (m : List ℕ) → Goes i m o
+      → (o .memory ≡ laid stepOf i (o .ticks) m)
+      × (((i + o .ticks < total kind S) × ((i + o .ticks < total kind S) × AtStep (i + o .ticks) (o .chip))) ⊎ ((i + o .ticks ≡ total kind S) × JobOver (o .chip)))
+  went i o m g = (g .0, ⊎-elim (λ on. inl (on .0, (on .0, on .1))) (λ end. inr end) (g .1))
+
+  abbrev pub machine : Machine World Event stepOf (total kind S)
   machine =
       record
-      { next = λ e w. after w (applied S (w .chip) (w .memory) (e .kind) (e .body))
+      { next = λ e w. after w (happens e w)
       ; memory = λ w. w .memory
-      ; worked = λ e w. applied S (w .chip) (w .memory) (e .kind) (e .body) .ticks
+      ; worked = λ e w. happens e w .ticks
       ; At = λ i w. (i < total kind S) × AtStep i (w .chip)
       ; Over = λ w. JobOver (w .chip)
       ; Spares = λ e w. Spares S (w .chip) (w .memory) (e .kind)
-      ; goes = λ i e w a s. went i e w (a .0) (event-goes i (w .chip) (w .memory) (a .1) (a .0) (e .kind) (e .body) s)
+      ; goes = λ i e w a s. went i (happens e w) (w .memory) (event-goes i (w .chip) (w .memory) (a .1) (a .0) (e .kind) (e .body) s)
       ; rests = λ e w o s. event-rests (w .chip) (w .memory) o (e .kind) (e .body) s
       }
-    where
-      went : (i : ℕ) (e : Event) (w : World) → i < total kind S → Goes i (w .memory) (applied S (w .chip) (w .memory) (e .kind) (e .body))
-          → (applied S (w .chip) (w .memory) (e .kind) (e .body) .memory ≡ laid stepOf i (applied S (w .chip) (w .memory) (e .kind) (e .body) .ticks) (w .memory))
-          × (((i + applied S (w .chip) (w .memory) (e .kind) (e .body) .ticks < total kind S)
-          × ((i + applied S (w .chip) (w .memory) (e .kind) (e .body) .ticks < total kind S)
-          × AtStep (i + applied S (w .chip) (w .memory) (e .kind) (e .body) .ticks) (applied S (w .chip) (w .memory) (e .kind) (e .body) .chip)))
-          ⊎ ((i + applied S (w .chip) (w .memory) (e .kind) (e .body) .ticks ≡ total kind S) × JobOver (applied S (w .chip) (w .memory) (e .kind) (e .body) .chip)))
-      went i e w h g = (g .0, ⊎-elim (λ on. inl (on .0, (on .0, on .1))) (λ end. inr end) (g .1))

@@ -1,1 +1,3 @@
 pub mod JobSteps
+pub mod Demand3
+pub mod Examples

@@ -1,0 +1,21 @@
+-- Unique answers (01, What every contract has to settle): any two answers, chips at exit and memories at exit that a contract of this crate allows are equal.
+use Prim.Native.Nat.{ℕ}
+use mathlib.Core.List.{List}
+use mathlib.Core.Path.{_≡_, sym, _∙_}
+use Rattle.chip.specs.declared.Chip.{Chip}
+use Rattle.event.specs.declared.Answer.{Answer}
+use Rattle.event.specs.Alone.{answerOf, memoryOf}
+
+-- `event_on`: r the answer, d the lent chip at exit, z the memory at exit
+pub event-on-unique : (c : Chip) (m : List ℕ) (kind body : ℕ) (r r′ : Answer) (d d′ : Chip) (z z′ : List ℕ)
+    → (r ≡ answerOf c m kind body) × (d ≡ answerOf c m kind body .chip) × (z ≡ memoryOf c m kind body)
+    → (r′ ≡ answerOf c m kind body) × (d′ ≡ answerOf c m kind body .chip) × (z′ ≡ memoryOf c m kind body)
+    → (r ≡ r′) × (d ≡ d′) × (z ≡ z′)
+event-on-unique c m kind body r r′ d d′ z z′ h h′ = (h .0 ∙ sym (h′ .0), h .1 ∙ sym (h′ .1), h .2 ∙ sym (h′ .2))
+
+-- `event_by_lending`: r the answer, z the memory at exit
+pub event-by-lending-unique : (c : Chip) (m : List ℕ) (kind body : ℕ) (r r′ : Answer) (z z′ : List ℕ)
+    → (r ≡ answerOf c m kind body) × (z ≡ memoryOf c m kind body)
+    → (r′ ≡ answerOf c m kind body) × (z′ ≡ memoryOf c m kind body)
+    → (r ≡ r′) × (z ≡ z′)
+event-by-lending-unique c m kind body r r′ z z′ h h′ = (h .0 ∙ sym (h′ .0), h .1 ∙ sym (h′ .1))
