@@ -1,15 +1,23 @@
 -- The worked examples P1 to P10 of 01, proved of the definitions: each a claim, all of them rows under one theorem, `worked-examples`.
-use Prim.Native.Nat.{ℕ, zero, suc, _+_, _%_, _<_, _≤_}
+use Prim.Native.Nat.{ℕ, zero, suc, _+_, _%_, _<_, _≤_, zero-le}
 use mathlib.Core.Bool.{Bool, true, false}
 use mathlib.Core.List.{List, [], _∷_, _++_}
 use mathlib.Core.Path.{_≡_, refl, sym, ap, _∙_}
+use mathlib.Core.Logic.{inl, inr}
+use native.Mathlib.Nat.{zero-add, add-zero}
 use native.Mathlib.Omega.{arith}
+use lib.Bits.{bitAnd}
 use lib.Dec.{eqb, ltb, leb}
 use lib.ListN.{length, getD, replicate}
-use Rattle.part.specs.Part.{permitted, jedecByte}
+use borrow.Author.Tests.{lt-ltb, le-leb}
+use Rattle.cells.specs.Cells.{sweep, later, blanked, anded}
+use Rattle.cells.specs.Laws.{sweep-changes, sweep-outside}
 use Rattle.part.specs.Table.{rowOf, rowIn, fitsRule, isRead, isProgram}
 use Rattle.part.specs.Protection.{protectedCount, protectedSector}
 use Rattle.chip.specs.declared.Chip.{Chip}
+use Rattle.chip.specs.declared.Core.{Core}
+use Rattle.chip.specs.declared.JobKind.{JobKind}
+use Rattle.chip.specs.Job.{steps}
 use Rattle.chip.specs.Chip.{fresh, statusByte}
 use Rattle.job.specs.Tick.{tickCore, tickMemory, ticksCore, ticksMemory, worked}
 use Rattle.frame.specs.Frame.{judge, taken, exchanged}
@@ -17,8 +25,10 @@ use Rattle.verdict.specs.Verdict.{jobOf, jobVerdict, commandVerdict, listed, ve
 use Rattle.verdict.specs.Effect.{instantly, acted, settled}
 use Rattle.event.specs.Event.{applied}
 use Rattle.event.specs.Alone.{knownKind, bodyLength, inRange}
-use Rattle.script.specs.Script.{faultAt, walk, eventsFrom, events}
+use Rattle.script.specs.Script.{Event, faultAt, walk, eventsFrom, events}
 use Rattle.script.specs.Run.{World, world, runs}
+use Rattle.chip.specs.declared.JobKind.the-variants.{Program, SmallErase}
+use Rattle.demands.specs.Demand3.{UnderWay, AllSpare, workedBy, k-steps}
 
 -- ---- how a row is written
 
@@ -124,3 +134,138 @@ P10 = (m : List ℕ) → played 1 0x00 (frame (0x20 ∷ 0x00 ∷ 0x00 ∷ [])) m
 p10 : P10
 unfolding runs eventsFrom walk faultAt knownKind bodyLength inRange applied exchanged taken judge fresh rowOf rowIn isProgram verdict listed isRead fitsRule settled acted
 p10 m = refl
+
+p7 : P7
+unfolding runs eventsFrom walk faultAt knownKind bodyLength inRange applied exchanged taken judge fresh rowOf rowIn isProgram verdict listed isRead commandVerdict jobVerdict jobOf fitsRule settled acted instantly protectedSector protectedCount
+p7 = (sectors-all, refl)
+  where
+    sectors-all : (tb : Bool) (x : ℕ) → x < 1 → protectedSector 5 tb 1 x ≡ true
+    sectors-all true x h = lt-ltb x 1 h
+    sectors-all false x h = le-leb 0 x zero-le
+
+-- ---- P5 and P9, on any memory: the job begun by a frame, and n ticks of it
+
+-- the event of n ticks
+abbrev pub ticks : ℕ → Event
+ticks n = record { offset = 0; kind = 5; body = n; fault = 0 }
+
+spared : (n : ℕ) (w : World) → AllSpare 1 (ticks n ∷ []) w
+unfolding AllSpare knownKind
+spared n w = (record { known = refl; no-power-cut = λ e. omega arith; clean-spares = λ e. absurd (omega arith); loose-spares = λ e. absurd (omega arith) }, tt)
+
+-- P5: "0Fh programmed over F0h: 00h"
+abbrev pub programming : List ℕ → World
+programming m = played 1 0x00 (frame (0x06 ∷ []) ++ frame (0x02 ∷ 0 ∷ 0 ∷ 0 ∷ 0x0F ∷ [])) m
+
+abbrev pub P5 : Type 0
+P5 = (m : List ℕ) → length m ≡ 65536 → getD m 0 0 ≡ 0xF0 → getD (runs 1 (ticks 16 ∷ []) (programming m) .memory) 0 0 ≡ 0x00
+
+-- P9: "after 15 ticks of a small sector erase: last 256 bytes old, status 03h; after 16: blank, 00h"
+abbrev pub erasing : List ℕ → World
+erasing m = played 1 0x00 (frame (0x06 ∷ []) ++ frame (0x20 ∷ 0 ∷ 0 ∷ 0 ∷ [])) m
+
+abbrev pub P9 : Type 0
+P9 =
+    (m : List ℕ) → length m ≡ 65536
+    → ((i : ℕ) → i < 3840 → getD (runs 1 (ticks 15 ∷ []) (erasing m) .memory) i 0 ≡ 0xFF)
+    × ((i : ℕ) → 3840 ≤ i → getD (runs 1 (ticks 15 ∷ []) (erasing m) .memory) i 0 ≡ getD m i 0)
+    × (statusByte (runs 1 (ticks 15 ∷ []) (erasing m) .chip .core) ≡ 0x03)
+    × ((i : ℕ) → i < 4096 → getD (runs 1 (ticks 16 ∷ []) (erasing m) .memory) i 0 ≡ 0xFF)
+    × ((i : ℕ) → 4096 ≤ i → getD (runs 1 (ticks 16 ∷ []) (erasing m) .memory) i 0 ≡ getD m i 0)
+    × (statusByte (runs 1 (ticks 16 ∷ []) (erasing m) .chip .core) ≡ 0x00)
+
+-- the core that a begun job leaves, of that kind at place 0
+abbrev begunCore : JobKind → Core
+begunCore kind =
+    record
+    { level = 0; tb = false; srwp = false; wen = true; suspended = false; wp = true; deep = false; armed = false; job = record { kind = kind; place = 0; done = 0 } }
+
+-- n ticks of it, at the core
+ticked-core : (n : ℕ) (w : World) → runs 1 (ticks n ∷ []) w .chip .core ≡ ticksCore 1 n (w .chip .core)
+unfolding runs applied
+ticked-core n w = refl
+
+ticked-works : (n : ℕ) (w : World) → workedBy 1 (ticks n ∷ []) w ≡ worked 1 n (w .chip .core)
+unfolding workedBy applied
+ticked-works n w = add-zero (worked 1 n (w .chip .core))
+
+-- and at the memory, where all of them work
+ticked-memory : (n : ℕ) (kind : JobKind) (w : World) → UnderWay 1 kind 0 (w .chip .page) 0 w → worked 1 n (w .chip .core) ≡ n
+    → runs 1 (ticks n ∷ []) w .memory ≡ steps kind 0 (w .chip .page) 0 n (w .memory)
+ticked-memory n kind w job e =
+    k-steps 1 kind 0 (w .chip .page) 0 w job (ticks n ∷ []) (spared n w) .memory-is
+    ∙ ap (λ (k : ℕ). steps kind 0 (w .chip .page) 0 k (w .memory)) (ticked-works n w ∙ e)
+
+erasing-core : (m : List ℕ) → length m ≡ 65536 → erasing m .chip .core ≡ begunCore SmallErase
+unfolding runs eventsFrom walk faultAt knownKind bodyLength inRange applied exchanged taken judge fresh rowOf rowIn isProgram verdict listed isRead commandVerdict jobVerdict jobOf fitsRule settled acted instantly protectedSector protectedCount
+erasing-core m h = rw h refl
+
+erasing-memory : (m : List ℕ) → erasing m .memory ≡ m
+unfolding runs eventsFrom walk faultAt knownKind bodyLength inRange applied exchanged taken judge fresh rowOf rowIn isProgram verdict listed isRead commandVerdict jobVerdict jobOf fitsRule settled acted instantly protectedSector protectedCount
+erasing-memory m = refl
+
+erasing-job : (m : List ℕ) → length m ≡ 65536 → UnderWay 1 SmallErase 0 (erasing m .chip .page) 0 (erasing m)
+erasing-job m h = record { job-is = ap (λ (k : Core). k .job) (erasing-core m h); load-is = refl; steps-left = omega arith }
+
+closed-works : (worked 1 15 (begunCore SmallErase) ≡ 15) × (worked 1 16 (begunCore SmallErase) ≡ 16) × (worked 1 16 (begunCore Program) ≡ 16)
+    × (statusByte (ticksCore 1 15 (begunCore SmallErase)) ≡ 0x03) × (statusByte (ticksCore 1 16 (begunCore SmallErase)) ≡ 0x00)
+unfolding worked ticksCore tickCore statusByte
+closed-works = (refl, refl, refl, refl, refl)
+
+erased : (n : ℕ) (m : List ℕ) → length m ≡ 65536 → worked 1 n (begunCore SmallErase) ≡ n → runs 1 (ticks n ∷ []) (erasing m) .memory ≡ steps SmallErase 0 (erasing m .chip .page) 0 n m
+erased n m h e =
+    ticked-memory n SmallErase (erasing m) (erasing-job m h) (ap (worked 1 n) (erasing-core m h) ∙ e)
+    ∙ ap (steps SmallErase 0 (erasing m .chip .page) 0 n) (erasing-memory m)
+
+erased-status : (n v : ℕ) (m : List ℕ) → length m ≡ 65536 → statusByte (ticksCore 1 n (begunCore SmallErase)) ≡ v → statusByte (runs 1 (ticks n ∷ []) (erasing m) .chip .core) ≡ v
+erased-status n v m h e = ap statusByte (ticked-core n (erasing m) ∙ ap (ticksCore 1 n) (erasing-core m h)) ∙ e
+
+p9 : P9
+p9 m h =
+    let a = erased 15 m h (closed-works .0) in
+    let b = erased 16 m h (closed-works .1) in
+    ( λ i l. ap (λ (q : List ℕ). getD q i 0) a ∙ blank-below 3840 m i l (omega arith)
+    , λ i l. ap (λ (q : List ℕ). getD q i 0) a ∙ sweep-outside (later blanked 0) m 0 3840 i (inr (omega arith))
+    , erased-status 15 0x03 m h (closed-works .3)
+    , λ i l. ap (λ (q : List ℕ). getD q i 0) b ∙ blank-below 4096 m i l (omega arith)
+    , λ i l. ap (λ (q : List ℕ). getD q i 0) b ∙ sweep-outside (later blanked 0) m 0 4096 i (inr (omega arith))
+    , erased-status 16 0x00 m h (closed-works .4))
+  where
+    blank-below : (n : ℕ) (m : List ℕ) (i : ℕ) → i < n → i < length m → getD (sweep (later blanked 0) m 0 n) i 0 ≡ 0xFF
+    blank-below n m i l k =
+        ap (λ (q : ℕ). getD (sweep (later blanked 0) m 0 n) q 0) (sym (zero-add i)) ∙ sweep-changes (later blanked 0) m 0 n i l (omega arith)
+
+programming-core : (m : List ℕ) → length m ≡ 65536 → programming m .chip .core ≡ begunCore Program
+unfolding runs eventsFrom walk faultAt knownKind bodyLength inRange applied exchanged taken judge fresh rowOf rowIn isProgram verdict listed isRead commandVerdict jobVerdict jobOf fitsRule settled acted instantly protectedSector protectedCount
+programming-core m h = rw h refl
+
+programming-memory : (m : List ℕ) → programming m .memory ≡ m
+unfolding runs eventsFrom walk faultAt knownKind bodyLength inRange applied exchanged taken judge fresh rowOf rowIn isProgram verdict listed isRead commandVerdict jobVerdict jobOf fitsRule settled acted instantly protectedSector protectedCount
+programming-memory m = refl
+
+programming-load : (m : List ℕ) → length m ≡ 65536 → getD (programming m .chip .page) 0 0 ≡ 0x0F
+unfolding runs eventsFrom walk faultAt knownKind bodyLength inRange applied exchanged taken judge fresh rowOf rowIn isProgram verdict listed isRead commandVerdict jobVerdict jobOf fitsRule settled acted instantly protectedSector protectedCount
+programming-load m h = rw h refl
+
+programming-job : (m : List ℕ) → length m ≡ 65536 → UnderWay 1 Program 0 (programming m .chip .page) 0 (programming m)
+programming-job m h = record { job-is = ap (λ (k : Core). k .job) (programming-core m h); load-is = refl; steps-left = omega arith }
+
+p5 : P5
+p5 m h c =
+    ap (λ (q : List ℕ). getD q 0 0)
+    (ticked-memory 16 Program (programming m) (programming-job m h) (ap (worked 1 16) (programming-core m h) ∙ closed-works .2)
+    ∙ ap (steps Program 0 (programming m .chip .page) 0 16) (programming-memory m))
+    ∙ sweep-changes (later (anded (programming m .chip .page)) 0) m 0 256 0 (omega arith) (omega arith)
+    ∙ ap (λ (old : ℕ). bitAnd old (getD (programming m .chip .page) 0 0)) c
+    ∙ ap (bitAnd 0xF0) (programming-load m h)
+
+-- ---- all of them under one claim
+
+-- each row of a list holds
+abbrev pub Rows : List (Type 0) → Type 0
+Rows [] = Unit {0}
+Rows (row ∷ rows) = row × Rows rows
+
+-- P1 to P10 hold of the definitions.
+pub worked-examples : Rows (P1 ∷ P2 ∷ P3 ∷ P4 ∷ P5 ∷ P6 ∷ P7 ∷ P8 ∷ P9 ∷ P10 ∷ [])
+worked-examples = (p1, (p2, (p3, (p4, (p5, (p6, (p7, (p8, (p9, (p10, tt))))))))))
