@@ -1,0 +1,159 @@
+-- Demand 1. Every event, script, memory length and chip state gets an answer, exactly one; a bad one is refused by a number of 01's table, with chip state,
+-- memory and output as they were.
+use Prim.Native.Nat.{ℕ, _<_, _≤_, zero-le}
+use mathlib.Core.Bool.{Bool, true, false, cond, not, true≢false, false≢true}
+use mathlib.Core.List.{List, [], _∷_, _++_}
+use mathlib.Core.Path.{_≡_, refl, sym, ap, subst, _∙_}
+use mathlib.Core.Logic.{_↔_}
+use native.Mathlib.Decide.{ℕ-discrete}
+use native.Mathlib.Omega.{arith}
+use lib.Dec.{eqb, ltb}
+use lib.ListN.{length}
+use borrow.Author.Tests.{eq-eqb, ne-eqb, eqb-true, eqb-false, ltb-true, ltb-false, lt-ltb, le-ltb}
+use Rattle.cells.specs.Choice.{cond-yes, cond-no}
+use Rattle.part.specs.Part.{permitted}
+use Rattle.chip.specs.declared.Chip.{Chip}
+use Rattle.chip.specs.declared.Record.the-variants.{Nothing}
+use Rattle.chip.specs.Legal.{legal}
+use Rattle.event.specs.declared.Answer.{Answer}
+use Rattle.event.specs.Alone.{knownKind, inRange}
+use Rattle.event.specs.Alone as Alone
+use Rattle.event.specs.Laws as EventLaws
+use Rattle.script.specs.declared.Ran.{Ran}
+use Rattle.script.specs.Script.{Event, Refusal, refusalOf, events, eventsFrom, walk, firstBad, room}
+use Rattle.script.specs.Run as Run
+use Rattle.script.specs.Laws as ScriptLaws
+
+-- ---- one event alone
+
+-- Which number refuses an event: 1, 2, 5, 6 or 0, each when, and only then, 01's table says so, in 01's order.
+pub record RefusedWhen (number : ℕ) (length-permitted state-legal kind-known body-in-range : Bool) : Type 0 where
+  pub one : number ≡ 1 ↔ length-permitted ≡ false
+  pub two : number ≡ 2 ↔ (length-permitted ≡ true) × (state-legal ≡ false)
+  pub five : number ≡ 5 ↔ (length-permitted ≡ true) × (state-legal ≡ true) × (kind-known ≡ false)
+  pub six : number ≡ 6 ↔ (length-permitted ≡ true) × (state-legal ≡ true) × (kind-known ≡ true) × (body-in-range ≡ false)
+  pub none : number ≡ 0 ↔ (length-permitted ≡ true) × (state-legal ≡ true) × (kind-known ≡ true) × (body-in-range ≡ true)
+
+number-when : (p l k r : Bool) → RefusedWhen (cond (not p) 1 (cond (not l) 2 (cond (not k) 5 (cond (not r) 6 0)))) p l k r
+number-when false l k r =
+    record
+    { one = (λ _. refl, λ _. refl)
+    ; two = (λ e. absurd (omega arith), λ e. absurd (false≢true (e .0)))
+    ; five = (λ e. absurd (omega arith), λ e. absurd (false≢true (e .0)))
+    ; six = (λ e. absurd (omega arith), λ e. absurd (false≢true (e .0)))
+    ; none = (λ e. absurd (omega arith), λ e. absurd (false≢true (e .0)))
+    }
+number-when true false k r =
+    record
+    { one = (λ e. absurd (omega arith), λ e. absurd (true≢false e))
+    ; two = (λ _. (refl, refl), λ _. refl)
+    ; five = (λ e. absurd (omega arith), λ e. absurd (false≢true (e .1)))
+    ; six = (λ e. absurd (omega arith), λ e. absurd (false≢true (e .1)))
+    ; none = (λ e. absurd (omega arith), λ e. absurd (false≢true (e .1)))
+    }
+number-when true true false r =
+    record
+    { one = (λ e. absurd (omega arith), λ e. absurd (true≢false e))
+    ; two = (λ e. absurd (omega arith), λ e. absurd (true≢false (e .1)))
+    ; five = (λ _. (refl, refl, refl), λ _. refl)
+    ; six = (λ e. absurd (omega arith), λ e. absurd (false≢true (e .2)))
+    ; none = (λ e. absurd (omega arith), λ e. absurd (false≢true (e .2)))
+    }
+number-when true true true false =
+    record
+    { one = (λ e. absurd (omega arith), λ e. absurd (true≢false e))
+    ; two = (λ e. absurd (omega arith), λ e. absurd (true≢false (e .1)))
+    ; five = (λ e. absurd (omega arith), λ e. absurd (true≢false (e .2)))
+    ; six = (λ _. (refl, refl, refl, refl), λ _. refl)
+    ; none = (λ e. absurd (omega arith), λ e. absurd (false≢true (e .3)))
+    }
+number-when true true true true =
+    record
+    { one = (λ e. absurd (omega arith), λ e. absurd (true≢false e))
+    ; two = (λ e. absurd (omega arith), λ e. absurd (true≢false (e .1)))
+    ; five = (λ e. absurd (omega arith), λ e. absurd (true≢false (e .2)))
+    ; six = (λ e. absurd (omega arith), λ e. absurd (true≢false (e .3)))
+    ; none = (λ _. (refl, refl, refl, refl), λ _. refl)
+    }
+
+pub event-refused-when : (c : Chip) (n kind body : ℕ) → RefusedWhen (Alone.refusal c n kind body) (permitted n) (legal c n) (knownKind kind) (inRange kind body)
+unfolding Alone.refusal
+event-refused-when c n kind body = number-when (permitted n) (legal c n) (knownKind kind) (inRange kind body)
+
+-- A refused event leaves chip and memory as they were, says nothing and works no tick.
+pub event-refused-keeps : (c : Chip) (m : List ℕ) (kind body : ℕ) → (Alone.refusal c (length m) kind body ≡ 0 → ⊥)
+    → (Alone.answerOf c m kind body ≡ record { chip = c; said = Nothing; refusal = Alone.refusal c (length m) kind body; ticks = 0 }) × (Alone.memoryOf c m kind body ≡ m)
+event-refused-keeps c m kind body no-done = (EventLaws.answer-refused c m kind body no-done, EventLaws.memory-refused c m kind body no-done)
+
+-- ---- a script run
+
+-- Which number refuses a run: 1, 2, 3, the first bad event's, 7, or none, in 01's order.
+pub record RunRefusedWhen (r bad : Refusal) (length-permitted state-legal too-long clean too-little-room : Bool) : Type 0 where
+  pub one : length-permitted ≡ false → r ≡ refusalOf 1 0
+  pub two : length-permitted ≡ true → state-legal ≡ false → r ≡ refusalOf 2 0
+  pub three : length-permitted ≡ true → state-legal ≡ true → too-long ≡ true → r ≡ refusalOf 3 0
+  pub bad-event : length-permitted ≡ true → state-legal ≡ true → too-long ≡ false → clean ≡ false → r ≡ bad
+  pub seven : length-permitted ≡ true → state-legal ≡ true → too-long ≡ false → clean ≡ true → too-little-room ≡ true → r ≡ refusalOf 7 0
+  pub none : length-permitted ≡ true → state-legal ≡ true → too-long ≡ false → clean ≡ true → too-little-room ≡ false → r ≡ refusalOf 0 0
+
+pub run-refused-when : (c : Chip) (n : ℕ) (s : List ℕ) (space : ℕ)
+    → RunRefusedWhen (Run.refusal c n s space) (firstBad (events s)) (permitted n) (legal c n) (ltb 65536 (length s)) (eqb (firstBad (events s) .number) 0) (ltb space (room (events s)))
+run-refused-when c n s space =
+    record
+    { one = ScriptLaws.refusal-length c n s space
+    ; two = ScriptLaws.refusal-state c n s space
+    ; three = λ p l t. ScriptLaws.refusal-long c n s space p l (ltb-true _ _ t)
+    ; bad-event = λ p l t b. ScriptLaws.refusal-bad c n s space p l (ltb-false _ _ t) (eqb-false _ _ b)
+    ; seven = λ p l t b q. ScriptLaws.refusal-room c n s space p l (ltb-false _ _ t) (eqb-true _ _ b) (ltb-true _ _ q)
+    ; none = λ p l t b q. ScriptLaws.refusal-none c n s space p l (ltb-false _ _ t) (eqb-true _ _ b) (ltb-false _ _ q)
+    }
+
+-- A run is done exactly when nothing refuses it: those five tests all pass.
+pub run-done-when : (c : Chip) (n : ℕ) (s : List ℕ) (space : ℕ) → Run.refusal c n s space .number ≡ 0
+    → (permitted n ≡ true) × (legal c n ≡ true) × (length s ≤ 65536) × (firstBad (events s) .number ≡ 0) × (room (events s) ≤ space)
+run-done-when c n s space h =
+    let a = ScriptLaws.accepted c n s space h in
+    (a .length-permitted, a .state-legal, a .script-playable .short, a .script-playable .clean, a .script-playable .roomy)
+
+-- The first bad event decides: every event before it is good, its fault is the number, and its offset is given.
+pub record FirstBad (es : List Event) (r : Refusal) : Type 0 where
+  pub before : List Event
+  pub bad : Event
+  pub behind : List Event
+  pub in-order : es ≡ before ++ (bad ∷ behind)
+  pub before-good : firstBad before .number ≡ 0
+  pub is-bad : bad .fault ≡ 0 → ⊥
+  pub told : r ≡ refusalOf (bad .fault) (bad .offset)
+
+pub first-bad-decides : (es : List Event) → (firstBad es .number ≡ 0 → ⊥) → FirstBad es (firstBad es)
+unfolding firstBad
+first-bad-decides [] h = absurd (h refl)
+first-bad-decides (e ∷ es) h = go (first-bad-decides es) (ℕ-discrete (e .fault) 0)
+  where
+    go : ((firstBad es .number ≡ 0 → ⊥) → FirstBad es (firstBad es)) → Dec (e .fault ≡ 0) → FirstBad (e ∷ es) (cond (eqb (e .fault) 0) (firstBad es) (refusalOf (e .fault) (e .offset)))
+    go later (no b) = record { before = []; bad = e; behind = es; in-order = refl; before-good = refl; is-bad = b; told = cond-no (eqb (e .fault) 0) _ _ (ne-eqb _ _ b) }
+    go later (yes g) =
+        let skips : cond (eqb (e .fault) 0) (firstBad es) (refusalOf (e .fault) (e .offset)) ≡ firstBad es = cond-yes (eqb (e .fault) 0) _ _ (eq-eqb _ _ g) in
+        let f = later (λ z. h (ap (λ (r : Refusal). r .number) skips ∙ z)) in
+        record
+        { before = e ∷ f .before
+        ; bad = f .bad
+        ; behind = f .behind
+        ; in-order = ap (λ (x : List Event). e ∷ x) (f .in-order)
+        ; before-good = ap (λ (r : Refusal). r .number) (cond-yes (eqb (e .fault) 0) (firstBad (f .before)) _ (eq-eqb _ _ g)) ∙ f .before-good
+        ; is-bad = f .is-bad
+        ; told = skips ∙ f .told
+        }
+
+-- A refused run leaves chip, memory and output as they were, with both numbers 0.
+pub run-refused-keeps : (c : Chip) (m s out : List ℕ) → (Run.refusal c (length m) s (length out) .number ≡ 0 → ⊥)
+    → (Run.answerOf c m s out ≡ Run.refused c (Run.refusal c (length m) s (length out))) × (Run.memoryOf c m s out ≡ m) × (Run.outputOf c m s out ≡ out)
+run-refused-keeps c m s out no-done = (ScriptLaws.answer-refused c m s out no-done, ScriptLaws.memory-refused c m s out no-done, ScriptLaws.output-refused c m s out no-done)
+
+-- An empty script is done and changes nothing, on every legal state of a permitted length.
+pub empty-script : (c : Chip) (m out : List ℕ) → permitted (length m) ≡ true → legal c (length m) ≡ true
+    → (Run.answerOf c m [] out ≡ record { chip = c; refusal = 0; offset = 0; written = 0; ticks = 0 }) × (Run.memoryOf c m [] out ≡ m) × (Run.outputOf c m [] out ≡ out)
+unfolding Run.outcome Run.runs eventsFrom walk firstBad room
+empty-script c m out p l =
+    let ok : Run.refusal c (length m) [] (length out) .number ≡ 0 = ap (λ (r : Refusal). r .number) (ScriptLaws.refusal-none c (length m) [] (length out) p l (omega arith) refl zero-le) in
+    (ScriptLaws.answer-done c m [] out ok, ScriptLaws.memory-done c m [] out ok, ScriptLaws.output-done c m [] out ok)
