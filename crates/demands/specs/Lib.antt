@@ -1,4 +1,6 @@
 pub mod JobSteps
 pub mod Demand3
 pub mod Demand1
+pub mod Demand2
+pub mod Unique
 pub mod Examples

@@ -1,0 +1,206 @@
+-- Demand 2. Each event does what the datasheet says, as 01 condenses it. The engine equals the definitions by its contracts (`event::event`, `script::run`);
+-- here stands what a datasheet reader looks for in them.
+use Prim.Native.Nat.{ℕ, zero, suc, _+_, _*_, _-_, _/_, _%_, _<_, _≤_}
+use mathlib.Core.Bool.{Bool, true, false, cond, not, _&&_, _||_, false≢true}
+use mathlib.Core.List.{List, [], _∷_}
+use mathlib.Core.Path.{_≡_, refl, sym, ap, _∙_}
+use mathlib.Core.Logic.{_⊎_, inl, inr}
+use native.Mathlib.Nat.{add-zero, mul-one, mul-zero, mod-lt, mod-self, mod-eq-of-lt, mod-add-mod}
+use native.Mathlib.Decide.{decLt}
+use native.Mathlib.Omega.{arith}
+use lib.Dec.{eqb, ltb, leb}
+use lib.ListN.{length, getD, set}
+use borrow.Author.Tests.{lt-ltb, le-ltb, le-leb, lt-leb, leb-true, ne-eqb}
+use Rattle.cells.specs.Choice.{cond-yes, cond-no, cond-either}
+use Rattle.part.specs.Part.{sector}
+use Rattle.part.specs.Table.{rowOf, fitsRule, isRead, lowPowerRead, highSpeedRead, wake}
+use Rattle.part.specs.Protection.{protectedCount, protectedSector}
+use Rattle.part.specs.Laws.{protectedCount-le}
+use Rattle.chip.specs.declared.Core.{Core}
+use Rattle.chip.specs.declared.Frame.{Frame}
+use Rattle.chip.specs.declared.JobKind.{JobKind}
+use Rattle.chip.specs.declared.Record.the-variants.{Driven}
+use Rattle.chip.specs.Job.{isJob, hasCells}
+use Rattle.chip.specs.Chip.{running, statusByte}
+use Rattle.frame.specs.Frame.{judge, counted, nextPlace, reading, readsCell, taken, exchange}
+use Rattle.frame.specs.Laws.{taken-cell}
+use Rattle.verdict.specs.Verdict.{jobOf, placeOf, targetProtected, pointless, jobVerdict, commandVerdict, listed, verdict}
+
+-- ---- verdicts: "The first that applies"
+
+-- a list of tests with their numbers, and the number of the first that holds
+pub record Test : Type 0 where
+  pub applies : Bool
+  pub number : ℕ
+
+abbrev pub test : ℕ → Bool → Test
+test number applies = record { applies = applies; number = number }
+
+abbrev pub firstOf : List Test → ℕ → ℕ
+firstOf [] otherwise = otherwise
+firstOf (t ∷ ts) otherwise = cond (t .applies) (t .number) (firstOf ts otherwise)
+
+-- 01's list, in 01's words and order, for a frame with judgement none; what none of it takes is 1, done at once
+abbrev pub paperList : Core → Frame → Bool → ℕ → ℕ → List Test
+paperList k f loose S n =
+    test 0 (eqb (f .count) 0)
+    ∷ test 3 (not (rowOf (f .opcode) .known))
+    ∷ test 5 (k .deep && not (eqb (f .opcode) wake))
+    ∷ test 6 (running k && not (rowOf (f .opcode) .running))
+    ∷ test 7 (k .suspended && not (rowOf (f .opcode) .suspended))
+    ∷ test 0 (isRead (f .opcode))
+    ∷ test 4 (loose || not (fitsRule (rowOf (f .opcode) .rule) (f .count)))
+    ∷ test 11 (pointless k (f .opcode))
+    ∷ test 12 (isJob (jobOf (f .opcode) (f .address)) && (hasCells (jobOf (f .opcode) (f .address)) && k .suspended && not (k .wen)))
+    ∷ test 8 (isJob (jobOf (f .opcode) (f .address)) && not (k .wen))
+    ∷ test 10 (isJob (jobOf (f .opcode) (f .address)) && (not (hasCells (jobOf (f .opcode) (f .address))) && k .srwp && not (k .wp)))
+    ∷ test 9 (isJob (jobOf (f .opcode) (f .address)) && targetProtected k (jobOf (f .opcode) (f .address)) S (placeOf (jobOf (f .opcode) (f .address)) n (f .address)))
+    ∷ test 2 (isJob (jobOf (f .opcode) (f .address)))
+    ∷ []
+
+-- The verdict is the first of that list that applies.
+pub verdict-first : (k : Core) (f : Frame) (loose : Bool) (S n : ℕ) → f .judgement ≡ 0 → verdict k f loose S n ≡ firstOf (paperList k f loose S n) 1
+unfolding verdict listed commandVerdict jobVerdict judge
+verdict-first k f loose S n h =
+    ap (λ (v : ℕ). cond (eqb (f .count) 0) 0 (cond (not (eqb v 0)) v (listed k f loose S n))) h
+    ∙ go (eqb (f .count) 0) (rowOf (f .opcode) .known) (k .deep && not (eqb (f .opcode) wake)) (running k && not (rowOf (f .opcode) .running)) (k .suspended && not (rowOf (f .opcode) .suspended))
+    (isRead (f .opcode)) (loose || not (fitsRule (rowOf (f .opcode) .rule) (f .count))) (pointless k (f .opcode)) (isJob kind) (hasCells kind && k .suspended && not (k .wen)) (not (k .wen))
+    (not (hasCells kind) && k .srwp && not (k .wp)) (targetProtected k kind S (placeOf kind n (f .address)))
+  where
+    kind : JobKind
+    kind = jobOf (f .opcode) (f .address)
+
+    go : (e a d r s i b p j t w u q : Bool)
+        → _≡_ {A = ℕ}
+        (cond e 0
+        (cond (not (eqb (cond (not a) 3 (cond d 5 (cond r 6 (cond s 7 0)))) 0)) (cond (not a) 3 (cond d 5 (cond r 6 (cond s 7 0))))
+        (cond i 0 (cond b 4 (cond p 11 (cond j (cond t 12 (cond w 8 (cond u 10 (cond q 9 2)))) 1))))))
+        (cond e 0 (cond (not a) 3 (cond d 5 (cond r 6 (cond s 7 (cond i 0 (cond b 4 (cond p 11 (cond (j && t) 12 (cond (j && w) 8 (cond (j && u) 10 (cond (j && q) 9 (cond j 2 1)))))))))))))
+    go true a d r s i b p j t w u q = refl
+    go false false d r s i b p j t w u q = refl
+    go false true true r s i b p j t w u q = refl
+    go false true false true s i b p j t w u q = refl
+    go false true false false true i b p j t w u q = refl
+    go false true false false false i b p true t w u q = refl
+    go false true false false false i b p false t w u q = refl
+
+-- "A judgement once given is the verdict"; an empty frame is 0.
+pub verdict-judged : (k : Core) (f : Frame) (loose : Bool) (S n : ℕ) → (f .count ≡ 0 → ⊥) → (f .judgement ≡ 0 → ⊥) → verdict k f loose S n ≡ f .judgement
+unfolding verdict
+verdict-judged k f loose S n c j = cond-no (eqb (f .count) 0) _ _ (ne-eqb _ _ c) ∙ cond-yes (not (eqb (f .judgement) 0)) _ _ (ap not (ne-eqb _ _ j))
+
+-- ---- the status byte, bit by bit
+
+pub record StatusBits (k : Core) : Type 0 where
+  pub rdy : statusByte k % 2 ≡ cond (running k) 1 0
+  pub wen : statusByte k / 2 % 2 ≡ cond (k .wen) 1 0
+  pub bp : statusByte k / 4 % 8 ≡ k .level
+  pub tb : statusByte k / 32 % 2 ≡ cond (k .tb) 1 0
+  pub sus : statusByte k / 64 % 2 ≡ cond (k .suspended) 1 0
+  pub srwp : statusByte k / 128 ≡ cond (k .srwp) 1 0
+
+pub status-bits : (k : Core) → k .level ≤ 7 → StatusBits k
+unfolding statusByte
+status-bits k h =
+    let r = weight (running k) 1 in
+    let e = weight (k .wen) 2 in
+    let t = weight (k .tb) 32 in
+    let u = weight (k .suspended) 64 in
+    let p = weight (k .srwp) 128 in
+    record
+    { rdy = omega (arith, r .1, e .0, e .1, t .0, t .1, u .0, u .1, p .0, p .1)
+    ; wen = omega (arith, r .1, e .0, e .1, t .0, t .1, u .0, u .1, p .0, p .1)
+    ; bp = omega (arith, r .1, e .0, e .1, t .0, t .1, u .0, u .1, p .0, p .1)
+    ; tb = omega (arith, r .1, e .0, e .1, t .0, t .1, u .0, u .1, p .0, p .1)
+    ; sus = omega (arith, r .1, e .0, e .1, t .0, t .1, u .0, u .1, p .0, p .1)
+    ; srwp = omega (arith, r .1, e .0, e .1, t .0, t .1, u .0, u .1, p .0, p .1)
+    }
+  where
+    weight : (b : Bool) (w : ℕ) → (_≡_ {A = ℕ} (cond b w 0) (w * cond b 1 0)) × (_≤_ (cond b 1 0) 1)
+    weight true w = (sym (mul-one w), omega arith)
+    weight false w = (sym (mul-zero w), omega arith)
+
+-- ---- reads: "Reads go up by one; after the last address comes 0", over any number of bytes
+
+-- the frame after j data bytes of a read of cells, in a memory of n cells
+unfoldable pub readOn : ℕ → ℕ → Frame → Frame
+readOn n zero f = f
+readOn n (suc j) f = reading n (readOn n j f)
+
+nextPlace-mod : (n p : ℕ) → p < n → nextPlace n p ≡ (p + 1) % n
+nextPlace-mod n p h = go (decLt (p + 1) n)
+  where
+    go : Dec (p + 1 < n) → nextPlace n p ≡ (p + 1) % n
+    go (yes l) = cond-yes (ltb (p + 1) n) _ _ (lt-ltb _ _ l) ∙ sym (mod-eq-of-lt l)
+    go (no l) =
+        let e : p + 1 ≡ n = omega arith in
+        cond-no (ltb (p + 1) n) _ _ (le-ltb _ _ (omega arith)) ∙ sym (ap (λ (q : ℕ). q % n) e ∙ mod-self n)
+
+-- the read place after j bytes from place p: p + j, modulo the memory's length
+pub read-place : (n j : ℕ) (f : Frame) → f .place < n → readOn n j f .place ≡ (f .place + j) % n
+unfolding readOn
+read-place n zero f h = ap (λ (q : ℕ). q) (sym (ap (λ (q : ℕ). q % n) (add-zero (f .place)) ∙ mod-eq-of-lt h))
+read-place n (suc j) f h =
+    let before : readOn n j f .place ≡ (f .place + j) % n = read-place n j f h in
+    let some : 0 < n = omega arith in
+    let inside : (f .place + j) % n < n = mod-lt (f .place + j) some in
+    ap (nextPlace n) before ∙ nextPlace-mod n ((f .place + j) % n) inside ∙ mod-add-mod (f .place + j) n 1 ∙ ap (λ (q : ℕ). q % n) (omega arith)
+
+-- The j-th data byte of a read is the cell at (place + j) mod length, for every j.
+pub reads-go-round : (k : Core) (f : Frame) (load m : List ℕ) (b j : ℕ) → f .place < length m → readsCell (readOn (length m) j f) ≡ true
+    → taken k (readOn (length m) j f) load m b ≡ exchange (Driven (getD m ((f .place + j) % length m) 0)) (readOn (length m) (suc j) f) load
+unfolding readOn
+reads-go-round k f load m b j h r =
+    taken-cell k (readOn (length m) j f) load m b r
+    ∙ ap (λ (p : ℕ). exchange (Driven (getD m p 0)) (reading (length m) (readOn (length m) j f)) load) (read-place (length m) j f h)
+
+-- and every later byte of a read is data of that read
+or-right : (a b : Bool) → b ≡ true → (a || b) ≡ true
+or-right true b h = refl
+or-right false b h = h
+
+pub reads-go-on : (n j : ℕ) (f : Frame) → readsCell f ≡ true → readsCell (readOn n j f) ≡ true
+unfolding readOn
+reads-go-on n zero f h = h
+reads-go-on n (suc j) f h = next (readOn n j f) (reads-go-on n j f h)
+  where
+    up : (c : ℕ) (i : ℕ) → i ≤ 6 → leb i c ≡ true → leb i (counted c) ≡ true
+    up c i l e = cond-either (λ (q : ℕ). leb i q ≡ true) (ltb c 6) (c + 1) 6 (λ _. le-leb i (c + 1) (omega (arith, leb-true i c e))) (λ _. le-leb i 6 l)
+
+    join : (a b d e d′ e′ : Bool) → (d ≡ true → d′ ≡ true) → (e ≡ true → e′ ≡ true) → (a && d || b && e) ≡ true → (a && d′ || b && e′) ≡ true
+    join true b true e d′ e′ p q x = ap (λ (t : Bool). t || b && e′) (p refl)
+    join true true false e d′ e′ p q x = or-right d′ e′ (q x)
+    join true false false e d′ e′ p q x = absurd (false≢true x)
+    join false true d e d′ e′ p q x = q x
+    join false false d e d′ e′ p q x = x
+
+    next : (g : Frame) → readsCell g ≡ true → readsCell (reading n g) ≡ true
+    next g e =
+        join (eqb (g .opcode) lowPowerRead) (eqb (g .opcode) highSpeedRead) (leb 4 (g .count)) (leb 5 (g .count)) (leb 4 (counted (g .count))) (leb 5 (counted (g .count)))
+        (up (g .count) 4 (omega arith)) (up (g .count) 5 (omega arith)) e
+
+-- ---- the load: "Data byte j, from 0, goes to offset (address + j) mod 256, later bytes over earlier"
+
+-- a load after these data bytes, the first of them at offset o
+unfoldable pub loadAfter : List ℕ → ℕ → List ℕ → List ℕ
+loadAfter [] o load = load
+loadAfter (b ∷ bs) o load = loadAfter bs ((o + 1) % 256) (set load o b)
+
+-- ---- protection by address: the two ends of the protected range
+
+-- A place is protected exactly when its sector is among the first (TB 1) or the last (TB 0) of the level's count.
+pub protected-bottom : (L S place : ℕ) → place < protectedCount L S * sector → protectedSector L true S (place / sector) ≡ true
+unfolding protectedSector
+protected-bottom L S place h = lt-ltb (place / sector) (protectedCount L S) (omega arith)
+
+pub free-above : (L S place : ℕ) → protectedCount L S * sector ≤ place → protectedSector L true S (place / sector) ≡ false
+unfolding protectedSector
+free-above L S place h = le-ltb (place / sector) (protectedCount L S) (omega arith)
+
+pub protected-top : (L S place : ℕ) → (S - protectedCount L S) * sector ≤ place → protectedSector L false S (place / sector) ≡ true
+unfolding protectedSector
+protected-top L S place h = le-leb (S - protectedCount L S) (place / sector) (omega arith)
+
+pub free-below : (L S place : ℕ) → place < (S - protectedCount L S) * sector → protectedSector L false S (place / sector) ≡ false
+unfolding protectedSector
+free-below L S place h = lt-leb (S - protectedCount L S) (place / sector) (omega arith)
