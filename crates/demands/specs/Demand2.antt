@@ -9,21 +9,22 @@ use native.Mathlib.Nat.{add-zero, mul-one, mul-zero, mod-lt, mod-self, mod-eq-of
 use native.Mathlib.Decide.{decLt}
 use native.Mathlib.Omega.{arith}
 use lib.Dec.{eqb, ltb, leb}
-use lib.ListN.{length, getD, set}
-use borrow.Author.Tests.{lt-ltb, le-ltb, le-leb, lt-leb, leb-true, ne-eqb}
-use Rattle.cells.specs.Choice.{cond-yes, cond-no, cond-either}
-use Rattle.part.specs.Part.{sector}
-use Rattle.part.specs.Table.{rowOf, fitsRule, isRead, lowPowerRead, highSpeedRead, wake}
+use lib.ListN.{length, getD, set, length-set}
+use lib.Seq.{getD-set-same, getD-set-other}
+use borrow.Author.Tests.{lt-ltb, le-ltb, le-leb, lt-leb, leb-true, eqb-true, eq-eqb, ne-eqb}
+use Rattle.cells.specs.Choice.{cond-yes, cond-no, cond-either, and-left, and-right, and-both}
+use Rattle.part.specs.Part.{sector, jedecByte, deviceByte}
+use Rattle.part.specs.Table.{rowOf, fitsRule, isRead, isProgram, pageProgram, pageProgram′, lowPowerRead, highSpeedRead, jedecId, wake}
 use Rattle.part.specs.Protection.{protectedCount, protectedSector}
 use Rattle.part.specs.Laws.{protectedCount-le}
 use Rattle.chip.specs.declared.Core.{Core}
 use Rattle.chip.specs.declared.Frame.{Frame}
 use Rattle.chip.specs.declared.JobKind.{JobKind}
-use Rattle.chip.specs.declared.Record.the-variants.{Driven}
+use Rattle.chip.specs.declared.Record.the-variants.{Floating, Driven}
 use Rattle.chip.specs.Job.{isJob, hasCells}
 use Rattle.chip.specs.Chip.{running, statusByte}
-use Rattle.frame.specs.Frame.{judge, counted, nextPlace, reading, readsCell, taken, exchange}
-use Rattle.frame.specs.Laws.{taken-cell}
+use Rattle.frame.specs.Frame.{judge, counted, nextPlace, counting, reading, loading, readsCell, takesData, taken, Exchange, exchange}
+use Rattle.frame.specs.Laws.{taken-cell, taken-data, taken-jedec, taken-device}
 use Rattle.verdict.specs.Verdict.{jobOf, placeOf, targetProtected, pointless, jobVerdict, commandVerdict, listed, verdict}
 
 -- ---- verdicts: "The first that applies"
@@ -134,7 +135,12 @@ nextPlace-mod n p h = go (decLt (p + 1) n)
     go (yes l) = cond-yes (ltb (p + 1) n) _ _ (lt-ltb _ _ l) ∙ sym (mod-eq-of-lt l)
     go (no l) =
         let e : p + 1 ≡ n = omega arith in
-        cond-no (ltb (p + 1) n) _ _ (le-ltb _ _ (omega arith)) ∙ sym (ap (λ (q : ℕ). q % n) e ∙ mod-self n)
+        cond-no (ltb (p + 1) n) _ _ (le-ltb (p + 1) n (omega arith)) ∙ sym (ap (λ (q : ℕ). q % n) e ∙ mod-self n)
+
+opcode-stays : (n j : ℕ) (f : Frame) → readOn n j f .opcode ≡ f .opcode
+unfolding readOn
+opcode-stays n zero f = refl
+opcode-stays n (suc j) f = opcode-stays n j f
 
 -- the read place after j bytes from place p: p + j, modulo the memory's length
 pub read-place : (n j : ℕ) (f : Frame) → f .place < n → readOn n j f .place ≡ (f .place + j) % n
@@ -185,6 +191,83 @@ reads-go-on n (suc j) f h = next (readOn n j f) (reads-go-on n j f h)
 unfoldable pub loadAfter : List ℕ → ℕ → List ℕ → List ℕ
 loadAfter [] o load = load
 loadAfter (b ∷ bs) o load = loadAfter bs ((o + 1) % 256) (set load o b)
+
+-- an offset that no byte falls on keeps what it held
+load-spares : (bs : List ℕ) (o : ℕ) (load : List ℕ) (p : ℕ) → o < 256 → ((i : ℕ) → i < length bs → (o + i) % 256 ≡ p → ⊥) → getD (loadAfter bs o load) p 0 ≡ getD load p 0
+unfolding loadAfter
+load-spares [] o load p l h = refl
+load-spares (b ∷ bs) o load p l h =
+    load-spares bs ((o + 1) % 256) (set load o b) p (omega arith) (λ i q e. h (suc i) (omega arith) (omega arith))
+    ∙ getD-set-other load o p b 0 (λ e. h 0 (omega arith) (omega arith))
+
+-- The last 256 data bytes stand at their own offsets: byte j of any number of bytes, if no 256 come after it, is at (address + j) mod 256.
+pub load-keeps-last : (bs : List ℕ) (o : ℕ) (load : List ℕ) (j : ℕ) → o < 256 → length load ≡ 256 → j < length bs → length bs ≤ j + 256
+    → getD (loadAfter bs o load) ((o + j) % 256) 0 ≡ getD bs j 0
+unfolding loadAfter
+load-keeps-last [] o load j l e h g = absurd (omega arith)
+load-keeps-last (b ∷ bs) o load zero l e h g =
+    let z : (o + 0) % 256 ≡ o = omega arith in
+    ap (λ (q : ℕ). getD (loadAfter bs ((o + 1) % 256) (set load o b)) q 0) z
+    ∙ load-spares bs ((o + 1) % 256) (set load o b) o (omega arith) (λ i q x. omega arith)
+    ∙ getD-set-same load o b 0 (omega arith)
+load-keeps-last (b ∷ bs) o load (suc j) l e h g =
+    let z : (o + suc j) % 256 ≡ ((o + 1) % 256 + j) % 256 = omega arith in
+    ap (λ (q : ℕ). getD (loadAfter bs ((o + 1) % 256) (set load o b)) q 0) z
+    ∙ load-keeps-last bs ((o + 1) % 256) (set load o b) j (omega arith) (length-set load o b ∙ e) (omega arith) (omega arith)
+
+-- the frame and load after these bytes of a frame with judgement none
+unfoldable pub fed : Core → List ℕ → List ℕ → Frame → List ℕ → Exchange
+fed k m [] f load = exchange Floating f load
+fed k m (b ∷ bs) f load = fed k m bs (taken k f load m b .frame) (taken k f load m b .load)
+
+-- a byte of a page program is no read of cells
+data-no-cell : (f : Frame) → takesData f ≡ true → readsCell f ≡ false
+unfolding isProgram
+data-no-cell f h = go (and-left (isProgram (f .opcode)) (leb 4 (f .count)) h)
+  where
+    closed : (a b : Bool) (x : ℕ) → f .opcode ≡ x → (eqb x lowPowerRead && a || eqb x highSpeedRead && b) ≡ false → (eqb (f .opcode) lowPowerRead && a || eqb (f .opcode) highSpeedRead && b) ≡ false
+    closed a b x e q = ap (λ (y : ℕ). eqb y lowPowerRead && a || eqb y highSpeedRead && b) e ∙ q
+
+    go : (eqb (f .opcode) pageProgram || eqb (f .opcode) pageProgram′) ≡ true → readsCell f ≡ false
+    go e = either (eqb (f .opcode) pageProgram) (eqb (f .opcode) pageProgram′) refl refl e
+      where
+        either : (a b : Bool) → eqb (f .opcode) pageProgram ≡ a → eqb (f .opcode) pageProgram′ ≡ b → (a || b) ≡ true → readsCell f ≡ false
+        either true b p q x = closed (leb 4 (f .count)) (leb 5 (f .count)) pageProgram (eqb-true _ _ p) refl
+        either false true p q x = closed (leb 4 (f .count)) (leb 5 (f .count)) pageProgram′ (eqb-true _ _ q) refl
+        either false false p q x = absurd (false≢true x)
+
+data-goes-on : (f : Frame) → takesData f ≡ true → takesData (loading f) ≡ true
+data-goes-on f h = and-both (isProgram (f .opcode)) _ (and-left (isProgram (f .opcode)) (leb 4 (f .count)) h) (up (leb-true 4 (f .count) (and-right (isProgram (f .opcode)) (leb 4 (f .count)) h)))
+  where
+    up : 4 ≤ f .count → leb 4 (counted (f .count)) ≡ true
+    up l = cond-either (λ (q : ℕ). leb 4 q ≡ true) (ltb (f .count) 6) (f .count + 1) 6 (λ _. le-leb 4 (f .count + 1) (omega arith)) (λ _. refl)
+
+-- The load of a page program after any number of data bytes.
+pub load-after-data : (k : Core) (m bs : List ℕ) (f : Frame) (load : List ℕ) → takesData f ≡ true → fed k m bs f load .load ≡ loadAfter bs (f .offset) load
+unfolding fed loadAfter
+load-after-data k m [] f load h = refl
+load-after-data k m (b ∷ bs) f load h =
+    let one : taken k f load m b ≡ exchange Floating (loading f) (set load (f .offset) b) = taken-data k f load m b (data-no-cell f h) h in
+    ap (λ (e : Exchange). fed k m bs (e .frame) (e .load) .load) one ∙ load-after-data k m bs (loading f) (set load (f .offset) b) (data-goes-on f h)
+
+-- ---- identities: "9Fh .. from byte 2, repeating in that cycle; ABh 88h from byte 5 on"
+
+-- The j-th byte from byte 2 of a 9Fh frame that began at place 0 of the cycle.
+pub jedec-goes-round : (k : Core) (f : Frame) (load m : List ℕ) (b j : ℕ) → f .place < 4 → f .opcode ≡ jedecId
+    → taken k (readOn 4 j f) load m b ≡ exchange (Driven (jedecByte ((f .place + j) % 4))) (readOn 4 (suc j) f) load
+unfolding readOn isProgram
+jedec-goes-round k f load m b j h e =
+    let op : readOn 4 j f .opcode ≡ jedecId = opcode-stays 4 j f ∙ e in
+    taken-jedec k (readOn 4 j f) load m b (ap (λ (q : ℕ). eqb q lowPowerRead && leb 4 (readOn 4 j f .count) || eqb q highSpeedRead && leb 5 (readOn 4 j f .count)) op)
+    (ap (λ (q : ℕ). isProgram q && leb 4 (readOn 4 j f .count)) op) (λ x. omega arith) op
+    ∙ ap (λ (p : ℕ). exchange (Driven (jedecByte p)) (reading 4 (readOn 4 j f)) load) (read-place 4 j f h)
+
+-- From byte 5 on an ABh frame drives 88h.
+pub device-byte : (k : Core) (f : Frame) (load m : List ℕ) (b : ℕ) → f .opcode ≡ wake → 4 ≤ f .count → taken k f load m b ≡ exchange (Driven deviceByte) (counting f) load
+unfolding isProgram
+device-byte k f load m b e h =
+    taken-device k f load m b (ap (λ (q : ℕ). eqb q lowPowerRead && leb 4 (f .count) || eqb q highSpeedRead && leb 5 (f .count)) e) (ap (λ (q : ℕ). isProgram q && leb 4 (f .count)) e) (λ x. omega arith) (λ x. omega arith)
+    (and-both (eqb (f .opcode) wake) (leb 4 (f .count)) (eq-eqb _ _ e) (le-leb _ _ h))
 
 -- ---- protection by address: the two ends of the protected range
 
