@@ -1,0 +1,22 @@
+-- `chip_legal` is right: a kind over 5 is no state, and otherwise the chip that the numbers mean is asked.
+use mathlib.Core.Path.{sym}
+use borrow.Author.Tests.{le-leb, lt-leb}
+use Rattle.boundary.specs.Laws.{legal-no-state, legal-state}
+use borrow.Author.Needs.{needs}
+use Rattle.boundary.proofs.chip_legal.Statement.{statement}
+use Rattle.boundary.proofs.chip_legal.Tie as tie
+
+returns : tie.Need-returns
+returns c = sym (legal-no-state _ _ (lt-leb _ _ (c .if1 .taken)))
+
+chip-of-requires : tie.Need-chip-of-requires
+chip-of-requires c κs = search needs
+
+is-legal-requires : tie.Need-is-legal-requires
+is-legal-requires c κs = search needs
+
+returns-2 : tie.Need-returns-2
+returns-2 c = legal-state _ _ _ _ (le-leb _ _ (c .before .before .if1 .left)) (c .before .chip-of .ensures) (c .is-legal .ensures)
+
+pub chip-legal-spec : {M : Type 1} → statement M
+chip-legal-spec = tie.close (tie.spec returns chip-of-requires is-legal-requires returns-2)

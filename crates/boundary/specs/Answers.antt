@@ -1,0 +1,75 @@
+-- The answers to an event and to a run as plain numbers, with the memory and the output afterwards (01, Events; Refusal numbers).
+use Prim.Native.Nat.{ℕ}
+use mathlib.Core.Bool.{cond}
+use mathlib.Core.List.{List}
+use lib.Dec.{eqb}
+use lib.ListN.{length}
+use Rattle.part.specs.Part.{permitted}
+use Rattle.chip.specs.declared.Chip.{Chip}
+use Rattle.chip.specs.declared.Record.{Record}
+use Rattle.chip.specs.declared.Record.the-variants.{Nothing, Floating, Driven, Verdict}
+use Rattle.event.specs.declared.Answer.{Answer}
+use Rattle.event.specs.Alone as alone
+use Rattle.script.specs.declared.Ran.{Ran}
+use Rattle.script.specs.Run as script
+use Rattle.boundary.specs.declared.ChipNumbers.{ChipNumbers}
+use Rattle.boundary.specs.declared.EventNumbers.{EventNumbers}
+use Rattle.boundary.specs.declared.RunNumbers.{RunNumbers}
+use Rattle.boundary.specs.Numbers.{isState, chipOf, numbersOf}
+
+-- the numbers of the records: 0 none, 1 floating, 2 a byte driven, 3 a verdict
+abbrev pub tagOf : Record → ℕ
+tagOf Nothing = 0
+tagOf Floating = 1
+tagOf (Driven b) = 2
+tagOf (Verdict v) = 3
+
+-- the byte driven or the verdict, 0 where there is none
+abbrev pub valueOf : Record → ℕ
+valueOf Nothing = 0
+valueOf Floating = 0
+valueOf (Driven b) = b
+valueOf (Verdict v) = v
+
+-- "Refused: state as given", to the last number; otherwise the numbers of the new chip
+unfoldable pub numbersAfter : ChipNumbers → Chip → ℕ → ChipNumbers
+numbersAfter given chip refusal = cond (eqb refusal 0) (numbersOf chip) given
+
+-- numbers that are no state are refused by 2, after 1
+unfoldable pub noState : ℕ → ℕ
+noState n = cond (permitted n) 2 1
+
+-- ---- one event
+
+abbrev pub refusedEvent : ChipNumbers → ℕ → EventNumbers
+refusedEvent given number = record { chip = given; refusal = number; tag = 0; value = 0; ticks = 0 }
+
+abbrev pub eventNumbers : ChipNumbers → Answer → EventNumbers
+eventNumbers given a =
+    record { chip = numbersAfter given (a .chip) (a .refusal); refusal = a .refusal; tag = tagOf (a .said); value = valueOf (a .said); ticks = a .ticks }
+
+-- the whole answer, and the memory afterwards
+unfoldable pub eventOf : ChipNumbers → List ℕ → ℕ → ℕ → EventNumbers
+eventOf c m kind body = cond (isState c) (eventNumbers c (alone.answerOf (chipOf c) m kind body)) (refusedEvent c (noState (length m)))
+
+unfoldable pub eventMemory : ChipNumbers → List ℕ → ℕ → ℕ → List ℕ
+eventMemory c m kind body = cond (isState c) (alone.memoryOf (chipOf c) m kind body) m
+
+-- ---- a run
+
+abbrev pub refusedRun : ChipNumbers → ℕ → RunNumbers
+refusedRun given number = record { chip = given; refusal = number; offset = 0; written = 0; ticks = 0 }
+
+abbrev pub runNumbers : ChipNumbers → Ran → RunNumbers
+runNumbers given a =
+    record { chip = numbersAfter given (a .chip) (a .refusal); refusal = a .refusal; offset = a .offset; written = a .written; ticks = a .ticks }
+
+-- the whole answer, and the memory and the output afterwards
+unfoldable pub runOf : ChipNumbers → List ℕ → List ℕ → List ℕ → RunNumbers
+runOf c m s out = cond (isState c) (runNumbers c (script.answerOf (chipOf c) m s out)) (refusedRun c (noState (length m)))
+
+unfoldable pub runMemory : ChipNumbers → List ℕ → List ℕ → List ℕ → List ℕ
+runMemory c m s out = cond (isState c) (script.memoryOf (chipOf c) m s out) m
+
+unfoldable pub runOutput : ChipNumbers → List ℕ → List ℕ → List ℕ → List ℕ
+runOutput c m s out = cond (isState c) (script.outputOf (chipOf c) m s out) out

@@ -1,0 +1,140 @@
+-- What is true of the numbers: a chip comes back from its numbers, and each answer by whether the numbers given are a state.
+use Prim.Native.Nat.{ℕ}
+use mathlib.Core.Bool.{Bool, true, false, cond, _&&_}
+use mathlib.Core.List.{List}
+use mathlib.Core.Path.{_≡_, refl, sym, ap, _∙_}
+use lib.Dec.{leb}
+use lib.ListN.{length}
+use Rattle.cells.specs.Choice.{cond-yes, cond-no}
+use Rattle.chip.specs.declared.Chip.{Chip}
+use Rattle.chip.specs.declared.JobKind.{JobKind}
+use Rattle.chip.specs.declared.JobKind.the-variants.{Idle, WriteStatus, Program, SmallErase, SectorErase, ChipErase}
+use Rattle.chip.specs.Legal.{legal}
+use Rattle.event.specs.declared.Answer.{Answer}
+use Rattle.event.specs.Alone as alone
+use Rattle.script.specs.declared.Ran.{Ran}
+use Rattle.script.specs.Run as script
+use Rattle.boundary.specs.declared.ChipNumbers.{ChipNumbers}
+use Rattle.boundary.specs.declared.EventNumbers.{EventNumbers}
+use Rattle.boundary.specs.declared.RunNumbers.{RunNumbers}
+use Rattle.boundary.specs.Numbers.{kindNumber, kindValue, kindOf, isState, chipOf, numbersOf, legalNumbers}
+use Rattle.boundary.specs.Answers.{noState, refusedEvent, eventNumbers, eventOf, eventMemory, refusedRun, runNumbers, runOf, runMemory, runOutput}
+
+-- ---- a chip comes back from its numbers
+
+pub kind-back : (k : JobKind) → kindOf (kindNumber k) (kindValue k) ≡ k
+unfolding kindOf
+kind-back Idle = refl
+kind-back (WriteStatus value) = refl
+kind-back Program = refl
+kind-back SmallErase = refl
+kind-back SectorErase = refl
+kind-back ChipErase = refl
+
+abbrev withKind : Chip → JobKind → Chip
+withKind c k =
+    record {
+      core =
+          record {
+            level = c .core .level;
+            tb = c .core .tb;
+            srwp = c .core .srwp;
+            wen = c .core .wen;
+            suspended = c .core .suspended;
+            wp = c .core .wp;
+            deep = c .core .deep;
+            armed = c .core .armed;
+            job = record { kind = k; place = c .core .job .place; done = c .core .job .done };
+          };
+      frame = c .frame;
+      load = c .load;
+      page = c .page;
+    }
+
+pub chip-back : (c : Chip) → chipOf (numbersOf c) ≡ c
+unfolding chipOf numbersOf
+chip-back c = ap (withKind c) (kind-back (c .core .job .kind))
+
+-- and its numbers are a state
+pub kind-small : (k : JobKind) → leb (kindNumber k) 5 ≡ true
+kind-small Idle = refl
+kind-small (WriteStatus value) = refl
+kind-small Program = refl
+kind-small SmallErase = refl
+kind-small SectorErase = refl
+kind-small ChipErase = refl
+
+pub numbers-are-state : (c : Chip) → isState (numbersOf c) ≡ true
+unfolding numbersOf
+numbers-are-state c = kind-small (c .core .job .kind)
+
+-- ---- legality; h is the chip that the numbers mean
+
+pub legal-no-state : (c : ChipNumbers) (n : ℕ) → isState c ≡ false → legalNumbers c n ≡ false
+unfolding legalNumbers
+legal-no-state c n over = ap (λ (b : Bool). b && legal (chipOf c) n) over
+
+pub legal-state : (c : ChipNumbers) (n : ℕ) (h : Chip) (r : Bool) → isState c ≡ true → h ≡ chipOf c → r ≡ legal h n → r ≡ legalNumbers c n
+unfolding legalNumbers
+legal-state c n h r is e p = p ∙ ap (λ (x : Chip). legal x n) e ∙ sym (ap (λ (b : Bool). b && legal (chipOf c) n) is)
+
+-- ---- one event; a is its answer, z the memory afterwards
+
+module _ (c : ChipNumbers) (m : List ℕ) (kind body : ℕ) where
+  pub event-no-state : (v : ℕ) (r : EventNumbers) → isState c ≡ false → v ≡ noState (length m) → r ≡ refusedEvent c v → r ≡ eventOf c m kind body
+  unfolding eventOf
+  event-no-state v r over e p = p ∙ ap (refusedEvent c) e ∙ sym (cond-no (isState c) (eventNumbers c (alone.answerOf (chipOf c) m kind body)) (refusedEvent c (noState (length m))) over)
+
+  pub event-memory-no-state : isState c ≡ false → m ≡ eventMemory c m kind body
+  unfolding eventMemory
+  event-memory-no-state over = sym (cond-no (isState c) (alone.memoryOf (chipOf c) m kind body) m over)
+
+  pub event-state : (h : Chip) (a : Answer) (r : EventNumbers) → isState c ≡ true → h ≡ chipOf c → a ≡ alone.answerOf h m kind body → r ≡ eventNumbers c a → r ≡ eventOf c m kind body
+  unfolding eventOf
+  event-state h a r is e q p =
+      p ∙ ap (eventNumbers c) (q ∙ ap (λ (x : Chip). alone.answerOf x m kind body) e)
+      ∙ sym (cond-yes (isState c) (eventNumbers c (alone.answerOf (chipOf c) m kind body)) (refusedEvent c (noState (length m))) is)
+
+  pub event-memory-state : (h : Chip) (z : List ℕ) → isState c ≡ true → h ≡ chipOf c → z ≡ alone.memoryOf h m kind body → z ≡ eventMemory c m kind body
+  unfolding eventMemory
+  event-memory-state h z is e p =
+      p ∙ ap (λ (x : Chip). alone.memoryOf x m kind body) e ∙ sym (cond-yes (isState c) (alone.memoryOf (chipOf c) m kind body) m is)
+
+-- ---- a run; a is its answer, z the memory and o the output afterwards
+
+module _ (c : ChipNumbers) (m s out : List ℕ) where
+  pub run-no-state : (v : ℕ) (r : RunNumbers) → isState c ≡ false → v ≡ noState (length m) → r ≡ refusedRun c v → r ≡ runOf c m s out
+  unfolding runOf
+  run-no-state v r over e p = p ∙ ap (refusedRun c) e ∙ sym (cond-no (isState c) (runNumbers c (script.answerOf (chipOf c) m s out)) (refusedRun c (noState (length m))) over)
+
+  pub run-memory-no-state : isState c ≡ false → m ≡ runMemory c m s out
+  unfolding runMemory
+  run-memory-no-state over = sym (cond-no (isState c) (script.memoryOf (chipOf c) m s out) m over)
+
+  pub run-output-no-state : isState c ≡ false → out ≡ runOutput c m s out
+  unfolding runOutput
+  run-output-no-state over = sym (cond-no (isState c) (script.outputOf (chipOf c) m s out) out over)
+
+  pub run-state : (h : Chip) (a : Ran) (r : RunNumbers) → isState c ≡ true → h ≡ chipOf c → a ≡ script.answerOf h m s out → r ≡ runNumbers c a → r ≡ runOf c m s out
+  unfolding runOf
+  run-state h a r is e q p =
+      p ∙ ap (runNumbers c) (q ∙ ap (λ (x : Chip). script.answerOf x m s out) e)
+      ∙ sym (cond-yes (isState c) (runNumbers c (script.answerOf (chipOf c) m s out)) (refusedRun c (noState (length m))) is)
+
+  pub run-memory-state : (h : Chip) (z : List ℕ) → isState c ≡ true → h ≡ chipOf c → z ≡ script.memoryOf h m s out → z ≡ runMemory c m s out
+  unfolding runMemory
+  run-memory-state h z is e p =
+      p ∙ ap (λ (x : Chip). script.memoryOf x m s out) e ∙ sym (cond-yes (isState c) (script.memoryOf (chipOf c) m s out) m is)
+
+  pub run-output-state : (h : Chip) (o : List ℕ) → isState c ≡ true → h ≡ chipOf c → o ≡ script.outputOf h m s out → o ≡ runOutput c m s out
+  unfolding runOutput
+  run-output-state h o is e p =
+      p ∙ ap (λ (x : Chip). script.outputOf x m s out) e ∙ sym (cond-yes (isState c) (script.outputOf (chipOf c) m s out) out is)
+
+-- ---- on the numbers of a chip, the answers are those of the chip
+
+pub event-of-chip : (c : Chip) (m : List ℕ) (kind body : ℕ) → eventOf (numbersOf c) m kind body ≡ eventNumbers (numbersOf c) (alone.answerOf c m kind body)
+event-of-chip c m kind body = sym (event-state (numbersOf c) m kind body c _ _ (numbers-are-state c) (sym (chip-back c)) refl refl)
+
+pub run-of-chip : (c : Chip) (m s out : List ℕ) → runOf (numbersOf c) m s out ≡ runNumbers (numbersOf c) (script.answerOf c m s out)
+run-of-chip c m s out = sym (run-state (numbersOf c) m s out c _ _ (numbers-are-state c) (sym (chip-back c)) refl refl)

@@ -1,0 +1,78 @@
+-- "Refused: state as given, memory and output untouched": an answer that refuses has exactly the numbers that were given, the free ones too.
+use Prim.Native.Nat.{ℕ}
+use mathlib.Core.Bool.{Bool, true, cond}
+use mathlib.Core.List.{List}
+use mathlib.Core.Path.{_≡_, refl, sym, ap, _∙_}
+use lib.Dec.{eqb}
+use lib.ListN.{length}
+use borrow.Author.Tests.{ne-eqb, eqb-true}
+use Rattle.cells.specs.Choice.{cond-no, cond-either}
+use Rattle.chip.specs.declared.Chip.{Chip}
+use Rattle.event.specs.declared.Answer.{Answer}
+use Rattle.event.specs.Alone as alone
+use Rattle.event.specs.Laws as alone-laws
+use Rattle.script.specs.declared.Ran.{Ran}
+use Rattle.script.specs.Run as script
+use Rattle.script.specs.Laws as script-laws
+use Rattle.boundary.specs.declared.ChipNumbers.{ChipNumbers}
+use Rattle.boundary.specs.declared.EventNumbers.{EventNumbers}
+use Rattle.boundary.specs.declared.RunNumbers.{RunNumbers}
+use Rattle.boundary.specs.Numbers.{isState, chipOf}
+use Rattle.boundary.specs.Answers.{numbersAfter, eventOf, eventMemory, runOf, runMemory, runOutput}
+use Rattle.boundary.specs.Laws.{event-state, run-state}
+
+after-refusal : (given : ChipNumbers) (chip : Chip) (refusal : ℕ) → (refusal ≡ 0 → ⊥) → numbersAfter given chip refusal ≡ given
+unfolding numbersAfter
+after-refusal given chip refusal h = cond-no _ _ _ (ne-eqb _ _ h)
+
+-- the number in an answer is the refusal's
+answer-number : (c : Chip) (m : List ℕ) (kind body : ℕ) → alone.answerOf c m kind body .refusal ≡ alone.refusal c (length m) kind body
+unfolding alone.answerOf
+answer-number c m kind body =
+    cond-either (λ (a : Answer). a .refusal ≡ alone.refusal c (length m) kind body) (eqb (alone.refusal c (length m) kind body) 0) _ _
+    (λ e. sym (eqb-true _ _ e)) (λ _. refl)
+
+run-number : (c : Chip) (m s out : List ℕ) → script.answerOf c m s out .refusal ≡ script.refusal c (length m) s (length out) .number
+unfolding script.answerOf
+run-number c m s out =
+    cond-either (λ (a : Ran). a .refusal ≡ script.refusal c (length m) s (length out) .number) (eqb (script.refusal c (length m) s (length out) .number) 0) _ _
+    (λ e. sym (eqb-true _ _ e)) (λ _. refl)
+
+-- ---- one event
+
+module _ (c : ChipNumbers) (m : List ℕ) (kind body : ℕ) (no : eventOf c m kind body .refusal ≡ 0 → ⊥) where
+  pub event-numbers-as-given : eventOf c m kind body .chip ≡ c
+  unfolding eventOf
+  event-numbers-as-given =
+      cond-either (λ (r : EventNumbers). (r .refusal ≡ 0 → ⊥) → r .chip ≡ c) (isState c) _ _ (λ _ h. after-refusal c _ _ h) (λ _ _. refl) no
+
+  event-refused-inside : isState c ≡ true → alone.refusal (chipOf c) (length m) kind body ≡ 0 → ⊥
+  event-refused-inside is e =
+      no (ap (λ (r : EventNumbers). r .refusal) (sym (event-state c m kind body (chipOf c) _ _ is refl refl refl)) ∙ answer-number (chipOf c) m kind body ∙ e)
+
+  pub event-memory-as-given : eventMemory c m kind body ≡ m
+  unfolding eventMemory
+  event-memory-as-given =
+      cond-either (λ (z : List ℕ). z ≡ m) (isState c) _ _ (λ is. alone-laws.memory-refused (chipOf c) m kind body (event-refused-inside is)) (λ _. refl)
+
+-- ---- a run
+
+module _ (c : ChipNumbers) (m s out : List ℕ) (no : runOf c m s out .refusal ≡ 0 → ⊥) where
+  pub run-numbers-as-given : runOf c m s out .chip ≡ c
+  unfolding runOf
+  run-numbers-as-given =
+      cond-either (λ (r : RunNumbers). (r .refusal ≡ 0 → ⊥) → r .chip ≡ c) (isState c) _ _ (λ _ h. after-refusal c _ _ h) (λ _ _. refl) no
+
+  run-refused-inside : isState c ≡ true → script.refusal (chipOf c) (length m) s (length out) .number ≡ 0 → ⊥
+  run-refused-inside is e =
+      no (ap (λ (r : RunNumbers). r .refusal) (sym (run-state c m s out (chipOf c) _ _ is refl refl refl)) ∙ run-number (chipOf c) m s out ∙ e)
+
+  pub run-memory-as-given : runMemory c m s out ≡ m
+  unfolding runMemory
+  run-memory-as-given =
+      cond-either (λ (z : List ℕ). z ≡ m) (isState c) _ _ (λ is. script-laws.memory-refused (chipOf c) m s out (run-refused-inside is)) (λ _. refl)
+
+  pub run-output-as-given : runOutput c m s out ≡ out
+  unfolding runOutput
+  run-output-as-given =
+      cond-either (λ (o : List ℕ). o ≡ out) (isState c) _ _ (λ is. script-laws.output-refused (chipOf c) m s out (run-refused-inside is)) (λ _. refl)

@@ -1,0 +1,31 @@
+-- Unique answers (01, What every contract has to settle): any two answers, memories and outputs at exit that a contract of this crate allows are equal.
+use Prim.Native.Nat.{ℕ}
+use mathlib.Core.Bool.{Bool}
+use mathlib.Core.List.{List}
+use mathlib.Core.Path.{_≡_, sym, _∙_}
+use Rattle.chip.specs.Chip.{fresh}
+use Rattle.boundary.specs.declared.ChipNumbers.{ChipNumbers}
+use Rattle.boundary.specs.declared.EventNumbers.{EventNumbers}
+use Rattle.boundary.specs.declared.RunNumbers.{RunNumbers}
+use Rattle.boundary.specs.Numbers.{numbersOf, legalNumbers}
+use Rattle.boundary.specs.Answers.{eventOf, eventMemory, runOf, runMemory, runOutput}
+
+pub chip-fresh-unique : (status : ℕ) (r r′ : ChipNumbers) → r ≡ numbersOf (fresh status) → r′ ≡ numbersOf (fresh status) → r ≡ r′
+chip-fresh-unique status r r′ h h′ = h ∙ sym h′
+
+pub chip-legal-unique : (c : ChipNumbers) (n : ℕ) (r r′ : Bool) → r ≡ legalNumbers c n → r′ ≡ legalNumbers c n → r ≡ r′
+chip-legal-unique c n r r′ h h′ = h ∙ sym h′
+
+-- `chip_event` and `chip_event_lent`, which have one contract: r the answer, z the memory at exit
+pub chip-event-unique : (c : ChipNumbers) (m : List ℕ) (kind body : ℕ) (r r′ : EventNumbers) (z z′ : List ℕ)
+    → (r ≡ eventOf c m kind body) × (z ≡ eventMemory c m kind body)
+    → (r′ ≡ eventOf c m kind body) × (z′ ≡ eventMemory c m kind body)
+    → (r ≡ r′) × (z ≡ z′)
+chip-event-unique c m kind body r r′ z z′ h h′ = (h .0 ∙ sym (h′ .0), h .1 ∙ sym (h′ .1))
+
+-- `chip_run`: r the answer, z the memory and o the output at exit
+pub chip-run-unique : (c : ChipNumbers) (m s out : List ℕ) (r r′ : RunNumbers) (z z′ o o′ : List ℕ)
+    → (r ≡ runOf c m s out) × (z ≡ runMemory c m s out) × (o ≡ runOutput c m s out)
+    → (r′ ≡ runOf c m s out) × (z′ ≡ runMemory c m s out) × (o′ ≡ runOutput c m s out)
+    → (r ≡ r′) × (z ≡ z′) × (o ≡ o′)
+chip-run-unique c m s out r r′ z z′ o o′ h h′ = (h .0 ∙ sym (h′ .0), h .1 ∙ sym (h′ .1), h .2 ∙ sym (h′ .2))

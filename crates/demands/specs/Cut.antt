@@ -1,0 +1,208 @@
+-- A script cut at an event boundary: running the pieces one after the other is running the whole, refusals included.
+use Prim.Native.Nat.{ℕ, zero, suc, _+_, _*_, _<_, _≤_}
+use mathlib.Core.Bool.{Bool, true, false, cond, not}
+use mathlib.Core.List.{List, [], _∷_, _++_, append-assoc, append-nil}
+use mathlib.Core.Path.{_≡_, refl, sym, ap, subst, _∙_}
+use native.Mathlib.Nat.{add-zero, zero-add, add-assoc}
+use native.Mathlib.Decide.{decLt}
+use native.Mathlib.Omega.{arith}
+use lib.Dec.{eqb, ltb}
+use lib.ListN.{length, getD, length-append, List·getD-append}
+use lib.Seq.{getD-append-add}
+use borrow.Author.Tests.{eq-eqb, ne-eqb, eqb-false, lt-ltb, le-ltb}
+use Rattle.cells.specs.Choice.{cond-yes, cond-no}
+use Rattle.chip.specs.declared.Chip.{Chip}
+use Rattle.event.specs.Event.{Outcome, applied}
+use Rattle.event.specs.Alone.{knownKind, bodyLength, inRange}
+use Rattle.script.specs.Script.{Event, bodyAt, nextAt, faultAt, eventAt, eventsFrom, events, Refusal, refusalOf, firstBad, yields, room}
+use Rattle.script.specs.Run.{World, world, after, runs, recordBytes}
+use Rattle.script.specs.Laws.{events-none, events-more, no-fault, good-event, Good, firstBad-later, runs-add}
+
+-- ---- events further on
+
+-- an event d bytes further on
+abbrev pub moved : ℕ → Event → Event
+moved d e = record { offset = d + e .offset; kind = e .kind; body = e .body; fault = e .fault }
+
+unfoldable pub movedAll : ℕ → List Event → List Event
+movedAll d [] = []
+movedAll d (e ∷ es) = moved d e ∷ movedAll d es
+
+-- it runs the same, needs the same room, and is bad in the same way, d further on
+pub runs-moved : (S d : ℕ) (es : List Event) (w : World) → runs S (movedAll d es) w ≡ runs S es w
+unfolding runs movedAll
+runs-moved S d [] w = refl
+runs-moved S d (e ∷ es) w = runs-moved S d es (after w (applied S (w .chip) (w .memory) (e .kind) (e .body)))
+
+pub room-moved : (d : ℕ) (es : List Event) → room (movedAll d es) ≡ room es
+unfolding room movedAll
+room-moved d [] = refl
+room-moved d (e ∷ es) = ap (λ (n : ℕ). cond (yields (e .kind)) 2 0 + n) (room-moved d es)
+
+room-append : (es fs : List Event) → room (es ++ fs) ≡ room es + room fs
+unfolding room
+room-append [] fs = sym (zero-add (room fs))
+room-append (e ∷ es) fs = ap (λ (n : ℕ). cond (yields (e .kind)) 2 0 + n) (room-append es fs) ∙ sym (add-assoc _ (room es) (room fs))
+
+-- behind good events the first bad one is the same
+bad-behind : (es fs : List Event) → firstBad es .number ≡ 0 → firstBad (es ++ fs) .number ≡ firstBad fs .number
+unfolding firstBad
+bad-behind [] fs h = refl
+bad-behind (e ∷ es) fs h = go (eqb (e .fault) 0) refl h (bad-behind es fs)
+  where
+    go : (b : Bool) → eqb (e .fault) 0 ≡ b → cond b (firstBad es) (refusalOf (e .fault) (e .offset)) .number ≡ 0 → (firstBad es .number ≡ 0 → firstBad (es ++ fs) .number ≡ firstBad fs .number)
+        → cond b (firstBad (es ++ fs)) (refusalOf (e .fault) (e .offset)) .number ≡ firstBad fs .number
+    go true p q rest = rest q
+    go false p q rest = absurd (eqb-false (e .fault) 0 p q)
+
+bad-moved : (d : ℕ) (es : List Event) → firstBad (movedAll d es) .number ≡ firstBad es .number
+unfolding firstBad movedAll
+bad-moved d [] = refl
+bad-moved d (e ∷ es) = go (eqb (e .fault) 0) (bad-moved d es)
+  where
+    go : (b : Bool) → firstBad (movedAll d es) .number ≡ firstBad es .number
+        → cond b (firstBad (movedAll d es)) (refusalOf (e .fault) (d + e .offset)) .number ≡ cond b (firstBad es) (refusalOf (e .fault) (e .offset)) .number
+    go true p = p
+    go false p = refl
+
+-- ---- the events of a script that goes on
+
+module _ (s t : List ℕ) where
+  abbrev d : ℕ
+  d = length s
+
+  -- a byte of the first piece, and of the second
+  byte-first : (i : ℕ) → i < length s → getD (s ++ t) i 0 ≡ getD s i 0
+  byte-first i h = List·getD-append s t 0 i h
+
+  byte-second : (i : ℕ) → getD (s ++ t) (d + i) 0 ≡ getD t i 0
+  byte-second i = getD-append-add s t i 0
+
+  -- an event that lies in the first piece is the same in the whole
+  body-first : (at : ℕ) → at < length s → nextAt s at ≤ length s → bodyAt (s ++ t) at ≡ bodyAt s at
+  body-first at h n =
+      ap (λ (k : ℕ). cond (eqb (bodyLength k) 1) (getD (s ++ t) (at + 1) 0) (cond (eqb (bodyLength k) 2) (getD (s ++ t) (at + 1) 0 * 256 + getD (s ++ t) (at + 2) 0) 0)) (byte-first at h)
+      ∙ go (bodyLength (getD s at 0)) n
+    where
+      go : (l : ℕ) → at + 1 + l ≤ length s
+          → cond (eqb l 1) (getD (s ++ t) (at + 1) 0) (cond (eqb l 2) (getD (s ++ t) (at + 1) 0 * 256 + getD (s ++ t) (at + 2) 0) 0)
+          ≡ cond (eqb l 1) (getD s (at + 1) 0) (cond (eqb l 2) (getD s (at + 1) 0 * 256 + getD s (at + 2) 0) 0)
+      go zero q = refl
+      go (suc zero) q = byte-first (at + 1) (omega arith)
+      go (suc (suc l)) q =
+          ap (λ (x : ℕ). cond (eqb (suc (suc l)) 1) x (cond (eqb (suc (suc l)) 2) (x * 256 + getD (s ++ t) (at + 2) 0) 0)) (byte-first (at + 1) (omega arith))
+          ∙ ap (λ (y : ℕ). cond (eqb (suc (suc l)) 1) (getD s (at + 1) 0) (cond (eqb (suc (suc l)) 2) (getD s (at + 1) 0 * 256 + y) 0)) (byte-first (at + 2) (omega arith))
+
+  next-first : (at : ℕ) → at < length s → nextAt (s ++ t) at ≡ nextAt s at
+  next-first at h = ap (λ (k : ℕ). at + 1 + bodyLength k) (byte-first at h)
+
+  -- a good event of the first piece is the same event of the whole
+  fault-first : (at : ℕ) → at < length s → Good s at → faultAt (s ++ t) at ≡ 0
+  unfolding faultAt
+  fault-first at h g =
+      let n : nextAt (s ++ t) at ≡ nextAt s at = next-first at h in
+      let l : nextAt (s ++ t) at ≤ length (s ++ t) = omega (arith, n, g .inside, length-append s t) in
+      cond-no (not (knownKind (getD (s ++ t) at 0))) _ _ (ap not (ap knownKind (byte-first at h) ∙ g .known))
+      ∙ cond-no (ltb (length (s ++ t)) (nextAt (s ++ t) at)) _ _ (le-ltb _ _ l)
+      ∙ cond-no (not (inRange (getD (s ++ t) at 0) (bodyAt (s ++ t) at))) _ _
+      (ap not (ap (λ (k : ℕ). inRange k (bodyAt (s ++ t) at)) (byte-first at h) ∙ ap (inRange (getD s at 0)) (body-first at h (g .inside)) ∙ g .ranged))
+
+  event-first : (at : ℕ) → at < length s → faultAt s at ≡ 0 → eventAt (s ++ t) at ≡ eventAt s at
+  event-first at h z =
+      let g = good-event s at z in
+      let e : faultAt (s ++ t) at ≡ faultAt s at = fault-first at h g ∙ sym z in
+      λ i. record { offset = at; kind = byte-first at h i; body = body-first at h (g .inside) i; fault = e i }
+
+  -- an event of the second piece is the same event of the whole, further on
+  byte-beyond : (at i : ℕ) → getD (s ++ t) (d + at + i) 0 ≡ getD t (at + i) 0
+  byte-beyond at i = ap (λ (q : ℕ). getD (s ++ t) q 0) (add-assoc d at i) ∙ byte-second (at + i)
+
+  body-second : (at : ℕ) → bodyAt (s ++ t) (d + at) ≡ bodyAt t at
+  body-second at =
+      ap (λ (k : ℕ). cond (eqb (bodyLength k) 1) (getD (s ++ t) (d + at + 1) 0) (cond (eqb (bodyLength k) 2) (getD (s ++ t) (d + at + 1) 0 * 256 + getD (s ++ t) (d + at + 2) 0) 0)) (byte-second at)
+      ∙ ap (λ (x : ℕ). cond (eqb (bodyLength (getD t at 0)) 1) x (cond (eqb (bodyLength (getD t at 0)) 2) (x * 256 + getD (s ++ t) (d + at + 2) 0) 0)) (byte-beyond at 1)
+      ∙ ap (λ (y : ℕ). cond (eqb (bodyLength (getD t at 0)) 1) (getD t (at + 1) 0) (cond (eqb (bodyLength (getD t at 0)) 2) (getD t (at + 1) 0 * 256 + y) 0)) (byte-beyond at 2)
+
+  next-second : (at : ℕ) → nextAt (s ++ t) (d + at) ≡ d + nextAt t at
+  next-second at = ap (λ (k : ℕ). d + at + 1 + bodyLength k) (byte-second at) ∙ omega arith
+
+  further : (a b : ℕ) → ltb (d + a) (d + b) ≡ ltb a b
+  further a b = go (decLt a b)
+    where
+      go : Dec (a < b) → ltb (d + a) (d + b) ≡ ltb a b
+      go (yes h) = lt-ltb (d + a) (d + b) (omega arith) ∙ sym (lt-ltb a b h)
+      go (no h) = le-ltb (d + a) (d + b) (omega arith) ∙ sym (le-ltb a b (omega arith))
+
+  ends-second : (at : ℕ) → ltb (length (s ++ t)) (nextAt (s ++ t) (d + at)) ≡ ltb (length t) (nextAt t at)
+  ends-second at = ap (λ (q : ℕ). ltb q (nextAt (s ++ t) (d + at))) (length-append s t) ∙ ap (ltb (d + length t)) (next-second at) ∙ further (length t) (nextAt t at)
+
+  fault-second : (at : ℕ) → faultAt (s ++ t) (d + at) ≡ faultAt t at
+  unfolding faultAt
+  fault-second at =
+      ap (λ (k : ℕ). cond (not (knownKind k)) 5 (cond (ltb (length (s ++ t)) (nextAt (s ++ t) (d + at))) 4 (cond (not (inRange k (bodyAt (s ++ t) (d + at)))) 6 0))) (byte-second at)
+      ∙ ap (λ (b : Bool). cond (not (knownKind (getD t at 0))) 5 (cond b 4 (cond (not (inRange (getD t at 0) (bodyAt (s ++ t) (d + at)))) 6 0))) (ends-second at)
+      ∙ ap (λ (b : ℕ). cond (not (knownKind (getD t at 0))) 5 (cond (ltb (length t) (nextAt t at)) 4 (cond (not (inRange (getD t at 0) b)) 6 0))) (body-second at)
+
+  event-second : (at : ℕ) → eventAt (s ++ t) (d + at) ≡ moved d (eventAt t at)
+  event-second at = λ i. record { offset = d + at; kind = byte-second at i; body = body-second at i; fault = fault-second at i }
+
+  over-second : (at : ℕ) → length t ≤ at → eventsFrom (s ++ t) (d + at) ≡ movedAll d (eventsFrom t at)
+  unfolding movedAll
+  over-second at h = events-none (s ++ t) (d + at) (omega (arith, length-append s t)) ∙ sym (ap (movedAll d) (events-none t at h))
+
+  more-second : (at : ℕ) → at < length t → eventsFrom (s ++ t) (d + nextAt t at) ≡ movedAll d (eventsFrom t (nextAt t at)) → eventsFrom (s ++ t) (d + at) ≡ movedAll d (eventsFrom t at)
+  unfolding movedAll
+  more-second at h rest =
+      events-more (s ++ t) (d + at) (omega (arith, length-append s t))
+      ∙ ap (λ (e : Event). e ∷ eventsFrom (s ++ t) (nextAt (s ++ t) (d + at))) (event-second at)
+      ∙ ap (λ (q : ℕ). moved d (eventAt t at) ∷ eventsFrom (s ++ t) q) (next-second at)
+      ∙ ap (λ (es : List Event). moved d (eventAt t at) ∷ es) rest
+      ∙ sym (ap (movedAll d) (events-more t at h))
+
+  events-second : (fuel at : ℕ) → length t ≤ at + fuel → eventsFrom (s ++ t) (d + at) ≡ movedAll d (eventsFrom t at)
+  events-second zero at h = over-second at (omega arith)
+  events-second (suc fuel) at h = go (λ l. events-second fuel (nextAt t at) (omega arith)) (decLt at (length t))
+    where
+      go : (at < length t → eventsFrom (s ++ t) (d + nextAt t at) ≡ movedAll d (eventsFrom t (nextAt t at))) → Dec (at < length t) → eventsFrom (s ++ t) (d + at) ≡ movedAll d (eventsFrom t at)
+      go rest (yes l) = more-second at l (rest l)
+      go rest (no l) = over-second at (omega arith)
+
+  over-first : (at : ℕ) → at ≡ length s → eventsFrom (s ++ t) at ≡ eventsFrom s at ++ movedAll d (events t)
+  over-first at e =
+      ap (eventsFrom (s ++ t)) (e ∙ sym (add-zero d))
+      ∙ events-second (length t) 0 (omega arith)
+      ∙ ap (λ (es : List Event). es ++ movedAll d (events t)) (sym (events-none s at (omega arith)))
+
+  more-first : (at : ℕ) → at < length s → faultAt s at ≡ 0 → eventsFrom (s ++ t) (nextAt s at) ≡ eventsFrom s (nextAt s at) ++ movedAll d (events t)
+      → eventsFrom (s ++ t) at ≡ eventsFrom s at ++ movedAll d (events t)
+  more-first at h z rest =
+      events-more (s ++ t) at (omega (arith, length-append s t))
+      ∙ ap (λ (e : Event). e ∷ eventsFrom (s ++ t) (nextAt (s ++ t) at)) (event-first at h z)
+      ∙ ap (λ (q : ℕ). eventAt s at ∷ eventsFrom (s ++ t) q) (next-first at h)
+      ∙ ap (λ (es : List Event). eventAt s at ∷ es) rest
+      ∙ ap (λ (es : List Event). es ++ movedAll d (events t)) (sym (events-more s at h))
+
+  -- The events of the whole are those of the first piece, if it has no bad one, and then those of the second, further on.
+  events-whole : (fuel at : ℕ) → length s ≤ at + fuel → at ≤ length s → firstBad (eventsFrom s at) .number ≡ 0 → eventsFrom (s ++ t) at ≡ eventsFrom s at ++ movedAll d (events t)
+  events-whole zero at h i c = over-first at (omega arith)
+  events-whole (suc fuel) at h i c =
+      go (λ l. events-whole fuel (nextAt s at) (omega arith) (good-event s at (no-fault s at l c) .inside) (ap (λ (r : Refusal). r .number) (sym (firstBad-later s at l (no-fault s at l c))) ∙ c)) (decLt at (length s))
+    where
+      go : (at < length s → eventsFrom (s ++ t) (nextAt s at) ≡ eventsFrom s (nextAt s at) ++ movedAll d (events t)) → Dec (at < length s) → eventsFrom (s ++ t) at ≡ eventsFrom s at ++ movedAll d (events t)
+      go rest (yes l) = more-first at l (no-fault s at l c) (rest l)
+      go rest (no l) = over-first at (omega arith)
+
+  module _ (clean : firstBad (events s) .number ≡ 0) where
+    pub events-cut : events (s ++ t) ≡ events s ++ movedAll d (events t)
+    events-cut = events-whole (length s) 0 (omega arith) (omega arith) clean
+
+    -- Running the pieces one after the other is running the whole.
+    pub run-cut : (S : ℕ) (w : World) → runs S (events (s ++ t)) w ≡ runs S (events t) (runs S (events s) w)
+    run-cut S w = ap (λ (es : List Event). runs S es w) events-cut ∙ runs-add S (events s) (movedAll d (events t)) w ∙ runs-moved S d (events t) (runs S (events s) w)
+
+    -- The whole is bad exactly as the second piece is, with its offset further on; and it needs the room of both.
+    pub bad-cut : firstBad (events (s ++ t)) .number ≡ firstBad (events t) .number
+    bad-cut = ap (λ (es : List Event). firstBad es .number) events-cut ∙ bad-behind (events s) (movedAll d (events t)) clean ∙ bad-moved d (events t)
+
+    pub room-cut : room (events (s ++ t)) ≡ room (events s) + room (events t)
+    room-cut = ap room events-cut ∙ room-append (events s) (movedAll d (events t)) ∙ ap (λ (n : ℕ). room (events s) + n) (room-moved d (events t))
