@@ -11,11 +11,15 @@ use lib.ListN.{length, getD, length-append, List·getD-append}
 use lib.Seq.{getD-append-add}
 use borrow.Author.Tests.{eq-eqb, ne-eqb, eqb-false, lt-ltb, le-ltb}
 use Rattle.cells.specs.Choice.{cond-yes, cond-no}
+use Rattle.part.specs.Part.{sectors}
 use Rattle.chip.specs.declared.Chip.{Chip}
+use Rattle.chip.specs.Legal.{legal}
 use Rattle.event.specs.Event.{Outcome, applied}
 use Rattle.event.specs.Alone.{knownKind, bodyLength, inRange}
+use Rattle.event.specs.Legality.{legal-applied}
+use Rattle.event.specs.Keeps.{length-applied}
 use Rattle.script.specs.Script.{Event, bodyAt, nextAt, faultAt, eventAt, eventsFrom, events, Refusal, refusalOf, firstBad, yields, room}
-use Rattle.script.specs.Run.{World, world, after, runs, recordBytes}
+use Rattle.script.specs.Run.{World, world, after, runs, recordBytes, outcome}
 use Rattle.script.specs.Laws.{events-none, events-more, no-fault, good-event, Good, firstBad-later, runs-add}
 
 -- ---- events further on
@@ -206,3 +210,53 @@ module _ (s t : List ℕ) where
 
     pub room-cut : room (events (s ++ t)) ≡ room (events s) + room (events t)
     room-cut = ap room events-cut ∙ room-append (events s) (movedAll d (events t)) ∙ ap (λ (n : ℕ). room (events s) + n) (room-moved d (events t))
+
+-- ---- what a run keeps
+
+-- Memory keeps its length over a run, and a legal state stays legal.
+pub length-runs : (S : ℕ) (es : List Event) (w : World) → length (runs S es w .memory) ≡ length (w .memory)
+unfolding runs
+length-runs S [] w = refl
+length-runs S (e ∷ es) w =
+    length-runs S es (after w (applied S (w .chip) (w .memory) (e .kind) (e .body))) ∙ length-applied S (w .chip) (w .memory) (e .kind) (e .body)
+
+pub legal-runs : (n : ℕ) (es : List Event) (w : World) → length (w .memory) ≡ n → legal (w .chip) n ≡ true → legal (runs (sectors n) es w .chip) n ≡ true
+unfolding runs
+legal-runs n [] w l h = h
+legal-runs n (e ∷ es) w l h =
+    legal-runs n es (after w (applied (sectors n) (w .chip) (w .memory) (e .kind) (e .body))) (length-applied (sectors n) (w .chip) (w .memory) (e .kind) (e .body) ∙ l)
+    (subst (λ (q : ℕ). legal (applied (sectors q) (w .chip) (w .memory) (e .kind) (e .body) .chip) q ≡ true) l
+    (legal-applied (w .chip) (w .memory) (e .kind) (e .body) (subst (λ (q : ℕ). legal (w .chip) q ≡ true) (sym l) h)))
+
+-- what was written and worked before a run only stands before what the run writes and works
+runs-from : (S : ℕ) (es : List Event) (c : Chip) (m a : List ℕ) (k : ℕ)
+    → runs S es (world c m a k) ≡ world (runs S es (world c m [] 0) .chip) (runs S es (world c m [] 0) .memory) (a ++ runs S es (world c m [] 0) .written) (k + runs S es (world c m [] 0) .ticks)
+unfolding runs
+runs-from S [] c m a k = λ i. world c m (sym (append-nil a) i) (sym (add-zero k) i)
+runs-from S (e ∷ es) c m a k =
+    let o : Outcome = applied S c m (e .kind) (e .body) in
+    let b : List ℕ = recordBytes (o .said) in
+    let r : World = runs S es (world (o .chip) (o .memory) [] 0) in
+    let whole : runs S es (world (o .chip) (o .memory) (a ++ b) (k + o .ticks)) ≡ world (r .chip) (r .memory) ((a ++ b) ++ r .written) (k + o .ticks + r .ticks) =
+        runs-from S es (o .chip) (o .memory) (a ++ b) (k + o .ticks) in
+    let part : runs S es (world (o .chip) (o .memory) b (0 + o .ticks)) ≡ world (r .chip) (r .memory) (b ++ r .written) (0 + o .ticks + r .ticks) =
+        runs-from S es (o .chip) (o .memory) b (0 + o .ticks) in
+    let ticks : k + o .ticks + r .ticks ≡ k + (0 + o .ticks + r .ticks) = omega arith in
+    whole
+    ∙ (λ i. world (r .chip) (r .memory) (append-assoc a b (r .written) i) (ticks i))
+    ∙ ap (λ (w : World). world (w .chip) (w .memory) (a ++ w .written) (k + w .ticks)) (sym part)
+
+-- A script cut at an event boundary: the second piece run on what the first left gives the whole's chip and memory; what the two write, one behind the other, is
+-- what the whole writes, and their working ticks add up. The whole is refused exactly as the pieces are: `bad-cut`, `room-cut`.
+pub pieces : (c : Chip) (m s t : List ℕ) → firstBad (events s) .number ≡ 0
+    → outcome c m (s ++ t)
+    ≡ world (outcome (outcome c m s .chip) (outcome c m s .memory) t .chip) (outcome (outcome c m s .chip) (outcome c m s .memory) t .memory)
+    (outcome c m s .written ++ outcome (outcome c m s .chip) (outcome c m s .memory) t .written) (outcome c m s .ticks + outcome (outcome c m s .chip) (outcome c m s .memory) t .ticks)
+unfolding outcome
+pieces c m s t clean =
+    let S : ℕ = sectors (length m) in
+    let w : World = runs S (events s) (world c m [] 0) in
+    let same : sectors (length m) ≡ sectors (length (w .memory)) = ap sectors (sym (length-runs S (events s) (world c m [] 0))) in
+    run-cut s t clean S (world c m [] 0)
+    ∙ runs-from S (events t) (w .chip) (w .memory) (w .written) (w .ticks)
+    ∙ ap (λ (q : ℕ). world (runs q (events t) (world (w .chip) (w .memory) [] 0) .chip) (runs q (events t) (world (w .chip) (w .memory) [] 0) .memory) (w .written ++ runs q (events t) (world (w .chip) (w .memory) [] 0) .written) (w .ticks + runs q (events t) (world (w .chip) (w .memory) [] 0) .ticks)) same
