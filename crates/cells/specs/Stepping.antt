@@ -72,10 +72,10 @@ module _ {World Event : Type 0} {step : Steps} {total : ℕ} (M : Machine World 
   then-more i e es w laid-one more =
       let j : ℕ = M .worked e w in
       let k : ℕ = count es (M .next e w) in
-      record
-      { laid-down = more .laid-down ∙ ap (laid step (i + j) k) laid-one ∙ sym (laid-add step i j k (M .memory w))
-      ; where-it-is =
-        subst (λ (q : ℕ). ((q < total) × M .At q (after es (M .next e w))) ⊎ ((q ≡ total) × M .Over (after es (M .next e w)))) (add-assoc i j k) (more .where-it-is)
+      record {
+        laid-down = more .laid-down ∙ ap (laid step (i + j) k) laid-one ∙ sym (laid-add step i j k (M .memory w));
+        where-it-is =
+            subst (λ (q : ℕ). ((q < total) × M .At q (after es (M .next e w))) ⊎ ((q ≡ total) × M .Over (after es (M .next e w)))) (add-assoc i j k) (more .where-it-is);
       }
 
   -- an event that ends the job, and the rest of the events
@@ -84,9 +84,9 @@ module _ {World Event : Type 0} {step : Steps} {total : ℕ} (M : Machine World 
       → Stands i (M .worked e w + count es (M .next e w)) w (after es (M .next e w))
   then-rest i e es w laid-one all rest =
       let k : M .worked e w ≡ M .worked e w + count es (M .next e w) = omega (arith, rest .1) in
-      record
-      { laid-down = rest .0 ∙ laid-one ∙ ap (λ (q : ℕ). laid step i q (M .memory w)) k
-      ; where-it-is = inr (omega (arith, all, rest .1), rest .2)
+      record {
+        laid-down = rest .0 ∙ laid-one ∙ ap (λ (q : ℕ). laid step i q (M .memory w)) k;
+        where-it-is = inr (omega (arith, all, rest .1), rest .2);
       }
 
   -- Whatever events come, as long as none drops the job or begins another: exactly the steps of the working ticks are done.

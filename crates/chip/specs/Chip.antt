@@ -20,22 +20,22 @@ emptyFrame selected = record { selected = selected; opcode = 0; address = 0; pla
 -- "made from any status byte: bits 2 to 5 and 7 are kept, the rest ignored; WP high, awake, unselected, unarmed, no job"
 unfoldable pub fresh : ℕ → Chip
 fresh status =
-    record
-    { core =
-      record
-      { level = status / 4 % 8
-      ; tb = eqb (status / 32 % 2) 1
-      ; srwp = eqb (status / 128 % 2) 1
-      ; wen = false
-      ; suspended = false
-      ; wp = true
-      ; deep = false
-      ; armed = false
-      ; job = noJob
-      }
-    ; frame = emptyFrame false
-    ; load = blankLoad
-    ; page = blankLoad
+    record {
+      core =
+          record {
+            level = status / 4 % 8;
+            tb = eqb (status / 32 % 2) 1;
+            srwp = eqb (status / 128 % 2) 1;
+            wen = false;
+            suspended = false;
+            wp = true;
+            deep = false;
+            armed = false;
+            job = noJob;
+          };
+      frame = emptyFrame false;
+      load = blankLoad;
+      page = blankLoad;
     }
 
 -- whether a job runs: there is one, and it is not suspended

@@ -34,15 +34,15 @@ core-facts k S n h =
     let four = and-four (leb (k .level) 7) (legalJob (k .job) S n) (jobEnabled k) (suspendedHasCells k) (and-left _ (deepRests k) h) in
     let rests = means-holds (k .deep) (not (isJob (k .job .kind)) && not (k .armed)) (and-right (leb (k .level) 7 && legalJob (k .job) S n && jobEnabled k && suspendedHasCells k) (deepRests k) h) in
     let unfinished : Bool = not (isJob (k .job .kind)) || ltb (k .job .done) (total (k .job .kind) S) in
-    record
-    { level-small = leb-true _ _ (four .0)
-    ; job-placed = and-left (placed (k .job .kind) (k .job .place) n) unfinished (four .1)
-    ; job-unfinished =
-      λ e. ltb-true _ _ (means-holds (isJob (k .job .kind)) _ (and-right (placed (k .job .kind) (k .job .place) n) unfinished (four .1)) e)
-    ; job-enabled = means-holds (isJob (k .job .kind)) (k .wen) (four .2)
-    ; suspended-cells = means-holds (k .suspended) (hasCells (k .job .kind)) (four .3)
-    ; deep-idle = λ e. not-true (isJob (k .job .kind)) (and-left (not (isJob (k .job .kind))) (not (k .armed)) (rests e))
-    ; deep-unarmed = λ e. not-true (k .armed) (and-right (not (isJob (k .job .kind))) (not (k .armed)) (rests e))
+    record {
+      level-small = leb-true _ _ (four .0);
+      job-placed = and-left (placed (k .job .kind) (k .job .place) n) unfinished (four .1);
+      job-unfinished =
+          λ e. ltb-true _ _ (means-holds (isJob (k .job .kind)) _ (and-right (placed (k .job .kind) (k .job .place) n) unfinished (four .1)) e);
+      job-enabled = means-holds (isJob (k .job .kind)) (k .wen) (four .2);
+      suspended-cells = means-holds (k .suspended) (hasCells (k .job .kind)) (four .3);
+      deep-idle = λ e. not-true (isJob (k .job .kind)) (and-left (not (isJob (k .job .kind))) (not (k .armed)) (rests e));
+      deep-unarmed = λ e. not-true (k .armed) (and-right (not (isJob (k .job .kind))) (not (k .armed)) (rests e));
     }
 
 pub core-legal : (k : Core) (S n : ℕ) → LegalCore k S n → legalCore k S n ≡ true

@@ -6,7 +6,6 @@ ghost use lib.ListN.{replicate};
 ghost use Rattle.chip.specs.Job.{isJob, hasCells, total};
 ghost use Rattle.chip.specs.Chip.{fresh, emptyFrame, running, statusByte};
 ghost use Rattle.chip.specs.Legal.{placed, alignedTo, legalJob, legalCore, legalFrame, readPlaces, judgementKnown, isEmpty, isBlank, legal};
-
 use part::Part;
 
 // What a job does; a write status job holds the byte that it will set.
@@ -259,7 +258,12 @@ fn is_legal_frame(f: Frame, n: usize) -> bool
 fn is_empty(f: Frame) -> bool
     ensures { λ r. ⌜ r ≡ isEmpty f ⌝ }
 {
-    (f.opcode == 0) & (f.address == 0) & (f.place == 0) & (f.offset == 0) & (f.count == 0) & (f.judgement == 0)
+    (f.opcode == 0)
+        & (f.address == 0)
+        & (f.place == 0)
+        & (f.offset == 0)
+        & (f.count == 0)
+        & (f.judgement == 0)
 }
 
 fn is_blank(load: &[u8]) -> bool
@@ -287,5 +291,7 @@ pub fn is_legal(chip: Chip, n: usize) -> bool
     let frame = chip.frame;
     let load = chip.load;
     let begun = frame.selected & !(frame.count == 0);
-    is_legal_core(core, sectors, n) & is_legal_frame(frame, n) & (begun | (is_empty(frame) & is_blank(&load)))
+    is_legal_core(core, sectors, n)
+        & is_legal_frame(frame, n)
+        & (begun | (is_empty(frame) & is_blank(&load)))
 }

@@ -238,9 +238,9 @@ runs-from S (e ∷ es) c m a k =
     let b : List ℕ = recordBytes (o .said) in
     let r : World = runs S es (world (o .chip) (o .memory) [] 0) in
     let whole : runs S es (world (o .chip) (o .memory) (a ++ b) (k + o .ticks)) ≡ world (r .chip) (r .memory) ((a ++ b) ++ r .written) (k + o .ticks + r .ticks) =
-        runs-from S es (o .chip) (o .memory) (a ++ b) (k + o .ticks) in
+    runs-from S es (o .chip) (o .memory) (a ++ b) (k + o .ticks) in
     let part : runs S es (world (o .chip) (o .memory) b (0 + o .ticks)) ≡ world (r .chip) (r .memory) (b ++ r .written) (0 + o .ticks + r .ticks) =
-        runs-from S es (o .chip) (o .memory) b (0 + o .ticks) in
+    runs-from S es (o .chip) (o .memory) b (0 + o .ticks) in
     let ticks : k + o .ticks + r .ticks ≡ k + (0 + o .ticks + r .ticks) = omega arith in
     whole
     ∙ (λ i. world (r .chip) (r .memory) (append-assoc a b (r .written) i) (ticks i))

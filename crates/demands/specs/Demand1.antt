@@ -36,44 +36,44 @@ pub record RefusedWhen (number : ℕ) (length-permitted state-legal kind-known b
 
 number-when : (p l k r : Bool) → RefusedWhen (cond (not p) 1 (cond (not l) 2 (cond (not k) 5 (cond (not r) 6 0)))) p l k r
 number-when false l k r =
-    record
-    { one = (λ _. refl, λ _. refl)
-    ; two = (λ e. absurd (omega arith), λ e. absurd (false≢true (e .0)))
-    ; five = (λ e. absurd (omega arith), λ e. absurd (false≢true (e .0)))
-    ; six = (λ e. absurd (omega arith), λ e. absurd (false≢true (e .0)))
-    ; none = (λ e. absurd (omega arith), λ e. absurd (false≢true (e .0)))
+    record {
+      one = (λ _. refl, λ _. refl);
+      two = (λ e. absurd (omega arith), λ e. absurd (false≢true (e .0)));
+      five = (λ e. absurd (omega arith), λ e. absurd (false≢true (e .0)));
+      six = (λ e. absurd (omega arith), λ e. absurd (false≢true (e .0)));
+      none = (λ e. absurd (omega arith), λ e. absurd (false≢true (e .0)));
     }
 number-when true false k r =
-    record
-    { one = (λ e. absurd (omega arith), λ e. absurd (true≢false e))
-    ; two = (λ _. (refl, refl), λ _. refl)
-    ; five = (λ e. absurd (omega arith), λ e. absurd (false≢true (e .1)))
-    ; six = (λ e. absurd (omega arith), λ e. absurd (false≢true (e .1)))
-    ; none = (λ e. absurd (omega arith), λ e. absurd (false≢true (e .1)))
+    record {
+      one = (λ e. absurd (omega arith), λ e. absurd (true≢false e));
+      two = (λ _. (refl, refl), λ _. refl);
+      five = (λ e. absurd (omega arith), λ e. absurd (false≢true (e .1)));
+      six = (λ e. absurd (omega arith), λ e. absurd (false≢true (e .1)));
+      none = (λ e. absurd (omega arith), λ e. absurd (false≢true (e .1)));
     }
 number-when true true false r =
-    record
-    { one = (λ e. absurd (omega arith), λ e. absurd (true≢false e))
-    ; two = (λ e. absurd (omega arith), λ e. absurd (true≢false (e .1)))
-    ; five = (λ _. (refl, refl, refl), λ _. refl)
-    ; six = (λ e. absurd (omega arith), λ e. absurd (false≢true (e .2)))
-    ; none = (λ e. absurd (omega arith), λ e. absurd (false≢true (e .2)))
+    record {
+      one = (λ e. absurd (omega arith), λ e. absurd (true≢false e));
+      two = (λ e. absurd (omega arith), λ e. absurd (true≢false (e .1)));
+      five = (λ _. (refl, refl, refl), λ _. refl);
+      six = (λ e. absurd (omega arith), λ e. absurd (false≢true (e .2)));
+      none = (λ e. absurd (omega arith), λ e. absurd (false≢true (e .2)));
     }
 number-when true true true false =
-    record
-    { one = (λ e. absurd (omega arith), λ e. absurd (true≢false e))
-    ; two = (λ e. absurd (omega arith), λ e. absurd (true≢false (e .1)))
-    ; five = (λ e. absurd (omega arith), λ e. absurd (true≢false (e .2)))
-    ; six = (λ _. (refl, refl, refl, refl), λ _. refl)
-    ; none = (λ e. absurd (omega arith), λ e. absurd (false≢true (e .3)))
+    record {
+      one = (λ e. absurd (omega arith), λ e. absurd (true≢false e));
+      two = (λ e. absurd (omega arith), λ e. absurd (true≢false (e .1)));
+      five = (λ e. absurd (omega arith), λ e. absurd (true≢false (e .2)));
+      six = (λ _. (refl, refl, refl, refl), λ _. refl);
+      none = (λ e. absurd (omega arith), λ e. absurd (false≢true (e .3)));
     }
 number-when true true true true =
-    record
-    { one = (λ e. absurd (omega arith), λ e. absurd (true≢false e))
-    ; two = (λ e. absurd (omega arith), λ e. absurd (true≢false (e .1)))
-    ; five = (λ e. absurd (omega arith), λ e. absurd (true≢false (e .2)))
-    ; six = (λ e. absurd (omega arith), λ e. absurd (true≢false (e .3)))
-    ; none = (λ _. (refl, refl, refl, refl), λ _. refl)
+    record {
+      one = (λ e. absurd (omega arith), λ e. absurd (true≢false e));
+      two = (λ e. absurd (omega arith), λ e. absurd (true≢false (e .1)));
+      five = (λ e. absurd (omega arith), λ e. absurd (true≢false (e .2)));
+      six = (λ e. absurd (omega arith), λ e. absurd (true≢false (e .3)));
+      none = (λ _. (refl, refl, refl, refl), λ _. refl);
     }
 
 pub event-refused-when : (c : Chip) (n kind body : ℕ) → RefusedWhen (Alone.refusal c n kind body) (permitted n) (legal c n) (knownKind kind) (inRange kind body)
@@ -99,13 +99,13 @@ pub record RunRefusedWhen (r bad : Refusal) (length-permitted state-legal too-lo
 pub run-refused-when : (c : Chip) (n : ℕ) (s : List ℕ) (space : ℕ)
     → RunRefusedWhen (Run.refusal c n s space) (firstBad (events s)) (permitted n) (legal c n) (ltb 65536 (length s)) (eqb (firstBad (events s) .number) 0) (ltb space (room (events s)))
 run-refused-when c n s space =
-    record
-    { one = ScriptLaws.refusal-length c n s space
-    ; two = ScriptLaws.refusal-state c n s space
-    ; three = λ p l t. ScriptLaws.refusal-long c n s space p l (ltb-true _ _ t)
-    ; bad-event = λ p l t b. ScriptLaws.refusal-bad c n s space p l (ltb-false _ _ t) (eqb-false _ _ b)
-    ; seven = λ p l t b q. ScriptLaws.refusal-room c n s space p l (ltb-false _ _ t) (eqb-true _ _ b) (ltb-true _ _ q)
-    ; none = λ p l t b q. ScriptLaws.refusal-none c n s space p l (ltb-false _ _ t) (eqb-true _ _ b) (ltb-false _ _ q)
+    record {
+      one = ScriptLaws.refusal-length c n s space;
+      two = ScriptLaws.refusal-state c n s space;
+      three = λ p l t. ScriptLaws.refusal-long c n s space p l (ltb-true _ _ t);
+      bad-event = λ p l t b. ScriptLaws.refusal-bad c n s space p l (ltb-false _ _ t) (eqb-false _ _ b);
+      seven = λ p l t b q. ScriptLaws.refusal-room c n s space p l (ltb-false _ _ t) (eqb-true _ _ b) (ltb-true _ _ q);
+      none = λ p l t b q. ScriptLaws.refusal-none c n s space p l (ltb-false _ _ t) (eqb-true _ _ b) (ltb-false _ _ q);
     }
 
 -- A run is done exactly when nothing refuses it: those five tests all pass.
@@ -135,14 +135,14 @@ first-bad-decides (e ∷ es) h = go (first-bad-decides es) (ℕ-discrete (e .fau
     go later (yes g) =
         let skips : cond (eqb (e .fault) 0) (firstBad es) (refusalOf (e .fault) (e .offset)) ≡ firstBad es = cond-yes (eqb (e .fault) 0) _ _ (eq-eqb _ _ g) in
         let f = later (λ z. h (ap (λ (r : Refusal). r .number) skips ∙ z)) in
-        record
-        { before = e ∷ f .before
-        ; bad = f .bad
-        ; behind = f .behind
-        ; in-order = ap (λ (x : List Event). e ∷ x) (f .in-order)
-        ; before-good = ap (λ (r : Refusal). r .number) (cond-yes (eqb (e .fault) 0) (firstBad (f .before)) _ (eq-eqb _ _ g)) ∙ f .before-good
-        ; is-bad = f .is-bad
-        ; told = skips ∙ f .told
+        record {
+          before = e ∷ f .before;
+          bad = f .bad;
+          behind = f .behind;
+          in-order = ap (λ (x : List Event). e ∷ x) (f .in-order);
+          before-good = ap (λ (r : Refusal). r .number) (cond-yes (eqb (e .fault) 0) (firstBad (f .before)) _ (eq-eqb _ _ g)) ∙ f .before-good;
+          is-bad = f .is-bad;
+          told = skips ∙ f .told;
         }
 
 -- A refused run leaves chip, memory and output as they were, with both numbers 0.

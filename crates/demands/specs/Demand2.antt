@@ -108,13 +108,13 @@ status-bits k h =
     let t = weight (k .tb) 32 in
     let u = weight (k .suspended) 64 in
     let p = weight (k .srwp) 128 in
-    record
-    { rdy = omega (arith, r .1, e .0, e .1, t .0, t .1, u .0, u .1, p .0, p .1)
-    ; wen = omega (arith, r .1, e .0, e .1, t .0, t .1, u .0, u .1, p .0, p .1)
-    ; bp = omega (arith, r .1, e .0, e .1, t .0, t .1, u .0, u .1, p .0, p .1)
-    ; tb = omega (arith, r .1, e .0, e .1, t .0, t .1, u .0, u .1, p .0, p .1)
-    ; sus = omega (arith, r .1, e .0, e .1, t .0, t .1, u .0, u .1, p .0, p .1)
-    ; srwp = omega (arith, r .1, e .0, e .1, t .0, t .1, u .0, u .1, p .0, p .1)
+    record {
+      rdy = omega (arith, r .1, e .0, e .1, t .0, t .1, u .0, u .1, p .0, p .1);
+      wen = omega (arith, r .1, e .0, e .1, t .0, t .1, u .0, u .1, p .0, p .1);
+      bp = omega (arith, r .1, e .0, e .1, t .0, t .1, u .0, u .1, p .0, p .1);
+      tb = omega (arith, r .1, e .0, e .1, t .0, t .1, u .0, u .1, p .0, p .1);
+      sus = omega (arith, r .1, e .0, e .1, t .0, t .1, u .0, u .1, p .0, p .1);
+      srwp = omega (arith, r .1, e .0, e .1, t .0, t .1, u .0, u .1, p .0, p .1);
     }
   where
     weight : (b : Bool) (w : ℕ) → (_≡_ {A = ℕ} (cond b w 0) (w * cond b 1 0)) × (_≤_ (cond b 1 0) 1)

@@ -93,9 +93,9 @@ module _ (S : ℕ) (kind : JobKind) (place : ℕ) (page : List ℕ) where
         read {w′} {n} ew en st =
             subst (λ (q : World). Outlook d k w q) ew
             (subst (λ (q : ℕ). Outlook d q w w′) en
-            (record
-            { memory-is = st .laid-down ∙ laid-steps S kind place page bits d n (w .memory)
-            ; where-it-is = ⊎-elim (λ on. inl (on .0, on .1 .1)) (λ end. inr end) (st .where-it-is)
+            (record {
+              memory-is = st .laid-down ∙ laid-steps S kind place page bits d n (w .memory);
+              where-it-is = ⊎-elim (λ on. inl (on .0, on .1 .1)) (λ end. inr end) (st .where-it-is);
             }))
 
     -- A reset, a power cut or a job begun in suspension leaves just those k steps: any event that is no tick leaves the cells.

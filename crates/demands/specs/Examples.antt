@@ -223,13 +223,14 @@ erased-status n v m h e = ap statusByte (ticked-core n (erasing m) ∙ ap (ticks
 p9 : P9
 p9 m h =
     let a = erased 15 m h (closed-works .0) in
-    let b = erased 16 m h (closed-works .1) in
-    ( λ i l. ap (λ (q : List ℕ). getD q i 0) a ∙ blank-below 3840 m i l (omega arith)
-    , λ i l. ap (λ (q : List ℕ). getD q i 0) a ∙ sweep-outside (later blanked 0) m 0 3840 i (inr (omega arith))
-    , erased-status 15 0x03 m h (closed-works .3)
-    , λ i l. ap (λ (q : List ℕ). getD q i 0) b ∙ blank-below 4096 m i l (omega arith)
-    , λ i l. ap (λ (q : List ℕ). getD q i 0) b ∙ sweep-outside (later blanked 0) m 0 4096 i (inr (omega arith))
-    , erased-status 16 0x00 m h (closed-works .4))
+    let b = erased 16 m h (closed-works .1) in (
+      λ i l. ap (λ (q : List ℕ). getD q i 0) a ∙ blank-below 3840 m i l (omega arith),
+      λ i l. ap (λ (q : List ℕ). getD q i 0) a ∙ sweep-outside (later blanked 0) m 0 3840 i (inr (omega arith)),
+      erased-status 15 0x03 m h (closed-works .3),
+      λ i l. ap (λ (q : List ℕ). getD q i 0) b ∙ blank-below 4096 m i l (omega arith),
+      λ i l. ap (λ (q : List ℕ). getD q i 0) b ∙ sweep-outside (later blanked 0) m 0 4096 i (inr (omega arith)),
+      erased-status 16 0x00 m h (closed-works .4),
+    )
   where
     blank-below : (n : ℕ) (m : List ℕ) (i : ℕ) → i < n → i < length m → getD (sweep (later blanked 0) m 0 n) i 0 ≡ 0xFF
     blank-below n m i l k =

@@ -196,12 +196,14 @@ module _ (S : ℕ) (kind : JobKind) (place : ℕ) (page : List ℕ) (bits : Bits
     -- an event that changes neither cells nor job
     leaves : (o : Outcome) → o .memory ≡ m → o .ticks ≡ 0 → o .chip .core .job ≡ c .core .job → o .chip .page ≡ c .page → bitsOf (o .chip .core) ≡ bitsOf (c .core) → Goes i m o
     unfolding laid
-    leaves o em et ej ep eb =
-        ( em ∙ ap (λ (q : ℕ). laid stepOf i q m) (sym et)
-        , inl
-          ( omega (arith, et)
-          , subst (λ (q : ℕ). AtStep q (o .chip)) (sym (add-zero i) ∙ ap (λ (q : ℕ). i + q) (sym et))
-            (record { job-is = ej ∙ at .job-is; page-is = ep ∙ at .page-is; bits-are = eb ∙ at .bits-are })))
+    leaves o em et ej ep eb = (
+      em ∙ ap (λ (q : ℕ). laid stepOf i q m) (sym et),
+      inl (
+        omega (arith, et),
+        subst (λ (q : ℕ). AtStep q (o .chip)) (sym (add-zero i) ∙ ap (λ (q : ℕ). i + q) (sym et))
+            (record { job-is = ej ∙ at .job-is; page-is = ep ∙ at .page-is; bits-are = eb ∙ at .bits-are }),
+      ),
+    )
 
     unchanged-goes : (o : Outcome) → Unchanged c m o → Goes i m o
     unchanged-goes o u = leaves o (u .memory-same) (u .works-none) (u .job-same) (u .page-same) (u .bits-same)
@@ -227,31 +229,35 @@ module _ (S : ℕ) (kind : JobKind) (place : ℕ) (page : List ℕ) (bits : Bits
         let less : n < ticksLeft S (c .core) = omega (arith, left-is) in
         let most : n ≤ ticksLeft S (c .core) = omega (arith, left-is) in
         let w : worked S n (c .core) ≡ n = worked-go S (c .core) r n most in
-        let core-is : ticksCore S n (c .core) ≡ advanced n (c .core) = ticks-go S (c .core) r n less in
-        ( ticksMemory-go S (c .core) r (c .page) m n most ∙ steps-as n ∙ ap (λ (q : ℕ). laid stepOf i q m) (sym w)
-        , inl
-          ( omega (arith, w)
-          , record
-            { job-is =
-              ap (λ (q : Core). q .job) core-is
-              ∙ job-as (λ (j : Job). withSteps j (j .done + n))
-              ∙ ap (λ (q : ℕ). withSteps (record { kind = kind; place = place; done = i }) (i + q)) (sym w)
-            ; page-is = at .page-is
-            ; bits-are = ap bitsOf core-is ∙ at .bits-are
-            }))
+        let core-is : ticksCore S n (c .core) ≡ advanced n (c .core) = ticks-go S (c .core) r n less in (
+          ticksMemory-go S (c .core) r (c .page) m n most ∙ steps-as n ∙ ap (λ (q : ℕ). laid stepOf i q m) (sym w),
+          inl (
+            omega (arith, w),
+            record {
+              job-is =
+                  ap (λ (q : Core). q .job) core-is
+                  ∙ job-as (λ (j : Job). withSteps j (j .done + n))
+                  ∙ ap (λ (q : ℕ). withSteps (record { kind = kind; place = place; done = i }) (i + q)) (sym w);
+              page-is = at .page-is;
+              bits-are = ap bitsOf core-is ∙ at .bits-are;
+            },
+          ),
+        )
 
     ticks-all-go : (n : ℕ) → running (c .core) ≡ true → total kind S - i ≤ n → Goes i m (tick S c m n)
     ticks-all-go n r l =
         let enough : ticksLeft S (c .core) ≤ n = omega (arith, left-is) in
         let w : worked S n (c .core) ≡ ticksLeft S (c .core) = worked-over S (c .core) r n enough in
-        let core-is : ticksCore S n (c .core) ≡ endedAs kind (c .core) = ticks-over S (c .core) r n enough ∙ job-as (λ (j : Job). endedAs (j .kind) (c .core)) in
-        ( ticksMemory-over S (c .core) r n enough (c .page) m ∙ steps-as (ticksLeft S (c .core)) ∙ ap (λ (q : ℕ). laid stepOf i q m) (sym w)
-        , inr
-          ( omega (arith, w, left-is)
-          , record
-            { no-job = ap (λ (q : Core). isJob (q .job .kind)) core-is ∙ ended-idle kind (c .core)
-            ; bits-are = ap bitsOf core-is ∙ ended-bits kind (c .core) ∙ ap (bitsAfter kind) (at .bits-are)
-            }))
+        let core-is : ticksCore S n (c .core) ≡ endedAs kind (c .core) = ticks-over S (c .core) r n enough ∙ job-as (λ (j : Job). endedAs (j .kind) (c .core)) in (
+          ticksMemory-over S (c .core) r n enough (c .page) m ∙ steps-as (ticksLeft S (c .core)) ∙ ap (λ (q : ℕ). laid stepOf i q m) (sym w),
+          inr (
+            omega (arith, w, left-is),
+            record {
+              no-job = ap (λ (q : Core). isJob (q .job .kind)) core-is ∙ ended-idle kind (c .core);
+              bits-are = ap bitsOf core-is ∙ ended-bits kind (c .core) ∙ ap (bitsAfter kind) (at .bits-are);
+            },
+          ),
+        )
 
     tick-goes : (n : ℕ) → Goes i m (tick S c m n)
     tick-goes n = go (running (c .core)) refl (decLt n (total kind S - i))
@@ -277,20 +283,21 @@ module _ (S : ℕ) (kind : JobKind) (place : ℕ) (page : List ℕ) (bits : Bits
     Rests o = (o .memory ≡ m) × (o .ticks ≡ 0) × JobOver (o .chip)
 
     unchanged-rests : (o : Outcome) → Unchanged c m o → Rests o
-    unchanged-rests o u =
-        ( u .memory-same
-        , u .works-none
-        , record { no-job = ap (λ (j : Job). isJob (j .kind)) (u .job-same) ∙ over .no-job; bits-are = u .bits-same ∙ over .bits-are })
+    unchanged-rests o u = (
+      u .memory-same,
+      u .works-none,
+      record { no-job = ap (λ (j : Job). isJob (j .kind)) (u .job-same) ∙ over .no-job; bits-are = u .bits-same ∙ over .bits-are },
+    )
 
     tick-rests : (n : ℕ) → Rests (tick S c m n)
     tick-rests n =
         unchanged-rests (tick S c m n)
-        (record
-        { memory-same = ticksMemory-rest S n (c .core) (c .page) m over-rests
-        ; works-none = worked-rest S n (c .core) over-rests
-        ; job-same = ap (λ (q : Core). q .job) (ticks-rest S n (c .core) over-rests)
-        ; page-same = refl
-        ; bits-same = ap bitsOf (ticks-rest S n (c .core) over-rests)
+        (record {
+          memory-same = ticksMemory-rest S n (c .core) (c .page) m over-rests;
+          works-none = worked-rest S n (c .core) over-rests;
+          job-same = ap (λ (q : Core). q .job) (ticks-rest S n (c .core) over-rests);
+          page-same = refl;
+          bits-same = ap bitsOf (ticks-rest S n (c .core) over-rests);
         })
 
     pub event-rests : (kind′ body : ℕ) → Spares S c m kind′ → Rests (applied S c m kind′ body)
@@ -309,13 +316,13 @@ module _ (S : ℕ) (kind : JobKind) (place : ℕ) (page : List ℕ) (bits : Bits
 
   abbrev pub machine : Machine World Event stepOf (total kind S)
   machine =
-      record
-      { next = λ e w. after w (happens e w)
-      ; memory = λ w. w .memory
-      ; worked = λ e w. happens e w .ticks
-      ; At = λ i w. (i < total kind S) × AtStep i (w .chip)
-      ; Over = λ w. JobOver (w .chip)
-      ; Spares = λ e w. Spares S (w .chip) (w .memory) (e .kind)
-      ; goes = λ i e w a s. went i (happens e w) (w .memory) (event-goes i (w .chip) (w .memory) (a .1) (a .0) (e .kind) (e .body) s)
-      ; rests = λ e w o s. event-rests (w .chip) (w .memory) o (e .kind) (e .body) s
+      record {
+        next = λ e w. after w (happens e w);
+        memory = λ w. w .memory;
+        worked = λ e w. happens e w .ticks;
+        At = λ i w. (i < total kind S) × AtStep i (w .chip);
+        Over = λ w. JobOver (w .chip);
+        Spares = λ e w. Spares S (w .chip) (w .memory) (e .kind);
+        goes = λ i e w a s. went i (happens e w) (w .memory) (event-goes i (w .chip) (w .memory) (a .1) (a .0) (e .kind) (e .body) s);
+        rests = λ e w o s. event-rests (w .chip) (w .memory) o (e .kind) (e .body) s;
       }

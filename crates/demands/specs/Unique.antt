@@ -48,11 +48,12 @@ unique-run c m s out r r′ m₁ m₂ o₁ o₂ p q = (same (p .0) (q .0), same 
 pub unique-step : (S : ℕ) (c : Chip) (m : List ℕ) (kind body : ℕ) (r r′ : Stepped) (l₁ l₂ p₁ p₂ m₁ m₂ : List ℕ)
     → outcome (r .core) (r .frame) l₁ p₁ m₁ (r .said) (r .ticks) ≡ applied S c m kind body → outcome (r′ .core) (r′ .frame) l₂ p₂ m₂ (r′ .said) (r′ .ticks) ≡ applied S c m kind body
     → (r ≡ r′) × (l₁ ≡ l₂) × (p₁ ≡ p₂) × (m₁ ≡ m₂)
-unique-step S c m kind body r r′ l₁ l₂ p₁ p₂ m₁ m₂ p q =
-    ( ap (λ (o : Outcome). stepped o) (same p q)
-    , ap (λ (o : Outcome). o .chip .load) (same p q)
-    , ap (λ (o : Outcome). o .chip .page) (same p q)
-    , ap (λ (o : Outcome). o .memory) (same p q))
+unique-step S c m kind body r r′ l₁ l₂ p₁ p₂ m₁ m₂ p q = (
+  ap (λ (o : Outcome). stepped o) (same p q),
+  ap (λ (o : Outcome). o .chip .load) (same p q),
+  ap (λ (o : Outcome). o .chip .page) (same p q),
+  ap (λ (o : Outcome). o .memory) (same p q),
+)
   where
     stepped : Outcome → Stepped
     stepped o = record { core = o .chip .core; frame = o .chip .frame; said = o .said; ticks = o .ticks }

@@ -40,35 +40,35 @@ module _ (c : Chip) (m : List ℕ) (l : LegalChip c (length m)) where
 
   select-legal : LegalFrame (selectedFrame (c .frame)) n
   select-legal =
-      record
-      { address-small = l .frame-part .address-small
-      ; place-inside = l .frame-part .place-inside
-      ; count-small = l .frame-part .count-small
-      ; judgement-known = l .frame-part .judgement-known
+      record {
+        address-small = l .frame-part .address-small;
+        place-inside = l .frame-part .place-inside;
+        count-small = l .frame-part .count-small;
+        judgement-known = l .frame-part .judgement-known;
       }
 
   wp-legal : (wp : Bool) → LegalCore (wpAs wp (c .core)) (sectors n) n
   wp-legal wp =
-      record
-      { level-small = l .core-part .level-small
-      ; job-placed = l .core-part .job-placed
-      ; job-unfinished = l .core-part .job-unfinished
-      ; job-enabled = l .core-part .job-enabled
-      ; suspended-cells = l .core-part .suspended-cells
-      ; deep-idle = l .core-part .deep-idle
-      ; deep-unarmed = l .core-part .deep-unarmed
+      record {
+        level-small = l .core-part .level-small;
+        job-placed = l .core-part .job-placed;
+        job-unfinished = l .core-part .job-unfinished;
+        job-enabled = l .core-part .job-enabled;
+        suspended-cells = l .core-part .suspended-cells;
+        deep-idle = l .core-part .deep-idle;
+        deep-unarmed = l .core-part .deep-unarmed;
       }
 
   power-legal : LegalCore (poweredUp (c .core)) (sectors n) n
   power-legal =
-      record
-      { level-small = l .core-part .level-small
-      ; job-placed = refl
-      ; job-unfinished = λ e. absurd (false≢true e)
-      ; job-enabled = λ e. absurd (false≢true e)
-      ; suspended-cells = λ e. absurd (false≢true e)
-      ; deep-idle = λ _. refl
-      ; deep-unarmed = λ _. refl
+      record {
+        level-small = l .core-part .level-small;
+        job-placed = refl;
+        job-unfinished = λ e. absurd (false≢true e);
+        job-enabled = λ e. absurd (false≢true e);
+        suspended-cells = λ e. absurd (false≢true e);
+        deep-idle = λ _. refl;
+        deep-unarmed = λ _. refl;
       }
 
   abbrev Stays : Outcome → Type 0
@@ -78,12 +78,12 @@ module _ (c : Chip) (m : List ℕ) (l : LegalChip c (length m)) where
   deselect-legal loose =
       cond-either Stays (c .frame .selected) _ _
       (λ _.
-      record
-      { length-permitted = l .length-permitted
-      ; core-part =
-        settled-legal (sectors n) n (c .core) (l .core-part) (c .frame) loose (permitted-some n (l .length-permitted)) (permitted-whole n (l .length-permitted)) (l .frame-part .judgement-known)
-      ; frame-part = empty-legal false n some
-      ; tidy-part = empty-tidy
+      record {
+        length-permitted = l .length-permitted;
+        core-part =
+            settled-legal (sectors n) n (c .core) (l .core-part) (c .frame) loose (permitted-some n (l .length-permitted)) (permitted-whole n (l .length-permitted)) (l .frame-part .judgement-known);
+        frame-part = empty-legal false n some;
+        tidy-part = empty-tidy;
       })
       (λ _. l)
 

@@ -7,7 +7,6 @@ ghost use lib.ListN.{length};
 ghost use Rattle.chip.specs.Chip.{emptyFrame, blankLoad};
 ghost use Rattle.event.specs.Event.{whole, outcome, applied, selectedFrame, wpAs, poweredUp, deselect, tick};
 ghost use Rattle.event.specs.Alone.{knownKind, bodyLength, inRange, bodyUsed, refusal, done, answerOf, memoryOf};
-
 use chip::Chip;
 use chip::Core;
 use chip::Frame;
@@ -75,7 +74,15 @@ fn hand_over(yes: bool, load: &[u8; 256], page: &mut [u8; 256])
 }
 
 // A deselect, clean or loose: the verdict, its effect, and the empty frame left behind.
-fn deselect(core: Core, frame: Frame, load: &mut [u8; 256], page: &mut [u8; 256], mem: &[u8], sectors: u8, loose: bool) -> Stepped
+fn deselect(
+    core: Core,
+    frame: Frame,
+    load: &mut [u8; 256],
+    page: &mut [u8; 256],
+    mem: &[u8],
+    sectors: u8,
+    loose: bool,
+) -> Stepped
     ensures { λ r. ⌜ outcome (r .core) (r .frame) (now (load .exit)) (now (page .exit)) (now (mem .entry)) (r .said) (r .ticks)
         ≡ deselect sectors (whole core frame (now (load .entry)) (now (page .entry))) (now (mem .entry)) loose ⌝ }
 {
@@ -86,7 +93,11 @@ fn deselect(core: Core, frame: Frame, load: &mut [u8; 256], page: &mut [u8; 256]
     let v = verdict::verdict(core, frame, loose, sectors, n);
     hand_over(verdict::hands_over(frame, v), load, page);
     *load = [255; 256];
-    stays(verdict::settle(core, frame, v, n), chip::empty_frame(false), Record::Verdict(v))
+    stays(
+        verdict::settle(core, frame, v, n),
+        chip::empty_frame(false),
+        Record::Verdict(v),
+    )
 }
 
 // n ticks.
@@ -105,7 +116,16 @@ fn tick(core: Core, frame: Frame, page: &[u8; 256], mem: &mut [u8], sectors: u8,
 }
 
 // One event by its kind, 1 to 8, on the parts of a chip.
-pub fn step(core: Core, frame: Frame, load: &mut [u8; 256], page: &mut [u8; 256], mem: &mut [u8], sectors: u8, kind: u8, body: u32) -> Stepped
+pub fn step(
+    core: Core,
+    frame: Frame,
+    load: &mut [u8; 256],
+    page: &mut [u8; 256],
+    mem: &mut [u8],
+    sectors: u8,
+    kind: u8,
+    body: u32,
+) -> Stepped
     ensures { λ r. ⌜ outcome (r .core) (r .frame) (now (load .exit)) (now (page .exit)) (now (mem .exit)) (r .said) (r .ticks)
         ≡ applied sectors (whole core frame (now (load .entry)) (now (page .entry))) (now (mem .entry)) kind body ⌝ }
 {

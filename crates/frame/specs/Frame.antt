@@ -67,14 +67,14 @@ loading f =
 -- bytes 2 to 4 are the address; the last of them sets both places, in a memory of n cells
 abbrev pub addressing : ℕ → ℕ → Frame → Frame
 addressing n b f =
-    record
-    { selected = f .selected
-    ; opcode = f .opcode
-    ; address = cond (ltb (f .count) 4) (shifted (f .address) b) (f .address)
-    ; place = cond (eqb (f .count) 3) (reduced n (shifted (f .address) b)) (f .place)
-    ; offset = cond (eqb (f .count) 3) b (f .offset)
-    ; count = counted (f .count)
-    ; judgement = f .judgement
+    record {
+      selected = f .selected;
+      opcode = f .opcode;
+      address = cond (ltb (f .count) 4) (shifted (f .address) b) (f .address);
+      place = cond (eqb (f .count) 3) (reduced n (shifted (f .address) b)) (f .place);
+      offset = cond (eqb (f .count) 3) b (f .offset);
+      count = counted (f .count);
+      judgement = f .judgement;
     }
 
 -- ---- an exchange

@@ -94,11 +94,11 @@ allowed k opcode =
         → (k .suspended && not (rowOf opcode .suspended)) ≡ s → _≡_ {A = ℕ} (cond (not a) 3 (cond d 5 (cond r 6 (cond s 7 0)))) 0
         → Allowed k opcode
     go true false false false p q u v h =
-        record
-        { known = p
-        ; asleep = λ e. eqb-true _ _ (means (k .deep) (eqb opcode wake) q e)
-        ; while-running = means (running k) (rowOf opcode .running) u
-        ; while-suspended = means (k .suspended) (rowOf opcode .suspended) v
+        record {
+          known = p;
+          asleep = λ e. eqb-true _ _ (means (k .deep) (eqb opcode wake) q e);
+          while-running = means (running k) (rowOf opcode .running) u;
+          while-suspended = means (k .suspended) (rowOf opcode .suspended) v;
         }
     go true false false true p q u v h = absurd (omega arith)
     go true false true s p q u v h = absurd (omega arith)

@@ -69,34 +69,34 @@ module _ (n : ℕ) (some : 0 < n) (f : Frame) (l : LegalFrame f n) where
 
   reading-legal : (places : ℕ) → readPlaces (f .opcode) n ≡ places → LegalFrame (reading places f) n
   reading-legal places e =
-      record
-      { address-small = l .address-small
-      ; place-inside =
-        subst (λ (q : ℕ). nextPlace places (f .place) < q) (sym e)
-        (nextPlace-inside places (f .place) (subst (λ (q : ℕ). 0 < q) e (readPlaces-some (f .opcode) n some)))
-      ; count-small = counted-small (f .count)
-      ; judgement-known = l .judgement-known
+      record {
+        address-small = l .address-small;
+        place-inside =
+            subst (λ (q : ℕ). nextPlace places (f .place) < q) (sym e)
+            (nextPlace-inside places (f .place) (subst (λ (q : ℕ). 0 < q) e (readPlaces-some (f .opcode) n some)));
+        count-small = counted-small (f .count);
+        judgement-known = l .judgement-known;
       }
 
   addressing-legal : (b : ℕ) → b < 256 → (f .opcode ≡ jedecId → ⊥) → LegalFrame (addressing n b f) n
   addressing-legal b h other =
-      record
-      { address-small = cond-either (λ (q : ℕ). q < 2 ^ 24) (ltb (f .count) 4) _ _ (λ _. shifted-small (f .address) b h) (λ _. l .address-small)
-      ; place-inside =
-        cond-either (λ (q : ℕ). q < readPlaces (f .opcode) n) (eqb (f .count) 3) _ _
-        (λ _. subst (λ (q : ℕ). reduced n (shifted (f .address) b) < q) (sym (readPlaces-cells (f .opcode) n other)) (mod-lt (shifted (f .address) b) some))
-        (λ _. l .place-inside)
-      ; count-small = counted-small (f .count)
-      ; judgement-known = l .judgement-known
+      record {
+        address-small = cond-either (λ (q : ℕ). q < 2 ^ 24) (ltb (f .count) 4) _ _ (λ _. shifted-small (f .address) b h) (λ _. l .address-small);
+        place-inside =
+            cond-either (λ (q : ℕ). q < readPlaces (f .opcode) n) (eqb (f .count) 3) _ _
+            (λ _. subst (λ (q : ℕ). reduced n (shifted (f .address) b) < q) (sym (readPlaces-cells (f .opcode) n other)) (mod-lt (shifted (f .address) b) some))
+            (λ _. l .place-inside);
+        count-small = counted-small (f .count);
+        judgement-known = l .judgement-known;
       }
 
   opened-legal : (k : Core) (b : ℕ) → f .place ≡ 0 → LegalFrame (opened k b f) n
   opened-legal k b z =
-      record
-      { address-small = l .address-small
-      ; place-inside = subst (λ (q : ℕ). q < readPlaces b n) (sym z) (readPlaces-some b n some)
-      ; count-small = counted-small (f .count)
-      ; judgement-known = judge-known k b
+      record {
+        address-small = l .address-small;
+        place-inside = subst (λ (q : ℕ). q < readPlaces b n) (sym z) (readPlaces-some b n some);
+        count-small = counted-small (f .count);
+        judgement-known = judge-known k b;
       }
 
 -- ---- an exchange

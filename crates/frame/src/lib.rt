@@ -5,7 +5,6 @@ ghost use Prim.Native.Nat.{_%_, _*_, _+_, _<_, _≤_};
 ghost use Rattle.part.specs.Part.{reduced};
 ghost use Rattle.chip.specs.declared.Record.{Record};
 ghost use Rattle.frame.specs.Frame.{judge, counted, shifted, nextPlace, nextOffset, opened, counting, reading, loading, addressing, readsCell, takesData, exchange, taken, exchanged};
-
 use chip::Core;
 use chip::Frame;
 use chip::Record;
@@ -135,7 +134,8 @@ fn address(n: usize, b: u8, f: Frame) -> Frame
 fn reads_cell(f: Frame) -> bool
     ensures { λ r. ⌜ r ≡ readsCell f ⌝ }
 {
-    ((f.opcode == Part::LOW_POWER_READ) & (4 <= f.count)) | ((f.opcode == Part::HIGH_SPEED_READ) & (5 <= f.count))
+    ((f.opcode == Part::LOW_POWER_READ) & (4 <= f.count))
+        | ((f.opcode == Part::HIGH_SPEED_READ) & (5 <= f.count))
 }
 
 fn takes_data(f: Frame) -> bool

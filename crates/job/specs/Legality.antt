@@ -25,27 +25,27 @@ running-awake k h = not-true (k .suspended) (and-right (isJob (k .job .kind)) (n
 module _ (S n : ℕ) (k : Core) (l : LegalCore k S n) where
   advanced-legal : k .job .done + 1 < total (k .job .kind) S → LegalCore (advanced 1 k) S n
   advanced-legal h =
-      record
-      { level-small = l .level-small
-      ; job-placed = l .job-placed
-      ; job-unfinished = λ _. h
-      ; job-enabled = l .job-enabled
-      ; suspended-cells = l .suspended-cells
-      ; deep-idle = l .deep-idle
-      ; deep-unarmed = l .deep-unarmed
+      record {
+        level-small = l .level-small;
+        job-placed = l .job-placed;
+        job-unfinished = λ _. h;
+        job-enabled = l .job-enabled;
+        suspended-cells = l .suspended-cells;
+        deep-idle = l .deep-idle;
+        deep-unarmed = l .deep-unarmed;
       }
 
   module _ (awake : k .suspended ≡ false) where
     cleared-legal : (level : ℕ) (tb srwp : Bool) → level ≤ 7 → LegalCore (cleared level tb srwp k) S n
     cleared-legal level tb srwp h =
-        record
-        { level-small = h
-        ; job-placed = refl
-        ; job-unfinished = λ e. absurd (false≢true e)
-        ; job-enabled = λ e. absurd (false≢true e)
-        ; suspended-cells = λ e. absurd (false≢true (sym awake ∙ e))
-        ; deep-idle = λ _. refl
-        ; deep-unarmed = l .deep-unarmed
+        record {
+          level-small = h;
+          job-placed = refl;
+          job-unfinished = λ e. absurd (false≢true e);
+          job-enabled = λ e. absurd (false≢true e);
+          suspended-cells = λ e. absurd (false≢true (sym awake ∙ e));
+          deep-idle = λ _. refl;
+          deep-unarmed = l .deep-unarmed;
         }
 
     ended-legal : (kind : JobKind) → LegalCore (endedAs kind k) S n

@@ -13,16 +13,16 @@ use Rattle.chip.specs.Chip.{running}
 -- the core with that many steps of its job done
 abbrev pub withDone : ℕ → Core → Core
 withDone d k =
-    record
-    { level = k .level
-    ; tb = k .tb
-    ; srwp = k .srwp
-    ; wen = k .wen
-    ; suspended = k .suspended
-    ; wp = k .wp
-    ; deep = k .deep
-    ; armed = k .armed
-    ; job = record { kind = k .job .kind; place = k .job .place; done = d }
+    record {
+      level = k .level;
+      tb = k .tb;
+      srwp = k .srwp;
+      wen = k .wen;
+      suspended = k .suspended;
+      wp = k .wp;
+      deep = k .deep;
+      armed = k .armed;
+      job = record { kind = k .job .kind; place = k .job .place; done = d };
     }
 
 -- the core with d more steps done

@@ -5,7 +5,6 @@ ghost use Rattle.cells.specs.Cells.{sweep, blanked};
 ghost use Rattle.chip.specs.declared.JobKind.{JobKind};
 ghost use Rattle.chip.specs.Job.{steps, total};
 ghost use Rattle.job.specs.Tick.{advanced, cleared, endedAs, TicksAnswer};
-
 use chip::Core;
 use chip::Job;
 use chip::JobKind;
@@ -98,7 +97,12 @@ fn end(kind: JobKind, core: Core) -> Core
     ensures { λ r. ⌜ r ≡ endedAs kind core ⌝ }
 {
     match kind {
-        JobKind::WriteStatus(value) => clear(value / 4 % 8, value / 32 % 2 == 1, value / 128 % 2 == 1, core),
+        JobKind::WriteStatus(value) => clear(
+            value / 4 % 8,
+            value / 32 % 2 == 1,
+            value / 128 % 2 == 1,
+            core,
+        ),
         JobKind::Idle => clear(core.level, core.tb, core.srwp, core),
         JobKind::Program => clear(core.level, core.tb, core.srwp, core),
         JobKind::SmallErase => clear(core.level, core.tb, core.srwp, core),

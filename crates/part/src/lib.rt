@@ -23,28 +23,49 @@ pub struct Row {
 
 impl Part {
     pub const PAGE: usize = 256;
+
     pub const SMALL_SECTOR: usize = 4096;
+
     pub const SECTOR: usize = 65536;
 
     pub const WRITE_ENABLE: u8 = 0x06;
+
     pub const WRITE_DISABLE: u8 = 0x04;
+
     pub const READ_STATUS: u8 = 0x05;
+
     pub const WRITE_STATUS: u8 = 0x01;
+
     pub const LOW_POWER_READ: u8 = 0x03;
+
     pub const HIGH_SPEED_READ: u8 = 0x0B;
+
     pub const SMALL_SECTOR_ERASE: u8 = 0x20;
+
     pub const SMALL_SECTOR_ERASE_2: u8 = 0xD7;
+
     pub const SECTOR_ERASE: u8 = 0xD8;
+
     pub const CHIP_ERASE: u8 = 0x60;
+
     pub const CHIP_ERASE_2: u8 = 0xC7;
+
     pub const PAGE_PROGRAM: u8 = 0x02;
+
     pub const PAGE_PROGRAM_2: u8 = 0x0A;
+
     pub const SUSPEND: u8 = 0xB0;
+
     pub const RESUME: u8 = 0x30;
+
     pub const JEDEC_ID: u8 = 0x9F;
+
     pub const WAKE: u8 = 0xAB;
+
     pub const DEEP_POWER_DOWN: u8 = 0xB9;
+
     pub const RESET_ENABLE: u8 = 0x66;
+
     pub const RESET: u8 = 0x99;
 
     // Opcode, length rule (0 any; 5 five or more; otherwise exactly that many bytes), allowed while running, allowed suspended.

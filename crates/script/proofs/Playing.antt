@@ -36,16 +36,16 @@ ranOf c written ticks = record { chip = c; refusal = 0; offset = 0; written = wr
 -- before the first event
 pub starts : (S : ℕ) (s : List ℕ) (c : Chip) (m out : List ℕ) → Playable s (length out) → Playing S s c m out c m out 0 0 0
 starts S s c m out p =
-    record
-    { same = refl
-    ; rest = refl
-    ; fits = omega (arith, p .roomy)
-    ; memory = refl
-    ; output = refl
-    ; clean = p .clean
-    ; inside = omega arith
-    ; short = p .short
-    ; few = omega arith
+    record {
+      same = refl;
+      rest = refl;
+      fits = omega (arith, p .roomy);
+      memory = refl;
+      output = refl;
+      clean = p .clean;
+      inside = omega arith;
+      short = p .short;
+      few = omega arith;
     }
 
 module _ {S : ℕ} {s : List ℕ} {c₀ : Chip} {m₀ out₀ : List ℕ} {c : Chip} {m out : List ℕ} {at pos ticks : ℕ} (i : Playing S s c₀ m₀ out₀ c m out at pos ticks) where
@@ -65,30 +65,30 @@ module _ {S : ℕ} {s : List ℕ} {c₀ : Chip} {m₀ out₀ : List ℕ} {c : Ch
     pub turns : (o : Outcome) (pos′ : ℕ) (out′ : List ℕ) → o ≡ applied S c m (getD s at 0) (bodyAt s at) → Stored out pos (o .said) pos′ out′ → o .ticks < 4294967296
         → length (o .memory) ≡ length m → length out′ ≡ length out → Playing S s c₀ m₀ out₀ (o .chip) (o .memory) out′ (nextAt s at) pos′ (ticks + o .ticks)
     turns o pos′ out′ e st t lm lo =
-        record
-        { same =
-          i .same
-          ∙ runs-more S s at (world c m (take pos out) ticks) more
-          ∙ ap (λ (x : Outcome). runs S (eventsFrom s (nextAt s at)) (after (world c m (take pos out) ticks) x)) (sym e)
-          ∙ ap (λ (w : List ℕ). runs S (eventsFrom s (nextAt s at)) (world (o .chip) (o .memory) w (ticks + o .ticks))) (sym (st .before))
-        ; rest =
-          let k : ℕ = length (recordBytes (o .said)) in
-          st .beyond
-          ∙ ap (λ (q : ℕ). drop q out) (st .place)
-          ∙ sym (drop-drop k pos out)
-          ∙ ap (drop k) (i .rest)
-          ∙ drop-drop k pos out₀
-          ∙ ap (λ (q : ℕ). drop q out₀) (sym (st .place))
-        ; fits =
-          let r : length (recordBytes (applied S c m (getD s at 0) (bodyAt s at) .said)) ≤ cond (yields (getD s at 0)) 2 0 = said-room S c m (getD s at 0) (bodyAt s at) (good .known) in
-          let q : length (recordBytes (o .said)) ≡ length (recordBytes (applied S c m (getD s at 0) (bodyAt s at) .said)) = ap (λ (x : Outcome). length (recordBytes (x .said))) e in
-          omega (arith, i .fits, room-more s at more, st .place)
-        ; memory = lm ∙ i .memory
-        ; output = lo ∙ i .output
-        ; clean = ap (λ (r : Refusal). r .number) (sym (firstBad-later s at more (no-fault s at more (i .clean)))) ∙ i .clean
-        ; inside = good .inside
-        ; short = i .short
-        ; few = omega (arith, i .few, t)
+        record {
+          same =
+              i .same
+              ∙ runs-more S s at (world c m (take pos out) ticks) more
+              ∙ ap (λ (x : Outcome). runs S (eventsFrom s (nextAt s at)) (after (world c m (take pos out) ticks) x)) (sym e)
+              ∙ ap (λ (w : List ℕ). runs S (eventsFrom s (nextAt s at)) (world (o .chip) (o .memory) w (ticks + o .ticks))) (sym (st .before));
+          rest =
+              let k : ℕ = length (recordBytes (o .said)) in
+              st .beyond
+              ∙ ap (λ (q : ℕ). drop q out) (st .place)
+              ∙ sym (drop-drop k pos out)
+              ∙ ap (drop k) (i .rest)
+              ∙ drop-drop k pos out₀
+              ∙ ap (λ (q : ℕ). drop q out₀) (sym (st .place));
+          fits =
+              let r : length (recordBytes (applied S c m (getD s at 0) (bodyAt s at) .said)) ≤ cond (yields (getD s at 0)) 2 0 = said-room S c m (getD s at 0) (bodyAt s at) (good .known) in
+              let q : length (recordBytes (o .said)) ≡ length (recordBytes (applied S c m (getD s at 0) (bodyAt s at) .said)) = ap (λ (x : Outcome). length (recordBytes (x .said))) e in
+              omega (arith, i .fits, room-more s at more, st .place);
+          memory = lm ∙ i .memory;
+          output = lo ∙ i .output;
+          clean = ap (λ (r : Refusal). r .number) (sym (firstBad-later s at more (no-fault s at more (i .clean)))) ∙ i .clean;
+          inside = good .inside;
+          short = i .short;
+          few = omega (arith, i .few, t);
         }
 
     -- the same of an exchange, whose byte stands behind its kind
@@ -117,11 +117,11 @@ module _ {S : ℕ} {s : List ℕ} {c₀ : Chip} {m₀ out₀ : List ℕ} {c : Ch
   ends over =
       let w : runs S (events s) (world c₀ m₀ [] 0) ≡ world c m (take pos out) ticks = i .same ∙ runs-none S s at (world c m (take pos out) ticks) over in
       let l : length (take pos out) ≡ pos = length-take-le pos out (omega (arith, i .fits)) in
-      record
-      { answer = ap (λ (n : ℕ). ranOf c n ticks) (sym l) ∙ ap done (sym w)
-      ; memory = ap (λ (x : World). x .memory) (sym w)
-      ; output =
-        sym (take-append-drop pos out)
-        ∙ ap (λ (d : List ℕ). take pos out ++ d) (i .rest ∙ ap (λ (n : ℕ). drop n out₀) (sym l))
-        ∙ ap (λ (x : World). x .written ++ drop (length (x .written)) out₀) (sym w)
+      record {
+        answer = ap (λ (n : ℕ). ranOf c n ticks) (sym l) ∙ ap done (sym w);
+        memory = ap (λ (x : World). x .memory) (sym w);
+        output =
+            sym (take-append-drop pos out)
+            ∙ ap (λ (d : List ℕ). take pos out ++ d) (i .rest ∙ ap (λ (n : ℕ). drop n out₀) (sym l))
+            ∙ ap (λ (x : World). x .written ++ drop (length (x .written)) out₀) (sym w);
       }

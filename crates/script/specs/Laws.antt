@@ -146,26 +146,26 @@ store-two o p a b h =
 -- a record of no, one or two bytes is stored by as many stores
 pub stored-none : (o : List ℕ) (p : ℕ) (said : Record) → recordBytes said ≡ [] → Stored o p said p o
 stored-none o p said e =
-    record
-    { place = sym (ap (λ (bs : List ℕ). p + length bs) e ∙ add-zero p)
-    ; before = sym (ap (λ (bs : List ℕ). take p o ++ bs) e ∙ append-nil (take p o))
-    ; beyond = refl
+    record {
+      place = sym (ap (λ (bs : List ℕ). p + length bs) e ∙ add-zero p);
+      before = sym (ap (λ (bs : List ℕ). take p o ++ bs) e ∙ append-nil (take p o));
+      beyond = refl;
     }
 
 pub stored-one : (o : List ℕ) (p a : ℕ) (said : Record) → recordBytes said ≡ a ∷ [] → p < length o → Stored o p said (p + 1) (set o p a)
 stored-one o p a said e h =
-    record
-    { place = sym (ap (λ (bs : List ℕ). p + length bs) e)
-    ; before = store-one o p a h ∙ ap (λ (bs : List ℕ). take p o ++ bs) (sym e)
-    ; beyond = drop-set-lt (p + 1) o p a (omega arith)
+    record {
+      place = sym (ap (λ (bs : List ℕ). p + length bs) e);
+      before = store-one o p a h ∙ ap (λ (bs : List ℕ). take p o ++ bs) (sym e);
+      beyond = drop-set-lt (p + 1) o p a (omega arith);
     }
 
 pub stored-two : (o : List ℕ) (p a b : ℕ) (said : Record) → recordBytes said ≡ a ∷ b ∷ [] → p + 1 < length o → Stored o p said (p + 2) (set (set o p a) (p + 1) b)
 stored-two o p a b said e h =
-    record
-    { place = sym (ap (λ (bs : List ℕ). p + length bs) e)
-    ; before = store-two o p a b h ∙ ap (λ (bs : List ℕ). take p o ++ bs) (sym e)
-    ; beyond = drop-set-lt (p + 2) (set o p a) (p + 1) b (omega arith) ∙ drop-set-lt (p + 2) o p a (omega arith)
+    record {
+      place = sym (ap (λ (bs : List ℕ). p + length bs) e);
+      before = store-two o p a b h ∙ ap (λ (bs : List ℕ). take p o ++ bs) (sym e);
+      beyond = drop-set-lt (p + 2) (set o p a) (p + 1) b (omega arith) ∙ drop-set-lt (p + 2) o p a (omega arith);
     }
 
 -- ---- a run
@@ -232,10 +232,10 @@ accepted c n s space = go (permitted n) (legal c n) (ltb 65536 (length s)) (eqb 
         → cond (not p) (refusalOf 1 0) (cond (not l) (refusalOf 2 0) (cond t (refusalOf 3 0) (cond (not b) (firstBad (events s)) (cond r (refusalOf 7 0) (refusalOf 0 0))))) .number ≡ 0
         → Accepted c n s space
     go true true false true false pe le te be re h =
-        record
-        { length-permitted = pe
-        ; state-legal = le
-        ; script-playable = record { short = ltb-false _ _ te; clean = eqb-true _ _ be; roomy = ltb-false _ _ re }
+        record {
+          length-permitted = pe;
+          state-legal = le;
+          script-playable = record { short = ltb-false _ _ te; clean = eqb-true _ _ be; roomy = ltb-false _ _ re };
         }
     go true true false true true pe le te be re h = absurd (omega arith)
     go true true false false r pe le te be re h = absurd (eqb-false _ _ be h)

@@ -6,7 +6,6 @@ ghost use Prim.Native.Nat.{ℕ, _+_, _≤_, _<_};
 ghost use lib.ListN.{length, take, drop, getD};
 ghost use Rattle.script.specs.Script.{bodyAt, nextAt, faultAt, yields, events, firstBad, room, refusalOf};
 ghost use Rattle.script.specs.Run.{recordBytes, Scan, Stored, Playable, Played, refusal, answerOf, memoryOf, outputOf};
-
 use chip::Chip;
 use chip::Core;
 use chip::Frame;
@@ -165,7 +164,16 @@ fn play(chip: Chip, mem: &mut [u8], script: &[u8], out: &mut [u8], sectors: u8) 
             continue;
         }
         let body = body_at(script, at);
-        let s = event::step(core, frame, &mut load, &mut page, mem, sectors, kind, body as u32);
+        let s = event::step(
+            core,
+            frame,
+            &mut load,
+            &mut page,
+            mem,
+            sectors,
+            kind,
+            body as u32,
+        );
         let said = s.said;
         pos = put(out, pos, said);
         core = s.core;

@@ -79,54 +79,54 @@ module _ (S n : ℕ) (k : Core) (l : LegalCore k S n) where
   -- arming or disarming keeps a core legal that is not both asleep and armed
   armed-legal : (a : Bool) → (k .deep ≡ true → a ≡ false) → LegalCore (armedAs a k) S n
   armed-legal a h =
-      record
-      { level-small = l .level-small
-      ; job-placed = l .job-placed
-      ; job-unfinished = l .job-unfinished
-      ; job-enabled = l .job-enabled
-      ; suspended-cells = l .suspended-cells
-      ; deep-idle = l .deep-idle
-      ; deep-unarmed = h
+      record {
+        level-small = l .level-small;
+        job-placed = l .job-placed;
+        job-unfinished = l .job-unfinished;
+        job-enabled = l .job-enabled;
+        suspended-cells = l .suspended-cells;
+        deep-idle = l .deep-idle;
+        deep-unarmed = h;
       }
 
   -- other flags keep it legal where they agree with the job
   flags-legal : (wen sus deep a : Bool) → (isJob (k .job .kind) ≡ true → wen ≡ true) → (sus ≡ true → hasCells (k .job .kind) ≡ true)
       → (deep ≡ true → isJob (k .job .kind) ≡ false) → (deep ≡ true → a ≡ false) → LegalCore (armedAs a (changed wen sus deep (k .job) k)) S n
   flags-legal wen sus deep a w s d u =
-      record
-      { level-small = l .level-small
-      ; job-placed = l .job-placed
-      ; job-unfinished = l .job-unfinished
-      ; job-enabled = w
-      ; suspended-cells = s
-      ; deep-idle = d
-      ; deep-unarmed = u
+      record {
+        level-small = l .level-small;
+        job-placed = l .job-placed;
+        job-unfinished = l .job-unfinished;
+        job-enabled = w;
+        suspended-cells = s;
+        deep-idle = d;
+        deep-unarmed = u;
       }
 
   -- a reset core is legal
   resets-legal : (a : Bool) → (k .deep ≡ true → a ≡ false) → LegalCore (armedAs a (resets k)) S n
   resets-legal a u =
-      record
-      { level-small = l .level-small
-      ; job-placed = refl
-      ; job-unfinished = λ e. absurd (false≢true e)
-      ; job-enabled = λ e. absurd (false≢true e)
-      ; suspended-cells = λ e. absurd (false≢true e)
-      ; deep-idle = λ _. refl
-      ; deep-unarmed = u
+      record {
+        level-small = l .level-small;
+        job-placed = refl;
+        job-unfinished = λ e. absurd (false≢true e);
+        job-enabled = λ e. absurd (false≢true e);
+        suspended-cells = λ e. absurd (false≢true e);
+        deep-idle = λ _. refl;
+        deep-unarmed = u;
       }
 
   -- a begun job is legal
   begins-legal : (f : Frame) (a : Bool) → 1 ≤ S → S * sector ≡ n → Begins k f S n → LegalCore (armedAs a (begins k f n)) S n
   begins-legal f a s e b =
-      record
-      { level-small = l .level-small
-      ; job-placed = begun-placed (jobOf (f .opcode) (f .address)) S n (f .address) s e
-      ; job-unfinished = begun-unfinished (jobOf (f .opcode) (f .address)) S s
-      ; job-enabled = λ _. b .enabled
-      ; suspended-cells = λ h. absurd (false≢true h)
-      ; deep-idle = λ h. absurd (false≢true (sym (awake h) ∙ b .begins-job))
-      ; deep-unarmed = λ h. absurd (false≢true (sym (awake h) ∙ b .begins-job))
+      record {
+        level-small = l .level-small;
+        job-placed = begun-placed (jobOf (f .opcode) (f .address)) S n (f .address) s e;
+        job-unfinished = begun-unfinished (jobOf (f .opcode) (f .address)) S s;
+        job-enabled = λ _. b .enabled;
+        suspended-cells = λ h. absurd (false≢true h);
+        deep-idle = λ h. absurd (false≢true (sym (awake h) ∙ b .begins-job));
+        deep-unarmed = λ h. absurd (false≢true (sym (awake h) ∙ b .begins-job));
       }
     where
       awake : k .deep ≡ true → isJob (jobOf (f .opcode) (f .address)) ≡ false

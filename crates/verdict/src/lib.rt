@@ -5,7 +5,6 @@ ghost use Rattle.part.specs.Part.{roundedDown, reduced};
 ghost use Rattle.chip.specs.declared.JobKind.{JobKind};
 ghost use Rattle.verdict.specs.Verdict.{jobOf, placeOf, targetProtected, pointless, jobVerdict, commandVerdict, listed, verdict};
 ghost use Rattle.verdict.specs.Effect.{changed, armedAs, begins, resets, instantly, acted, settled, handsOver};
-
 use chip::Core;
 use chip::Frame;
 use chip::Job;
@@ -56,7 +55,12 @@ fn place_of(kind: JobKind, n: usize, address: u32) -> u32
 fn place_protected(core: Core, sectors: u8, place: u32) -> bool
     ensures { λ r. ⌜ r ≡ targetProtected core JobKind.Program sectors place ⌝ }
 {
-    part::protected_sector(core.level, core.tb, sectors, (place as usize) / Part::SECTOR)
+    part::protected_sector(
+        core.level,
+        core.tb,
+        sectors,
+        (place as usize) / Part::SECTOR,
+    )
 }
 
 // Whether a job's target is protected.
@@ -80,7 +84,9 @@ fn is_pointless(core: Core, opcode: u8) -> bool
     let job = core.job;
     let kind = job.kind;
     let can_suspend = chip::is_running(core) & chip::has_cells(kind);
-    ((opcode == Part::SUSPEND) & !can_suspend) | ((opcode == Part::RESUME) & !core.suspended) | ((opcode == Part::RESET) & !core.armed)
+    ((opcode == Part::SUSPEND) & !can_suspend)
+        | ((opcode == Part::RESUME) & !core.suspended)
+        | ((opcode == Part::RESET) & !core.armed)
 }
 
 // The verdict on a command that asks for a job.

@@ -1,3 +1,4 @@
+-- `cells::blank` meets its contract. The loop has swept `i` cells; the range that lies inside is all that a sweep past the end changes (`sweep-inside`).
 use Prim.Native.Nat.{ℕ, _≤_, _-_, _+_, min}
 use mathlib.Core.Path.{_≡_, refl, sym, _∙_, ap}
 use native.Mathlib.Omega.{arith}
@@ -7,9 +8,6 @@ use Rattle.cells.specs.Laws.{sweep-none, sweep-more, length-sweep, sweep
 use borrow.Author.Needs.{needs}
 use Rattle.cells.proofs.blank.Statement.{statement}
 use Rattle.cells.proofs.blank.Tie as tie
-use Rattle.cells.proofs.blank.Reads as reads
-use Rattle.cells.proofs.blank.Lts as lts
-use Rattle.cells.proofs.inside.Reads as inside-reads
 
 abbrev Inv-loop : tie.InvT-loop
 Inv-loop mem₀ from n end i₀ mem i = (i ≤ end) × (mem ≡ sweep blanked mem₀ from i) × (length mem ≡ length mem₀)
@@ -17,39 +15,30 @@ Inv-loop mem₀ from n end i₀ mem i = (i ≤ end) × (mem ≡ sweep blanked me
 abbrev μ-loop : tie.MeasureT-loop
 μ-loop mem₀ from n end i₀ mem i = end - i
 
--- src/lib.rt:25:9
 inside-requires : tie.Need-inside-requires Inv-loop μ-loop
 inside-requires c κs = search needs
 
--- src/lib.rt:27:5
 loop-holds : tie.Need-loop-holds Inv-loop μ-loop
 loop-holds c = (search needs, sym (sweep-none _ _ _), refl)
 
--- src/lib.rt:28:13
 add-mem : tie.Need-add-mem Inv-loop μ-loop
 add-mem c = omega (arith, c .before .before .inside .ensures)
 
--- src/lib.rt:28:9
 slice-write-mem : tie.Need-slice-write-mem Inv-loop μ-loop
 slice-write-mem c = omega (arith, c .before .before .inside .ensures)
 
--- src/lib.rt:29:9
 add-i : tie.Need-add-i Inv-loop μ-loop
 add-i c = search needs
 
--- src/lib.rt:27:5
 loop-less : tie.Need-loop-less Inv-loop μ-loop
 loop-less c = search needs
 
--- src/lib.rt:27:5
 loop-again : tie.Need-loop-again Inv-loop μ-loop
 loop-again c = (search needs, rw (sweep-more, ← c .before .loop .inv .1), simp length-set (c .before .loop .inv .2))
 
--- src/lib.rt:22:1
 same-length : tie.Need-same-length Inv-loop μ-loop
 same-length c = c .before .loop .inv .2
 
--- src/lib.rt:22:1
 returns : tie.Need-returns Inv-loop μ-loop
 returns c =
     let e : c .before .loop .i ≡ min (c .before .before .before .before .args .n) (length (c .before .before .before .before .args .mem .now) - c .before .before .before .before .args .from) = omega (arith, c .before .before .inside .ensures) in

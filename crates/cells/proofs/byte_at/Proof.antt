@@ -1,20 +1,16 @@
+-- `cells::byte_at` meets its contract. Inside the slice it is the byte that was read; past the end the list's default, 0.
 use mathlib.Core.Path.{sym}
 use lib.ListN.{List·getD-eq-default}
 use borrow.Author.Needs.{needs}
 use Rattle.cells.proofs.byte_at.Statement.{statement}
 use Rattle.cells.proofs.byte_at.Tie as tie
-use Rattle.cells.proofs.byte_at.Reads as reads
-use Rattle.cells.proofs.byte_at.Lts as lts
 
--- src/lib.rt:140:16
 shared-slice-read-result : tie.Need-shared-slice-read-result
 shared-slice-read-result c = search needs
 
--- src/lib.rt:140:9
 returns : tie.Need-returns
 returns c = search needs
 
--- src/lib.rt:136:1
 returns-2 : tie.Need-returns-2
 returns-2 c = sym (List·getD-eq-default (c .before .args .s .now) 0 (c .if1 .left))
 

@@ -1,3 +1,4 @@
+-- `cells::program` meets its contract. The loop has swept `i` cells, each by the load byte at its own offset, (at + i) mod 256; a sweep past the end changes no more (`sweep-inside`).
 use Prim.Native.Nat.{ℕ, _≤_, _-_, _+_, _%_, min}
 use mathlib.Core.Path.{_≡_, refl, sym, _∙_, ap}
 use native.Mathlib.Omega.{arith}
@@ -7,9 +8,6 @@ use Rattle.cells.specs.Laws.{sweep-none, sweep-more, length-sweep, sweep
 use borrow.Author.Needs.{needs}
 use Rattle.cells.proofs.program.Statement.{statement}
 use Rattle.cells.proofs.program.Tie as tie
-use Rattle.cells.proofs.program.Reads as reads
-use Rattle.cells.proofs.program.Lts as lts
-use Rattle.cells.proofs.inside.Reads as inside-reads
 
 abbrev Inv-loop : tie.InvT-loop
 Inv-loop mem₀ load from at n end first i₀ mem i = (i ≤ end) × (mem ≡ sweep (later (anded load) at) mem₀ from i) × (length mem ≡ length mem₀)
@@ -17,53 +15,41 @@ Inv-loop mem₀ load from at n end first i₀ mem i = (i ≤ end) × (mem ≡ sw
 abbrev μ-loop : tie.MeasureT-loop
 μ-loop mem₀ load from at n end first i₀ mem i = end - i
 
--- src/lib.rt:37:9
 inside-requires : tie.Need-inside-requires Inv-loop μ-loop
 inside-requires c κs = search needs
 
--- src/lib.rt:40:5
 loop-holds : tie.Need-loop-holds Inv-loop μ-loop
 loop-holds c = (search needs, sym (sweep-none _ _ _), refl)
 
--- src/lib.rt:41:20
 add-cell : tie.Need-add-cell Inv-loop μ-loop
 add-cell c = search needs
 
--- src/lib.rt:42:21
 slice-read-mem : tie.Need-slice-read-mem Inv-loop μ-loop
 slice-read-mem c = search needs
 
--- src/lib.rt:42:39
 add-mem : tie.Need-add-mem Inv-loop μ-loop
 add-mem c = search needs
 
--- src/lib.rt:42:33
 element-copy-out-mem : tie.Need-element-copy-out-mem Inv-loop μ-loop
 element-copy-out-mem c = search needs
 
--- src/lib.rt:42:9
 slice-write-mem : tie.Need-slice-write-mem Inv-loop μ-loop
 slice-write-mem c = search needs
 
--- src/lib.rt:43:9
 add-i : tie.Need-add-i Inv-loop μ-loop
 add-i c = search needs
 
--- src/lib.rt:40:5
 loop-less : tie.Need-loop-less Inv-loop μ-loop
 loop-less c = search needs
 
--- src/lib.rt:40:5
 loop-again : tie.Need-loop-again Inv-loop μ-loop
 loop-again c =
     let e : (c .before .before .before .before .before .before .args .at % 256 + c .before .before .before .loop .i) % 256 ≡ (c .before .before .before .before .before .before .args .at + c .before .before .before .loop .i) % 256 = omega arith in
     (search needs, rw (sweep-more, ← c .before .before .before .loop .inv .1, e), simp length-set (c .before .before .before .loop .inv .2))
 
--- src/lib.rt:34:1
 same-length : tie.Need-same-length Inv-loop μ-loop
 same-length c = c .before .loop .inv .2
 
--- src/lib.rt:34:1
 returns : tie.Need-returns Inv-loop μ-loop
 returns c =
     let e : c .before .loop .i ≡ min (c .before .before .before .before .args .n) (length (c .before .before .before .before .args .mem .now) - c .before .before .before .before .args .from) = omega (arith, c .before .before .inside .ensures) in

@@ -1,3 +1,4 @@
+-- `chip::is_blank` meets its contract. The look has passed `i` bytes FFh, so the look from there on is the whole look.
 use Prim.Native.Nat.{ℕ, _≤_, _<_, _-_}
 use mathlib.Core.Path.{_≡_, refl, sym, _∙_}
 use mathlib.Core.Bool.{Bool}
@@ -7,8 +8,6 @@ use Rattle.chip.specs.Laws.{isBlank-stops, isBlank-goes, isBlank-ends}
 use borrow.Author.Needs.{needs}
 use Rattle.chip.proofs.is_blank.Statement.{statement}
 use Rattle.chip.proofs.is_blank.Tie as tie
-use Rattle.chip.proofs.is_blank.Reads as reads
-use Rattle.chip.proofs.is_blank.Lts as lts
 
 abbrev Inv-loop : tie.InvT-loop
 Inv-loop load i₀ i = (i ≤ length load) × (isBlank load ≡ isBlank (drop i load))
@@ -16,31 +15,24 @@ Inv-loop load i₀ i = (i ≤ length load) × (isBlank load ≡ isBlank (drop i 
 abbrev μ-loop : tie.MeasureT-loop
 μ-loop load i₀ i = length load - i
 
--- src/lib.rt:283:5
 loop-holds : tie.Need-loop-holds Inv-loop μ-loop
 loop-holds c = (search needs, refl)
 
--- src/lib.rt:284:12
 shared-slice-read-if1 : tie.Need-shared-slice-read-if1 Inv-loop μ-loop
 shared-slice-read-if1 c = search needs
 
--- src/lib.rt:285:13
 returns : tie.Need-returns Inv-loop μ-loop
 returns c = sym (c .before .before .before .loop .inv .1 ∙ isBlank-stops _ _ (c .before .before .loop-test .taken) (c .if1 .taken))
 
--- src/lib.rt:287:9
 add-i : tie.Need-add-i Inv-loop μ-loop
 add-i c = search needs
 
--- src/lib.rt:283:5
 loop-less : tie.Need-loop-less Inv-loop μ-loop
 loop-less c = search needs
 
--- src/lib.rt:283:5
 loop-again : tie.Need-loop-again Inv-loop μ-loop
 loop-again c = (search needs, c .before .before .before .loop .inv .1 ∙ isBlank-goes _ _ (c .before .before .loop-test .taken) (c .if1 .left))
 
--- src/lib.rt:279:1
 returns-2 : tie.Need-returns-2 Inv-loop μ-loop
 returns-2 c = sym (c .before .loop .inv .1 ∙ isBlank-ends _ _ (c .loop-test .left))
 

@@ -1,12 +1,10 @@
+-- `chip::is_empty` meets its contract. The six tests joined, as the definition joins them.
 use mathlib.Core.Path.{refl}
 use Rattle.chip.specs.Legal.{isEmpty}
 use borrow.Author.Needs.{needs}
 use Rattle.chip.proofs.is_empty.Statement.{statement}
 use Rattle.chip.proofs.is_empty.Tie as tie
-use Rattle.chip.proofs.is_empty.Reads as reads
-use Rattle.chip.proofs.is_empty.Lts as lts
 
--- src/lib.rt:273:1
 returns : tie.Need-returns
 unfolding isEmpty
 returns c = refl

@@ -1,3 +1,4 @@
+-- `chip::is_legal` meets its contract. A length with no sectors is none of the six; with some, they are the definition's, and the tests are joined as it joins them.
 use mathlib.Core.Path.{_≡_, refl, sym, _∙_, ap}
 use Prim.Native.Nat.{ℕ}
 use mathlib.Core.Bool.{true}
@@ -7,44 +8,29 @@ use Rattle.chip.specs.Legal.{legal}
 use borrow.Author.Needs.{needs}
 use Rattle.chip.proofs.is_legal.Statement.{statement}
 use Rattle.chip.proofs.is_legal.Tie as tie
-use Rattle.chip.proofs.is_legal.Reads as reads
-use Rattle.chip.proofs.is_legal.Lts as lts
-use Rattle.chip.proofs.is_blank.Reads as is-blank-reads
-use Rattle.chip.proofs.is_empty.Reads as is-empty-reads
-use Rattle.chip.proofs.is_legal_core.Reads as is-legal-core-reads
-use Rattle.chip.proofs.is_legal_frame.Reads as is-legal-frame-reads
-use Rattle.part.proofs.sectors_of.Reads as sectors-of-reads
 
--- src/lib.rt:296:9
 sectors-of-requires : tie.Need-sectors-of-requires
 sectors-of-requires c κs = search needs
 
--- src/lib.rt:298:9
 returns : tie.Need-returns
 unfolding legal
 returns c = rw (no-sectors (c .before .before .args .n) _ (c .before .sectors-of .ensures) (c .if1 .taken))
 
--- src/lib.rt:304:5
 is-legal-core-requires : tie.Need-is-legal-core-requires
 is-legal-core-requires c κs = search needs
 
--- src/lib.rt:304:39
 is-legal-frame-requires : tie.Need-is-legal-frame-requires
 is-legal-frame-requires c κs = search needs
 
--- src/lib.rt:304:76
 is-empty-requires : tie.Need-is-empty-requires
 is-empty-requires c κs = search needs
 
--- src/lib.rt:304:103
 slice-aggregate-is-blank : tie.Need-slice-aggregate-is-blank
 slice-aggregate-is-blank c = search needs
 
--- src/lib.rt:304:94
 is-blank-requires : tie.Need-is-blank-requires
 is-blank-requires c κs = search needs
 
--- src/lib.rt:293:1
 returns-2 : tie.Need-returns-2
 unfolding legal
 returns-2 c =

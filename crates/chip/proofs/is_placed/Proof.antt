@@ -1,67 +1,50 @@
+-- `chip::is_placed` meets its contract. By the kind, each as the definition has it.
 use borrow.Author.Needs.{needs}
 use Rattle.chip.proofs.is_placed.Statement.{statement}
 use Rattle.chip.proofs.is_placed.Tie as tie
-use Rattle.chip.proofs.is_placed.Reads as reads
-use Rattle.chip.proofs.is_placed.Lts as lts
-use Rattle.chip.proofs.aligned_to.Reads as aligned-to-reads
 
--- src/lib.rt:220:26
 enum-told : tie.Need-enum-told
 enum-told c = search needs
 
--- src/lib.rt:221:36
 enum-told-2 : tie.Need-enum-told-2
 enum-told-2 c = search needs
 
--- src/lib.rt:222:29
 enum-told-3 : tie.Need-enum-told-3
 enum-told-3 c = search needs
 
--- src/lib.rt:222:29
 aligned-to-requires : tie.Need-aligned-to-requires
 aligned-to-requires c κs = search needs
 
--- src/lib.rt:223:32
 enum-told-4 : tie.Need-enum-told-4
 enum-told-4 c = search needs
 
--- src/lib.rt:223:32
 aligned-to-requires-2 : tie.Need-aligned-to-requires-2
 aligned-to-requires-2 c κs = search needs
 
--- src/lib.rt:224:33
 enum-told-5 : tie.Need-enum-told-5
 enum-told-5 c = search needs
 
--- src/lib.rt:224:33
 aligned-to-requires-3 : tie.Need-aligned-to-requires-3
 aligned-to-requires-3 c κs = search needs
 
--- src/lib.rt:225:31
 enum-told-6 : tie.Need-enum-told-6
 enum-told-6 c = search needs
 
--- src/lib.rt:216:1
 returns : tie.Need-returns
 returns c = search needs
 
--- src/lib.rt:216:1
 returns-2 : tie.Need-returns-2
 returns-2 c = rw (c .enum-told2 .given .1)
 
--- src/lib.rt:216:1
 returns-3 : tie.Need-returns-3
 returns-3 c = rw (c .before .enum-told3 .given .1, c .aligned-to .ensures)
 
--- src/lib.rt:216:1
 returns-4 : tie.Need-returns-4
 returns-4 c = rw (c .before .enum-told4 .given .1, c .aligned-to2 .ensures)
 
--- src/lib.rt:216:1
 returns-5 : tie.Need-returns-5
 returns-5 c = rw (c .before .enum-told5 .given .1, c .aligned-to3 .ensures)
 
--- src/lib.rt:216:1
 returns-6 : tie.Need-returns-6
 returns-6 c = rw (c .enum-told6 .given .1)
 

@@ -1,59 +1,45 @@
+-- `chip::total_of` meets its contract. By the kind; a byte of sectors makes at most 65,280 steps.
 use native.Mathlib.Omega.{arith}
 use borrow.Author.Needs.{needs}
 use Rattle.chip.proofs.total_of.Statement.{statement}
 use Rattle.chip.proofs.total_of.Tie as tie
-use Rattle.chip.proofs.total_of.Reads as reads
-use Rattle.chip.proofs.total_of.Lts as lts
 
--- src/lib.rt:166:26
 enum-told : tie.Need-enum-told
 enum-told c = search needs
 
--- src/lib.rt:167:36
 enum-told-2 : tie.Need-enum-told-2
 enum-told-2 c = search needs
 
--- src/lib.rt:168:29
 enum-told-3 : tie.Need-enum-told-3
 enum-told-3 c = search needs
 
--- src/lib.rt:169:32
 enum-told-4 : tie.Need-enum-told-4
 enum-told-4 c = search needs
 
--- src/lib.rt:170:33
 enum-told-5 : tie.Need-enum-told-5
 enum-told-5 c = search needs
 
--- src/lib.rt:171:38
 enum-told-6 : tie.Need-enum-told-6
 enum-told-6 c = search needs
 
--- src/lib.rt:171:31
 mul-result : tie.Need-mul-result
 mul-result c = search needs
 
--- src/lib.rt:162:1
 returns : tie.Need-returns
 returns c = search needs
 
--- src/lib.rt:162:1
 returns-2 : tie.Need-returns-2
 returns-2 c = search needs
 
--- src/lib.rt:162:1
 returns-3 : tie.Need-returns-3
 returns-3 c = search needs
 
--- src/lib.rt:162:1
 returns-4 : tie.Need-returns-4
 returns-4 c = search needs
 
--- src/lib.rt:162:1
 returns-5 : tie.Need-returns-5
 returns-5 c = search needs
 
--- src/lib.rt:162:1
 returns-6 : tie.Need-returns-6
 returns-6 c = (rw (c .enum-told6 .given .1), omega arith)
 

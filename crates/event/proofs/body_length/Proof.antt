@@ -1,32 +1,26 @@
+-- `event::body_length` meets its contract. By the kind.
 use borrow.Author.Tests.{ne-eqb}
 use Rattle.event.specs.Alone.{bodyLength}
 use borrow.Author.Needs.{needs}
 use Rattle.event.proofs.body_length.Statement.{statement}
 use Rattle.event.proofs.body_length.Tie as tie
-use Rattle.event.proofs.body_length.Reads as reads
-use Rattle.event.proofs.body_length.Lts as lts
 
--- src/lib.rt:140:1
 returns : tie.Need-returns
 unfolding bodyLength
 returns c = (rw (c .match .keys1), search needs)
 
--- src/lib.rt:140:1
 returns-2 : tie.Need-returns-2
 unfolding bodyLength
 returns-2 c = (rw (c .match .keys2), search needs)
 
--- src/lib.rt:140:1
 returns-3 : tie.Need-returns-3
 unfolding bodyLength
 returns-3 c = (rw (c .match .keys3), search needs)
 
--- src/lib.rt:140:1
 returns-4 : tie.Need-returns-4
 unfolding bodyLength
 returns-4 c = (rw (c .match .keys4), search needs)
 
--- src/lib.rt:140:1
 returns-5 : tie.Need-returns-5
 unfolding bodyLength
 returns-5 c = (rw (ne-eqb _ _ (c .match .rest .0 .0 .0 .1), ne-eqb _ _ (c .match .rest .0 .0 .1), ne-eqb _ _ (c .match .rest .0 .1), ne-eqb _ _ (c .match .rest .1)), search needs)

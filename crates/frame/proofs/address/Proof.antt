@@ -1,36 +1,26 @@
+-- `frame::address` meets its contract. From byte 5 on only the count moves; the bytes before shift in, and the last of them sets both places.
 use borrow.Author.Tests.{lt-ltb, le-ltb, eq-eqb, ne-eqb}
 use native.Mathlib.Omega.{arith}
 use Prim.Native.Nat.{_<_, _≤_}
 use borrow.Author.Needs.{needs}
 use Rattle.frame.proofs.address.Statement.{statement}
 use Rattle.frame.proofs.address.Tie as tie
-use Rattle.frame.proofs.address.Reads as reads
-use Rattle.frame.proofs.address.Lts as lts
-use Rattle.frame.proofs.count_up.Reads as count-up-reads
-use Rattle.frame.proofs.shift_in.Reads as shift-in-reads
-use Rattle.part.proofs.cell_of.Reads as cell-of-reads
 
--- src/lib.rt:121:5
 count-up-requires : tie.Need-count-up-requires
 count-up-requires c κs = search needs
 
--- src/lib.rt:123:9
 returns : tie.Need-returns
 returns c = rw (c .before .before .count-up .ensures, le-ltb (c .before .before .before .args .f .count) 4 (c .if1 .taken), ne-eqb (c .before .before .before .args .f .count) 3 (λ e. omega (arith, c .if1 .taken)))
 
--- src/lib.rt:125:9
 shift-in-requires : tie.Need-shift-in-requires
 shift-in-requires c κs = search needs
 
--- src/lib.rt:128:9
 cell-of-requires : tie.Need-cell-of-requires
 cell-of-requires c κs = search needs
 
--- src/lib.rt:130:9
 returns-2 : tie.Need-returns-2
 returns-2 c = rw (c .before .before .before .before .before .before .count-up .ensures, lt-ltb (c .before .before .before .before .before .before .before .args .f .count) 4 (c .before .before .before .before .if1 .left), eq-eqb (c .before .before .before .before .before .before .before .args .f .count) 3 (c .before .if2 .taken), c .cell-of .ensures, c .before .before .before .shift-in .ensures)
 
--- src/lib.rt:117:1
 returns-3 : tie.Need-returns-3
 returns-3 c = rw (c .before .before .before .before .before .count-up .ensures, lt-ltb (c .before .before .before .before .before .before .args .f .count) 4 (c .before .before .before .if1 .left), ne-eqb (c .before .before .before .before .before .before .args .f .count) 3 (c .if2 .left), c .before .before .shift-in .ensures)
 

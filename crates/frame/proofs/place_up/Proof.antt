@@ -1,29 +1,23 @@
+-- `frame::place_up` meets its contract. Inside the row the next place, and 0 after the last.
 use borrow.Author.Tests.{lt-ltb, le-ltb}
 use native.Mathlib.Omega.{arith}
 use Prim.Native.Nat.{_+_}
 use borrow.Author.Needs.{needs}
 use Rattle.frame.proofs.place_up.Statement.{statement}
 use Rattle.frame.proofs.place_up.Tie as tie
-use Rattle.frame.proofs.place_up.Reads as reads
-use Rattle.frame.proofs.place_up.Lts as lts
 
--- src/lib.rt:56:12
 add-if2 : tie.Need-add-if2
 add-if2 c = search needs
 
--- src/lib.rt:57:20
 add-result : tie.Need-add-result
 add-result c = search needs
 
--- src/lib.rt:57:13
 returns : tie.Need-returns
 returns c = rw (lt-ltb _ _ (c .if2 .taken))
 
--- src/lib.rt:59:9
 returns-2 : tie.Need-returns-2
 returns-2 c = rw (le-ltb _ _ (c .if2 .left))
 
--- src/lib.rt:52:1
 returns-3 : tie.Need-returns-3
 returns-3 c = rw (le-ltb (c .before .args .place + 1) (c .before .args .n) (omega (arith, c .if1 .left)))
 

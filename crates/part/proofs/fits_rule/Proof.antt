@@ -1,22 +1,18 @@
+-- `part::fits_rule` meets its contract. By the rule's number: any, five or more, exactly that many.
 use borrow.Author.Tests.{ne-eqb}
 use Rattle.part.specs.Table.{fitsRule}
 use borrow.Author.Needs.{needs}
 use Rattle.part.proofs.fits_rule.Statement.{statement}
 use Rattle.part.proofs.fits_rule.Tie as tie
-use Rattle.part.proofs.fits_rule.Reads as reads
-use Rattle.part.proofs.fits_rule.Lts as lts
 
--- src/lib.rt:148:1
 returns : tie.Need-returns
 unfolding fitsRule
 returns c = rw (c .match .keys1)
 
--- src/lib.rt:148:1
 returns-2 : tie.Need-returns-2
 unfolding fitsRule
 returns-2 c = rw (c .match .keys2)
 
--- src/lib.rt:148:1
 returns-3 : tie.Need-returns-3
 unfolding fitsRule
 returns-3 c = rw (ne-eqb _ _ (c .match .rest .0 .1), ne-eqb _ _ (c .match .rest .1))

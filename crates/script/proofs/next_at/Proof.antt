@@ -1,32 +1,24 @@
+-- `script::next_at` meets its contract. The kind byte and its body.
 use native.Mathlib.Omega.{arith}
 use borrow.Author.Needs.{needs}
 use Rattle.script.proofs.next_at.Statement.{statement}
 use Rattle.script.proofs.next_at.Tie as tie
-use Rattle.script.proofs.next_at.Reads as reads
-use Rattle.script.proofs.next_at.Lts as lts
-use Rattle.event.proofs.body_length.Reads as body-length-reads
 
--- src/lib.rt:58:5
 add-result : tie.Need-add-result
 add-result c = search needs
 
--- src/lib.rt:58:33
 shared-slice-read-body-length : tie.Need-shared-slice-read-body-length
 shared-slice-read-body-length c = search needs
 
--- src/lib.rt:58:33
 cast-body-length : tie.Need-cast-body-length
 cast-body-length c = omega (arith, c .before .shared-slice-known .given (c .before .before .args .at))
 
--- src/lib.rt:58:14
 body-length-requires : tie.Need-body-length-requires
 body-length-requires c κs = search needs
 
--- src/lib.rt:58:5
 add-result-2 : tie.Need-add-result-2
 add-result-2 c = omega (arith, c .body-length .ensures .1, c .before .before .before .good)
 
--- src/lib.rt:54:1
 returns : tie.Need-returns
 returns c = rw (c .body-length .ensures .0)
 

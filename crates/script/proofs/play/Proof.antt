@@ -1,3 +1,4 @@
+-- `script::play` meets its contract. What is left of the script, run from here, comes to what the whole script comes to (`Playing`); each turn is one event of it.
 use Prim.Native.Nat.{ℕ, _+_, _-_, _<_, _≤_}
 use mathlib.Core.Path.{_≡_, refl, sym, _∙_, ap}
 use mathlib.Core.List.{List}
@@ -10,13 +11,6 @@ use Rattle.script.proofs.Playing.{Playing, starts, good, finds-room, tu
 use borrow.Author.Needs.{needs}
 use Rattle.script.proofs.play.Statement.{statement}
 use Rattle.script.proofs.play.Tie as tie
-use Rattle.script.proofs.play.Reads as reads
-use Rattle.script.proofs.play.Lts as lts
-use Rattle.event.proofs.step.Reads as step-reads
-use Rattle.frame.proofs.exchange.Reads as exchange-reads
-use Rattle.script.proofs.body_at.Reads as body-at-reads
-use Rattle.script.proofs.next_at.Reads as next-at-reads
-use Rattle.script.proofs.put.Reads as put-reads
 
 abbrev Inv-loop : tie.InvT-loop
 Inv-loop mem₀ script out₀ sectors core₀ frame₀ load₀ page₀ at₀ pos₀ ticks₀ mem out core frame load page at pos ticks = Playing sectors script (whole core₀ frame₀ load₀ page₀) mem₀ out₀ (whole core frame load page) mem out at pos ticks
@@ -24,89 +18,68 @@ Inv-loop mem₀ script out₀ sectors core₀ frame₀ load₀ page₀ at₀ pos
 abbrev μ-loop : tie.MeasureT-loop
 μ-loop mem₀ script out₀ sectors core₀ frame₀ load₀ page₀ at₀ pos₀ ticks₀ mem out core frame load page at pos ticks = length script - at
 
--- src/lib.rt:157:5
 loop-holds : tie.Need-loop-holds Inv-loop μ-loop
 loop-holds c = starts _ _ _ _ _ (c .before .before .before .before .before .before .before .pre)
 
--- src/lib.rt:158:20
 shared-slice-read-kind : tie.Need-shared-slice-read-kind Inv-loop μ-loop
 shared-slice-read-kind c = search needs
 
--- src/lib.rt:160:73
 add-exchange : tie.Need-add-exchange Inv-loop μ-loop
 add-exchange c = omega (arith, good (c .before .before .before .before .before .loop .inv) (c .before .before .before .before .loop-test .taken) .inside, exchange-next (c .before .before .before .before .before .before .before .before .before .before .before .before .before .args .script .now) (c .before .before .before .before .before .loop .at) (c .before .before .if1 .taken))
 
--- src/lib.rt:160:66
 shared-slice-read-exchange : tie.Need-shared-slice-read-exchange Inv-loop μ-loop
 shared-slice-read-exchange c = omega (arith, good (c .before .before .before .before .before .before .loop .inv) (c .before .before .before .before .before .loop-test .taken) .inside, exchange-next (c .before .before .before .before .before .before .before .before .before .before .before .before .before .before .args .script .now) (c .before .before .before .before .before .before .loop .at) (c .before .before .before .if1 .taken))
 
--- src/lib.rt:160:17
 exchange-requires : tie.Need-exchange-requires Inv-loop μ-loop
 exchange-requires c κs = search needs
 
--- src/lib.rt:162:13
 put-requires : tie.Need-put-requires Inv-loop μ-loop
 put-requires c κs = exchange-finds-room (c .before .before .before .before .before .before .before .before .loop .inv) (c .before .before .before .before .before .before .before .loop-test .taken) (c .before .before .before .before .before .if1 .taken) (c .before .before .shared-slice-known3 .given (c .before .before .before .before .before .before .before .before .loop .at + 1) .fits) _ _ _ (c .before .exchange .ensures)
 
--- src/lib.rt:164:13
 add-at : tie.Need-add-at Inv-loop μ-loop
 add-at c = omega (arith, good (c .before .before .before .before .before .before .before .before .before .before .before .before .loop .inv) (c .before .before .before .before .before .before .before .before .before .before .before .loop-test .taken) .inside, exchange-next (c .before .before .before .before .before .before .before .before .before .before .before .before .before .before .before .before .before .before .before .before .args .script .now) (c .before .before .before .before .before .before .before .before .before .before .before .before .loop .at) (c .before .before .before .before .before .before .before .before .before .if1 .taken))
 
--- src/lib.rt:157:5
 loop-less : tie.Need-loop-less Inv-loop μ-loop
 loop-less c = omega (arith, c .before .before .before .before .before .before .before .before .before .before .before .loop-test .taken)
 
--- src/lib.rt:157:5
 loop-again : tie.Need-loop-again Inv-loop μ-loop
 loop-again c = exchange-turns (c .before .before .before .before .before .before .before .before .before .before .before .before .loop .inv) (c .before .before .before .before .before .before .before .before .before .before .before .loop-test .taken) (c .before .before .before .before .before .before .before .before .before .if1 .taken) (c .before .before .before .before .before .before .shared-slice-known3 .given (c .before .before .before .before .before .before .before .before .before .before .before .before .loop .at + 1) .fits) _ _ _ (c .before .before .before .before .before .exchange .ensures) _ _ (c .before .before .before .put .ensures) (c .before .before .before .put .kept .0)
 
--- src/lib.rt:167:13
 body-at-requires : tie.Need-body-at-requires Inv-loop μ-loop
 body-at-requires c κs = search needs
 
--- src/lib.rt:168:84
 cast-step : tie.Need-cast-step Inv-loop μ-loop
 cast-step c = omega (arith, c .before .before .before .body-at .ensures .1)
 
--- src/lib.rt:168:13
 step-requires : tie.Need-step-requires Inv-loop μ-loop
 step-requires c κs = search needs
 
--- src/lib.rt:170:9
 put-requires-2 : tie.Need-put-requires-2 Inv-loop μ-loop
 put-requires-2 c κs = finds-room (c .before .before .before .before .before .before .before .before .before .before .before .loop .inv) (c .before .before .before .before .before .before .before .before .before .before .loop-test .taken) _ (c .before .before .before .step .ensures ∙ ap (applied _ _ _ _) (c .before .before .before .before .before .before .before .body-at .ensures .0))
 
--- src/lib.rt:173:18
 cast-ticks : tie.Need-cast-ticks Inv-loop μ-loop
 cast-ticks c = search needs
 
--- src/lib.rt:173:9
 add-ticks : tie.Need-add-ticks Inv-loop μ-loop
 add-ticks c =
     let t : c .before .before .before .before .before .before .before .before .before .step .result .ticks < 4294967296 = search needs in
     omega (arith, c .before .before .before .before .before .before .before .before .before .before .before .before .before .before .before .before .before .loop .inv .few, c .before .before .before .before .before .before .before .before .before .before .before .before .before .before .before .before .before .loop .inv .inside, c .before .before .before .before .before .before .before .before .before .before .before .before .before .before .before .before .before .loop .inv .short)
 
--- src/lib.rt:174:9
 next-at-requires : tie.Need-next-at-requires Inv-loop μ-loop
 next-at-requires c κs = search needs
 
--- src/lib.rt:157:5
 loop-less-2 : tie.Need-loop-less-2 Inv-loop μ-loop
 loop-less-2 c = omega (arith, c .next-at .ensures, c .before .before .before .before .before .before .before .before .before .before .before .before .before .before .before .before .before .loop-test .taken)
 
--- src/lib.rt:157:5
 loop-again-2 : tie.Need-loop-again-2 Inv-loop μ-loop
 loop-again-2 c = rw (c .next-at .ensures) (turns (c .before .before .before .before .before .before .before .before .before .before .before .before .before .before .before .before .before .before .loop .inv) (c .before .before .before .before .before .before .before .before .before .before .before .before .before .before .before .before .before .loop-test .taken) _ _ _ (c .before .before .before .before .before .before .before .before .before .before .step .ensures ∙ ap (applied _ _ _ _) (c .before .before .before .before .before .before .before .before .before .before .before .before .before .before .body-at .ensures .0)) (c .before .before .before .before .before .before .put2 .ensures) (search needs) (c .before .before .before .before .before .before .before .before .before .before .step .kept .1 .1 .1 .1 .0) (c .before .before .before .before .before .before .put2 .kept .0))
 
--- src/lib.rt:146:1
 same-length : tie.Need-same-length Inv-loop μ-loop
 same-length c = c .before .loop .inv .memory
 
--- src/lib.rt:146:1
 same-length-2 : tie.Need-same-length-2 Inv-loop μ-loop
 same-length-2 c = c .before .loop .inv .output
 
--- src/lib.rt:146:1
 returns : tie.Need-returns Inv-loop μ-loop
 returns c = ends (c .before .loop .inv) (c .loop-test .left)
 

@@ -1,3 +1,4 @@
+-- `script::put` meets its contract. No, one or two stores: what stands before the next place and from there on (`stored-none`, `stored-one`, `stored-two`).
 use Prim.Native.Nat.{ℕ, _+_, _<_, _≤_}
 use mathlib.Core.Path.{_≡_, refl, sym, _∙_, ap}
 use mathlib.Core.List.{List}
@@ -8,92 +9,69 @@ use Rattle.script.specs.Laws.{stored-none, stored-one, stored-two}
 use borrow.Author.Needs.{needs}
 use Rattle.script.proofs.put.Statement.{statement}
 use Rattle.script.proofs.put.Tie as tie
-use Rattle.script.proofs.put.Reads as reads
-use Rattle.script.proofs.put.Lts as lts
 
--- src/lib.rt:127:28
 enum-told : tie.Need-enum-told
 enum-told c = search needs
 
--- src/lib.rt:129:13
 enum-told-2 : tie.Need-enum-told-2
 enum-told-2 c = search needs
 
--- src/lib.rt:129:13
 slice-write-out : tie.Need-slice-write-out
 slice-write-out c = omega (arith, rw (c .enum-told2 .given .1) at (c .before .before .pre))
 
--- src/lib.rt:130:13
 add-result : tie.Need-add-result
 add-result c = search needs
 
--- src/lib.rt:132:24
 enum-known-said : tie.Need-enum-known-said
 enum-known-said c = search needs
 
--- src/lib.rt:133:13
 slice-write-out-2 : tie.Need-slice-write-out-2
 slice-write-out-2 c = omega (arith, rw (c .before .said .given .1) at (c .before .before .before .pre))
 
--- src/lib.rt:134:17
 add-out : tie.Need-add-out
 add-out c = search needs
 
--- src/lib.rt:134:13
 slice-write-out-3 : tie.Need-slice-write-out-3
 slice-write-out-3 c = simp length-set (omega (arith, rw (c .before .said .given .1) at (c .before .before .before .pre)))
 
--- src/lib.rt:135:13
 add-result-2 : tie.Need-add-result-2
 add-result-2 c = search needs
 
--- src/lib.rt:137:25
 enum-known-said-2 : tie.Need-enum-known-said-2
 enum-known-said-2 c = search needs
 
--- src/lib.rt:138:13
 slice-write-out-4 : tie.Need-slice-write-out-4
 slice-write-out-4 c = omega (arith, rw (c .before .said2 .given .1) at (c .before .before .before .pre))
 
--- src/lib.rt:139:17
 add-out-2 : tie.Need-add-out-2
 add-out-2 c = search needs
 
--- src/lib.rt:139:13
 slice-write-out-5 : tie.Need-slice-write-out-5
 slice-write-out-5 c = simp length-set (omega (arith, rw (c .before .said2 .given .1) at (c .before .before .before .pre)))
 
--- src/lib.rt:140:13
 add-result-3 : tie.Need-add-result-3
 add-result-3 c = search needs
 
--- src/lib.rt:122:1
 returns : tie.Need-returns
 returns c = stored-none _ _ _ (ap recordBytes (c .enum-told .given .1))
 
--- src/lib.rt:122:1
 same-length : tie.Need-same-length
 same-length c = search needs
 
--- src/lib.rt:122:1
 returns-2 : tie.Need-returns-2
 returns-2 c = stored-one _ _ _ _ (ap recordBytes (c .enum-told2 .given .1)) (omega (arith, rw (c .enum-told2 .given .1) at (c .before .before .pre)))
 
--- src/lib.rt:122:1
 same-length-2 : tie.Need-same-length-2
 same-length-2 c = search needs
 
--- src/lib.rt:122:1
 returns-3 : tie.Need-returns-3
 returns-3 c =
     let h : c .before .before .before .args .at + 1 < length (c .before .before .before .args .out .now) = omega (arith, rw (c .before .said .given .1) at (c .before .before .before .pre)) in
     stored-two _ _ _ _ _ (ap recordBytes (c .before .said .given .1)) h
 
--- src/lib.rt:122:1
 same-length-3 : tie.Need-same-length-3
 same-length-3 c = search needs
 
--- src/lib.rt:122:1
 returns-4 : tie.Need-returns-4
 returns-4 c =
     let h : c .before .before .before .args .at + 1 < length (c .before .before .before .args .out .now) = omega (arith, rw (c .before .said2 .given .1) at (c .before .before .before .pre)) in

@@ -1,3 +1,4 @@
+-- `script::refuses` meets its contract. 1, 2, 3, the first bad event, 7, in that order, each by its law.
 use mathlib.Core.Path.{_≡_, refl, sym, _∙_, ap}
 use mathlib.Core.Bool.{true, false}
 use lib.ListN.{length}
@@ -12,56 +13,40 @@ use Rattle.script.specs.Laws.{refusal-length, refusal-state, refusal-lon
 use borrow.Author.Needs.{needs}
 use Rattle.script.proofs.refuses.Statement.{statement}
 use Rattle.script.proofs.refuses.Tie as tie
-use Rattle.script.proofs.refuses.Reads as reads
-use Rattle.script.proofs.refuses.Lts as lts
-use Rattle.chip.proofs.is_legal.Reads as is-legal-reads
-use Rattle.part.proofs.sectors_of.Reads as sectors-of-reads
-use Rattle.script.proofs.refuse.Reads as refuse-reads
-use Rattle.script.proofs.scan.Reads as scan-reads
 
--- src/lib.rt:203:8
 sectors-of-requires : tie.Need-sectors-of-requires
 sectors-of-requires c κs = search needs
 
--- src/lib.rt:204:9
 refuse-requires : tie.Need-refuse-requires
 refuse-requires c κs = search needs
 
--- src/lib.rt:204:9
 returns : tie.Need-returns
 returns c = rw (c .refuse .ensures) (sym (refusal-length _ _ _ _ (no-sectors (c .before .before .before .before .args .n) _ (c .before .before .sectors-of .ensures) (c .before .if1 .taken))))
 
--- src/lib.rt:206:9
 is-legal-requires : tie.Need-is-legal-requires
 is-legal-requires c κs = search needs
 
--- src/lib.rt:207:9
 refuse-requires-2 : tie.Need-refuse-requires-2
 refuse-requires-2 c κs = search needs
 
--- src/lib.rt:207:9
 returns-2 : tie.Need-returns-2
 returns-2 c =
     let p : permitted (c .before .before .before .before .before .before .args .n) ≡ true = some-sectors (c .before .before .before .before .before .before .args .n) _ (c .before .before .before .before .sectors-of .ensures) (c .before .before .before .if1 .left) in
     let l : legal (c .before .before .before .before .before .before .args .chip) (c .before .before .before .before .before .before .args .n) ≡ false = sym (c .before .before .is-legal .ensures) ∙ not-true _ (c .before .if2 .taken) in
     rw (c .refuse2 .ensures) (sym (refusal-state _ _ _ _ p l))
 
--- src/lib.rt:210:9
 refuse-requires-3 : tie.Need-refuse-requires-3
 refuse-requires-3 c κs = search needs
 
--- src/lib.rt:210:9
 returns-3 : tie.Need-returns-3
 returns-3 c =
     let p : permitted (c .before .before .before .before .before .before .before .args .n) ≡ true = some-sectors (c .before .before .before .before .before .before .before .args .n) _ (c .before .before .before .before .before .sectors-of .ensures) (c .before .before .before .before .if1 .left) in
     let l : legal (c .before .before .before .before .before .before .before .args .chip) (c .before .before .before .before .before .before .before .args .n) ≡ true = sym (c .before .before .before .is-legal .ensures) ∙ not-false _ (c .before .before .if2 .left) in
     rw (c .refuse3 .ensures) (sym (refusal-long _ _ _ _ p l (c .before .if3 .taken)))
 
--- src/lib.rt:212:9
 scan-requires : tie.Need-scan-requires
 scan-requires c κs = search needs
 
--- src/lib.rt:215:9
 returns-4 : tie.Need-returns-4
 returns-4 c =
     let p : permitted (c .before .before .before .before .before .before .before .before .before .before .args .n) ≡ true = some-sectors (c .before .before .before .before .before .before .before .before .before .before .args .n) _ (c .before .before .before .before .before .before .before .before .sectors-of .ensures) (c .before .before .before .before .before .before .before .if1 .left) in
@@ -69,11 +54,9 @@ returns-4 c =
     let b : firstBad (events (c .before .before .before .before .before .before .before .before .before .before .args .script .now)) .number ≡ 0 → ⊥ = λ e. c .if4 .taken (ap (λ (r : Refusal). r .number) (c .before .before .before .scan .ensures .bad) ∙ e) in
     c .before .before .before .scan .ensures .bad ∙ sym (refusal-bad _ _ _ _ p l (c .before .before .before .before .if3 .left) b)
 
--- src/lib.rt:218:9
 refuse-requires-4 : tie.Need-refuse-requires-4
 refuse-requires-4 c κs = search needs
 
--- src/lib.rt:218:9
 returns-5 : tie.Need-returns-5
 returns-5 c =
     let p : permitted (c .before .before .before .before .before .before .before .before .before .before .before .before .before .args .n) ≡ true = some-sectors (c .before .before .before .before .before .before .before .before .before .before .before .before .before .args .n) _ (c .before .before .before .before .before .before .before .before .before .before .before .sectors-of .ensures) (c .before .before .before .before .before .before .before .before .before .before .if1 .left) in
@@ -82,11 +65,9 @@ returns-5 c =
     let h : c .before .before .before .before .before .before .before .before .before .before .before .before .before .args .space < room (events (c .before .before .before .before .before .before .before .before .before .before .before .before .before .args .script .now)) = omega (arith, c .before .if5 .taken, c .before .before .before .before .before .before .scan .ensures .rooms (c .before .before .before .if4 .left)) in
     rw (c .refuse4 .ensures) (sym (refusal-room _ _ _ _ p l (c .before .before .before .before .before .before .before .if3 .left) b h))
 
--- src/lib.rt:220:5
 refuse-requires-5 : tie.Need-refuse-requires-5
 refuse-requires-5 c κs = search needs
 
--- src/lib.rt:200:1
 returns-6 : tie.Need-returns-6
 returns-6 c =
     let p : permitted (c .before .before .before .before .before .before .before .before .before .before .before .before .before .args .n) ≡ true = some-sectors (c .before .before .before .before .before .before .before .before .before .before .before .before .before .args .n) _ (c .before .before .before .before .before .before .before .before .before .before .before .sectors-of .ensures) (c .before .before .before .before .before .before .before .before .before .before .if1 .left) in

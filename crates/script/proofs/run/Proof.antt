@@ -1,3 +1,4 @@
+-- `script::run` meets its contract. Refused: all as it was. Done: nothing refused it, so the script can be played, and what that comes to is the run's outcome.
 use mathlib.Core.Path.{_≡_, refl, sym, _∙_, ap}
 use mathlib.Core.List.{List, _++_}
 use lib.ListN.{length, drop}
@@ -10,53 +11,43 @@ use Rattle.script.specs.Laws.{Accepted, accepted, answer-refused, memory
 use borrow.Author.Needs.{needs}
 use Rattle.script.proofs.run.Statement.{statement}
 use Rattle.script.proofs.run.Tie as tie
-use Rattle.script.proofs.run.Reads as reads
-use Rattle.script.proofs.run.Lts as lts
-use Rattle.part.proofs.sectors_of.Reads as sectors-of-reads
-use Rattle.script.proofs.play.Reads as play-reads
-use Rattle.script.proofs.refuses.Reads as refuses-reads
 
--- src/lib.rt:230:9
 refuses-requires : tie.Need-refuses-requires
 refuses-requires c κs = search needs
 
--- src/lib.rt:232:9
 returns : tie.Need-returns
 returns c =
     let no : refusal (c .before .before .before .before .before .before .args .chip) (length (c .before .before .before .before .before .before .args .mem .now)) (c .before .before .before .before .before .before .args .script .now) (length (c .before .before .before .before .before .before .args .out .now)) .number ≡ 0 → ⊥ =
-        λ e. c .if1 .taken (ap (λ (r : Refusal). r .number) (c .before .before .refuses .ensures) ∙ e) in
-    ( ap (refused (c .before .before .before .before .before .before .args .chip)) (c .before .before .refuses .ensures) ∙ sym (answer-refused _ _ _ _ no)
-    , sym (memory-refused _ _ _ _ no)
-    , sym (output-refused _ _ _ _ no))
+    λ e. c .if1 .taken (ap (λ (r : Refusal). r .number) (c .before .before .refuses .ensures) ∙ e) in (
+      ap (refused (c .before .before .before .before .before .before .args .chip)) (c .before .before .refuses .ensures) ∙ sym (answer-refused _ _ _ _ no),
+      sym (memory-refused _ _ _ _ no),
+      sym (output-refused _ _ _ _ no),
+    )
 
--- src/lib.rt:240:34
 sectors-of-requires : tie.Need-sectors-of-requires
 sectors-of-requires c κs = search needs
 
--- src/lib.rt:240:5
 play-requires : tie.Need-play-requires
 play-requires c κs =
     let ok : refusal (c .before .before .before .before .before .before .before .before .before .args .chip) (length (c .before .before .before .before .before .before .before .before .before .args .mem .now)) (c .before .before .before .before .before .before .before .before .before .args .script .now) (length (c .before .before .before .before .before .before .before .before .before .args .out .now)) .number ≡ 0 =
-        sym (ap (λ (r : Refusal). r .number) (c .before .before .before .before .before .refuses .ensures)) ∙ c .before .before .before .if1 .left in
+    sym (ap (λ (r : Refusal). r .number) (c .before .before .before .before .before .refuses .ensures)) ∙ c .before .before .before .if1 .left in
     accepted _ _ _ _ ok .script-playable
 
--- src/lib.rt:224:1
 same-length : tie.Need-same-length
 same-length c = search needs
 
--- src/lib.rt:224:1
 same-length-2 : tie.Need-same-length-2
 same-length-2 c = search needs
 
--- src/lib.rt:224:1
 returns-2 : tie.Need-returns-2
 returns-2 c =
     let ok : refusal (c .before .before .before .before .before .before .before .before .before .before .before .before .before .before .args .chip) (length (c .before .before .before .before .before .before .before .before .before .before .before .before .before .before .args .mem .now)) (c .before .before .before .before .before .before .before .before .before .before .before .before .before .before .args .script .now) (length (c .before .before .before .before .before .before .before .before .before .before .before .before .before .before .args .out .now)) .number ≡ 0 =
-        sym (ap (λ (r : Refusal). r .number) (c .before .before .before .before .before .before .before .before .before .before .refuses .ensures)) ∙ c .before .before .before .before .before .before .before .before .if1 .left in
-    let s : c .before .before .before .before .before .sectors-of .result ≡ sectors (length (c .before .before .before .before .before .before .before .before .before .before .before .before .before .before .args .mem .now)) = c .before .before .before .before .before .sectors-of .ensures ∙ cond-yes _ _ _ (accepted _ _ _ _ ok .length-permitted) in
-    ( c .before .before .before .before .play .ensures .answer ∙ ap done (outcome-as _ _ _ _ s) ∙ sym (answer-done _ _ _ _ ok)
-    , c .before .before .before .before .play .ensures .memory ∙ ap (λ (w : World). w .memory) (outcome-as _ _ _ _ s) ∙ sym (memory-done _ _ _ _ ok)
-    , c .before .before .before .before .play .ensures .output ∙ ap (λ (w : World). w .written ++ drop (length (w .written)) (c .before .before .before .before .before .before .before .before .before .before .before .before .before .before .args .out .now)) (outcome-as _ _ _ _ s) ∙ sym (output-done _ _ _ _ ok))
+    sym (ap (λ (r : Refusal). r .number) (c .before .before .before .before .before .before .before .before .before .before .refuses .ensures)) ∙ c .before .before .before .before .before .before .before .before .if1 .left in
+    let s : c .before .before .before .before .before .sectors-of .result ≡ sectors (length (c .before .before .before .before .before .before .before .before .before .before .before .before .before .before .args .mem .now)) = c .before .before .before .before .before .sectors-of .ensures ∙ cond-yes _ _ _ (accepted _ _ _ _ ok .length-permitted) in (
+      c .before .before .before .before .play .ensures .answer ∙ ap done (outcome-as _ _ _ _ s) ∙ sym (answer-done _ _ _ _ ok),
+      c .before .before .before .before .play .ensures .memory ∙ ap (λ (w : World). w .memory) (outcome-as _ _ _ _ s) ∙ sym (memory-done _ _ _ _ ok),
+      c .before .before .before .before .play .ensures .output ∙ ap (λ (w : World). w .written ++ drop (length (w .written)) (c .before .before .before .before .before .before .before .before .before .before .before .before .before .before .args .out .now)) (outcome-as _ _ _ _ s) ∙ sym (output-done _ _ _ _ ok),
+    )
 
 pub run-spec : {M : Type 1} → statement M
 run-spec =

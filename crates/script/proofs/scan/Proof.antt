@@ -1,3 +1,4 @@
+-- `script::scan` meets its contract. No event passed was bad, so the first bad one lies ahead; the room counted and the room ahead are the whole.
 use Prim.Native.Nat.{ℕ, _≤_, _<_, _+_, _-_, _*_}
 use mathlib.Core.Bool.{cond}
 use mathlib.Core.Path.{_≡_, refl, sym, _∙_, ap}
@@ -9,11 +10,6 @@ use Rattle.script.specs.Laws.{firstBad-none, firstBad-here, firstBad-lat
 use borrow.Author.Needs.{needs}
 use Rattle.script.proofs.scan.Statement.{statement}
 use Rattle.script.proofs.scan.Tie as tie
-use Rattle.script.proofs.scan.Reads as reads
-use Rattle.script.proofs.scan.Lts as lts
-use Rattle.script.proofs.fault_at.Reads as fault-at-reads
-use Rattle.script.proofs.next_at.Reads as next-at-reads
-use Rattle.script.proofs.room_for.Reads as room-for-reads
 
 abbrev Inv-loop : tie.InvT-loop
 Inv-loop s at₀ space₀ at space = (at ≤ length s) × (space ≤ 2 * at) × (firstBad (events s) ≡ firstBad (eventsFrom s at)) × (room (events s) ≡ space + room (eventsFrom s at))
@@ -21,59 +17,50 @@ Inv-loop s at₀ space₀ at space = (at ≤ length s) × (space ≤ 2 * at) × 
 abbrev μ-loop : tie.MeasureT-loop
 μ-loop s at₀ space₀ at space = length s - at
 
--- src/lib.rt:98:5
 loop-holds : tie.Need-loop-holds Inv-loop μ-loop
 loop-holds c = (search needs, search needs, refl, sym (zero-add _))
 
--- src/lib.rt:99:13
 fault-at-requires : tie.Need-fault-at-requires Inv-loop μ-loop
 fault-at-requires c κs = search needs
 
--- src/lib.rt:101:13
 returns : tie.Need-returns Inv-loop μ-loop
 returns c =
     let is : c .before .fault-at .result ≡ faultAt (c .before .before .before .before .before .args .s .now) (c .before .before .before .loop .at) = c .before .fault-at .ensures in
-    record
-    { bad = ap (λ (n : ℕ). refusalOf n (c .before .before .before .loop .at)) is ∙ sym (c .before .before .before .loop .inv .2 ∙ firstBad-here _ _ (c .before .before .loop-test .taken) (λ e. c .if1 .taken (is ∙ e)))
-    ; rooms = λ e. absurd (c .if1 .taken e)
+    record {
+      bad = ap (λ (n : ℕ). refusalOf n (c .before .before .before .loop .at)) is ∙ sym (c .before .before .before .loop .inv .2 ∙ firstBad-here _ _ (c .before .before .loop-test .taken) (λ e. c .if1 .taken (is ∙ e)));
+      rooms = λ e. absurd (c .if1 .taken e);
     }
 
--- src/lib.rt:109:27
 shared-slice-read-room-for : tie.Need-shared-slice-read-room-for Inv-loop μ-loop
 shared-slice-read-room-for c = search needs
 
--- src/lib.rt:109:18
 room-for-requires : tie.Need-room-for-requires Inv-loop μ-loop
 room-for-requires c κs = search needs
 
--- src/lib.rt:109:9
 add-space : tie.Need-add-space Inv-loop μ-loop
 add-space c = search needs
 
--- src/lib.rt:110:9
 next-at-requires : tie.Need-next-at-requires Inv-loop μ-loop
 next-at-requires c κs = search needs
 
--- src/lib.rt:98:5
 loop-less : tie.Need-loop-less Inv-loop μ-loop
 loop-less c = omega (arith, c .next-at .ensures)
 
--- src/lib.rt:98:5
 loop-again : tie.Need-loop-again Inv-loop μ-loop
 loop-again c =
     let z : faultAt (c .before .before .before .before .before .before .before .before .args .s .now) (c .before .before .before .before .before .before .loop .at) ≡ 0 = sym (c .before .before .before .before .fault-at .ensures) ∙ c .before .before .before .if1 .left in
-    let next : c .next-at .result ≡ nextAt (c .before .before .before .before .before .before .before .before .args .s .now) (c .before .before .before .before .before .before .loop .at) = c .next-at .ensures in
-    ( omega (arith, next, good-event (c .before .before .before .before .before .before .before .before .args .s .now) (c .before .before .before .before .before .before .loop .at) z .inside)
-    , omega (arith, next, c .before .room-for .ensures .1, c .before .before .before .before .before .before .loop .inv .1)
-    , c .before .before .before .before .before .before .loop .inv .2 ∙ firstBad-later _ _ (c .before .before .before .before .before .loop-test .taken) z ∙ ap (λ (at : ℕ). firstBad (eventsFrom (c .before .before .before .before .before .before .before .before .args .s .now) at)) (sym next)
-    , c .before .before .before .before .before .before .loop .inv .3 ∙ ap (λ (r : ℕ). c .before .before .before .before .before .before .loop .space + r) (room-more _ _ (c .before .before .before .before .before .loop-test .taken)) ∙ rw (next, c .before .room-for .ensures .0) (sym (add-assoc _ _ _)))
+    let next : c .next-at .result ≡ nextAt (c .before .before .before .before .before .before .before .before .args .s .now) (c .before .before .before .before .before .before .loop .at) = c .next-at .ensures in (
+      omega (arith, next, good-event (c .before .before .before .before .before .before .before .before .args .s .now) (c .before .before .before .before .before .before .loop .at) z .inside),
+      omega (arith, next, c .before .room-for .ensures .1, c .before .before .before .before .before .before .loop .inv .1),
+      c .before .before .before .before .before .before .loop .inv .2 ∙ firstBad-later _ _ (c .before .before .before .before .before .loop-test .taken) z ∙ ap (λ (at : ℕ). firstBad (eventsFrom (c .before .before .before .before .before .before .before .before .args .s .now) at)) (sym next),
+      c .before .before .before .before .before .before .loop .inv .3 ∙ ap (λ (r : ℕ). c .before .before .before .before .before .before .loop .space + r) (room-more _ _ (c .before .before .before .before .before .loop-test .taken)) ∙ rw (next, c .before .room-for .ensures .0) (sym (add-assoc _ _ _)),
+    )
 
--- src/lib.rt:92:1
 returns-2 : tie.Need-returns-2 Inv-loop μ-loop
 returns-2 c =
-    record
-    { bad = sym (c .before .loop .inv .2 ∙ firstBad-none _ _ (c .loop-test .left))
-    ; rooms = λ _. sym (c .before .loop .inv .3 ∙ ap (λ (r : ℕ). c .before .loop .space + r) (room-none _ _ (c .loop-test .left)) ∙ add-zero _)
+    record {
+      bad = sym (c .before .loop .inv .2 ∙ firstBad-none _ _ (c .loop-test .left));
+      rooms = λ _. sym (c .before .loop .inv .3 ∙ ap (λ (r : ℕ). c .before .loop .space + r) (room-none _ _ (c .loop-test .left)) ∙ add-zero _);
     }
 
 pub scan-spec : {M : Type 1} → statement M

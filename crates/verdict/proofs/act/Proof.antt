@@ -1,3 +1,4 @@
+-- `verdict::act` meets its contract. 2 begins, 1 acts at once, any other changes nothing.
 use mathlib.Core.Path.{_≡_, refl, sym, _∙_, ap}
 use borrow.Author.Tests.{eq-eqb, ne-eqb}
 use Rattle.cells.specs.Choice.{cond-yes, cond-no}
@@ -5,30 +6,21 @@ use Rattle.verdict.specs.Effect.{acted}
 use borrow.Author.Needs.{needs}
 use Rattle.verdict.proofs.act.Statement.{statement}
 use Rattle.verdict.proofs.act.Tie as tie
-use Rattle.verdict.proofs.act.Reads as reads
-use Rattle.verdict.proofs.act.Lts as lts
-use Rattle.verdict.proofs.act_at_once.Reads as act-at-once-reads
-use Rattle.verdict.proofs.begin.Reads as begin-reads
 
--- src/lib.rt:205:9
 begin-requires : tie.Need-begin-requires
 begin-requires c κs = search needs
 
--- src/lib.rt:205:9
 returns : tie.Need-returns
 unfolding acted
 returns c = c .begin .ensures ∙ sym (cond-yes _ _ _ (eq-eqb _ _ (c .before .if1 .taken)))
 
--- src/lib.rt:208:9
 act-at-once-requires : tie.Need-act-at-once-requires
 act-at-once-requires c κs = search needs
 
--- src/lib.rt:208:9
 returns-2 : tie.Need-returns-2
 unfolding acted
 returns-2 c = c .act-at-once .ensures ∙ sym (cond-no _ _ _ (ne-eqb _ _ (c .before .before .if1 .left)) ∙ cond-yes _ _ _ (eq-eqb _ _ (c .before .if2 .taken)))
 
--- src/lib.rt:201:1
 returns-3 : tie.Need-returns-3
 unfolding acted
 returns-3 c = sym (cond-no _ _ _ (ne-eqb _ _ (c .before .if1 .left)) ∙ cond-no _ _ _ (ne-eqb _ _ (c .if2 .left)))

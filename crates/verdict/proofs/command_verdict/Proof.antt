@@ -1,46 +1,32 @@
+-- `verdict::command_verdict` meets its contract. 11, then a job's own verdict, then 1.
 use Rattle.verdict.specs.Verdict.{commandVerdict}
 use borrow.Author.Needs.{needs}
 use Rattle.verdict.proofs.command_verdict.Statement.{statement}
 use Rattle.verdict.proofs.command_verdict.Tie as tie
-use Rattle.verdict.proofs.command_verdict.Reads as reads
-use Rattle.verdict.proofs.command_verdict.Lts as lts
-use Rattle.chip.proofs.is_job.Reads as is-job-reads
-use Rattle.verdict.proofs.is_pointless.Reads as is-pointless-reads
-use Rattle.verdict.proofs.job_of.Reads as job-of-reads
-use Rattle.verdict.proofs.job_verdict.Reads as job-verdict-reads
-use Rattle.verdict.proofs.place_of.Reads as place-of-reads
 
--- src/lib.rt:110:8
 is-pointless-requires : tie.Need-is-pointless-requires
 is-pointless-requires c κs = search needs
 
--- src/lib.rt:111:9
 returns : tie.Need-returns
 unfolding commandVerdict
 returns c = rw (← c .before .is-pointless .ensures, c .if1 .taken)
 
--- src/lib.rt:113:9
 job-of-requires : tie.Need-job-of-requires
 job-of-requires c κs = search needs
 
--- src/lib.rt:114:8
 is-job-requires : tie.Need-is-job-requires
 is-job-requires c κs = search needs
 
--- src/lib.rt:115:49
 place-of-requires : tie.Need-place-of-requires
 place-of-requires c κs = search needs
 
--- src/lib.rt:115:9
 job-verdict-requires : tie.Need-job-verdict-requires
 job-verdict-requires c κs = search needs
 
--- src/lib.rt:115:9
 returns-2 : tie.Need-returns-2
 unfolding commandVerdict
 returns-2 c = rw (← c .before .before .before .before .before .before .is-pointless .ensures, c .before .before .before .before .before .if1 .left, ← c .before .before .before .before .job-of .ensures, ← c .before .before .before .is-job .ensures, c .before .before .if2 .taken, c .job-verdict .ensures, c .before .place-of .ensures)
 
--- src/lib.rt:107:1
 returns-3 : tie.Need-returns-3
 unfolding commandVerdict
 returns-3 c = rw (← c .before .before .before .before .is-pointless .ensures, c .before .before .before .if1 .left, ← c .before .before .job-of .ensures, ← c .before .is-job .ensures, c .if2 .left)

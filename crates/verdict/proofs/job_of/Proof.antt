@@ -1,57 +1,46 @@
+-- `verdict::job_of` meets its contract. By the opcode, each job's and any other.
 use borrow.Author.Tests.{ne-eqb}
 use Rattle.part.specs.Table.{isProgram}
 use Rattle.verdict.specs.Verdict.{jobOf}
 use borrow.Author.Needs.{needs}
 use Rattle.verdict.proofs.job_of.Statement.{statement}
 use Rattle.verdict.proofs.job_of.Tie as tie
-use Rattle.verdict.proofs.job_of.Reads as reads
-use Rattle.verdict.proofs.job_of.Lts as lts
 
--- src/lib.rt:20:52
 cast-t5 : tie.Need-cast-t5
 cast-t5 c = search needs
 
--- src/lib.rt:16:1
 returns : tie.Need-returns
 unfolding jobOf isProgram
 returns c = rw (c .match .keys1)
 
--- src/lib.rt:16:1
 returns-2 : tie.Need-returns-2
 unfolding jobOf isProgram
 returns-2 c = rw (c .match .keys2)
 
--- src/lib.rt:16:1
 returns-3 : tie.Need-returns-3
 unfolding jobOf isProgram
 returns-3 c = rw (c .match .keys3)
 
--- src/lib.rt:16:1
 returns-4 : tie.Need-returns-4
 unfolding jobOf isProgram
 returns-4 c = rw (c .match .keys4)
 
--- src/lib.rt:16:1
 returns-5 : tie.Need-returns-5
 unfolding jobOf isProgram
 returns-5 c = rw (c .match .keys5)
 
--- src/lib.rt:16:1
 returns-6 : tie.Need-returns-6
 unfolding jobOf isProgram
 returns-6 c = rw (c .match .keys6)
 
--- src/lib.rt:16:1
 returns-7 : tie.Need-returns-7
 unfolding jobOf isProgram
 returns-7 c = rw (c .match .keys7)
 
--- src/lib.rt:16:1
 returns-8 : tie.Need-returns-8
 unfolding jobOf isProgram
 returns-8 c = rw (c .match .keys8)
 
--- src/lib.rt:16:1
 returns-9 : tie.Need-returns-9
 unfolding jobOf isProgram
 returns-9 c =
