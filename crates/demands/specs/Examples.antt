@@ -17,8 +17,8 @@ use Rattle.part.specs.Protection.{protectedCount, protectedSector}
 use Rattle.chip.specs.declared.Chip.{Chip}
 use Rattle.chip.specs.declared.Core.{Core}
 use Rattle.chip.specs.declared.JobKind.{JobKind}
-use Rattle.chip.specs.Job.{steps}
-use Rattle.chip.specs.Chip.{fresh, statusByte}
+use Rattle.chip.specs.Job.{steps, wholeImage}
+use Rattle.chip.specs.Chip.{fresh, emptyFrame, blankLoad, statusByte}
 use Rattle.job.specs.Tick.{tickCore, tickMemory, ticksCore, ticksMemory, worked}
 use Rattle.frame.specs.Frame.{judge, taken, exchanged}
 use Rattle.verdict.specs.Verdict.{jobOf, jobVerdict, commandVerdict, listed, verdict}
@@ -28,7 +28,8 @@ use Rattle.event.specs.Alone.{knownKind, bodyLength, inRange}
 use Rattle.script.specs.Script.{Event, faultAt, walk, eventsFrom, events}
 use Rattle.script.specs.Run.{World, world, runs}
 use Rattle.chip.specs.declared.JobKind.the-variants.{Program, SmallErase}
-use Rattle.demands.specs.Demand3.{UnderWay, AllSpare, workedBy, k-steps}
+use Rattle.demands.specs.JobSteps.{Spares, replaces}
+use Rattle.demands.specs.Demand3.{UnderWay, AllSpare, workedBy, k-steps, end-image}
 
 -- ---- how a row is written
 
@@ -270,3 +271,69 @@ Rows (row ∷ rows) = row × Rows rows
 -- P1 to P10 hold of the definitions.
 pub worked-examples : Rows (P1 ∷ P2 ∷ P3 ∷ P4 ∷ P5 ∷ P6 ∷ P7 ∷ P8 ∷ P9 ∷ P10 ∷ [])
 worked-examples = (p1, (p2, (p3, (p4, (p5, (p6, (p7, (p8, (p9, (p10, tt))))))))))
+
+-- ---- a job cut by a suspend, a status read and a resume: Demand 3's hypotheses are met, on any memory
+
+-- a small sector erase just begun
+abbrev pub begun : List ℕ → World
+begun m = world (record { core = begunCore SmallErase; frame = emptyFrame false; load = blankLoad; page = blankLoad }) m [] 0
+
+-- five ticks; B0h; three ticks that find it suspended; a status read; 30h; eleven ticks
+abbrev pub cutting : List ℕ
+cutting = (5 ∷ 0 ∷ 5 ∷ []) ++ (frame (0xB0 ∷ []) ++ ((5 ∷ 0 ∷ 3 ∷ []) ++ (frame (0x05 ∷ 0 ∷ []) ++ (frame (0x30 ∷ []) ++ (5 ∷ 0 ∷ 11 ∷ [])))))
+
+begun-job : (m : List ℕ) → UnderWay 1 SmallErase 0 blankLoad 0 (begun m)
+begun-job m = record { job-is = refl; load-is = refl; steps-left = omega arith }
+
+-- an event of a kind that spares any job, and a deselect by its verdict
+spares-any : (S : ℕ) (c : Chip) (m : List ℕ) (kind : ℕ) → knownKind kind ≡ true → (kind ≡ 7 → ⊥) → (kind ≡ 3 → ⊥) → (kind ≡ 8 → ⊥) → Spares S c m kind
+spares-any S c m kind k a b d = record { known = k; no-power-cut = a; clean-spares = λ e. absurd (b e); loose-spares = λ e. absurd (d e) }
+
+spares-clean : (S : ℕ) (c : Chip) (m : List ℕ) → replaces S c m false ≡ false → Spares S c m 3
+unfolding knownKind
+spares-clean S c m r = record { known = refl; no-power-cut = λ e. omega arith; clean-spares = λ _. r; loose-spares = λ e. absurd (omega arith) }
+
+cutting-spares : (m : List ℕ) → AllSpare 1 (events cutting) (begun m)
+unfolding AllSpare runs eventsFrom walk faultAt knownKind bodyLength inRange applied exchanged taken judge rowOf rowIn isProgram verdict listed isRead commandVerdict jobVerdict jobOf fitsRule settled acted instantly ticksCore tickCore worked
+cutting-spares m = (
+  spares-any 1 _ _ 5 refl (λ e. omega arith) (λ e. omega arith) (λ e. omega arith),
+  (
+    spares-any 1 _ _ 1 refl (λ e. omega arith) (λ e. omega arith) (λ e. omega arith),
+    (
+      spares-any 1 _ _ 2 refl (λ e. omega arith) (λ e. omega arith) (λ e. omega arith),
+      (
+        spares-clean 1 _ _ refl,
+        (
+          spares-any 1 _ _ 5 refl (λ e. omega arith) (λ e. omega arith) (λ e. omega arith),
+          (
+            spares-any 1 _ _ 1 refl (λ e. omega arith) (λ e. omega arith) (λ e. omega arith),
+            (
+              spares-any 1 _ _ 2 refl (λ e. omega arith) (λ e. omega arith) (λ e. omega arith),
+              (
+                spares-any 1 _ _ 2 refl (λ e. omega arith) (λ e. omega arith) (λ e. omega arith),
+                (
+                  spares-clean 1 _ _ refl,
+                  (
+                    spares-any 1 _ _ 1 refl (λ e. omega arith) (λ e. omega arith) (λ e. omega arith),
+                    (
+                      spares-any 1 _ _ 2 refl (λ e. omega arith) (λ e. omega arith) (λ e. omega arith),
+                      (spares-clean 1 _ _ refl, (spares-any 1 _ _ 5 refl (λ e. omega arith) (λ e. omega arith) (λ e. omega arith), tt)),
+                    ),
+                  ),
+                ),
+              ),
+            ),
+          ),
+        ),
+      ),
+    ),
+  ),
+)
+
+cutting-works : (m : List ℕ) → workedBy 1 (events cutting) (begun m) ≡ 16
+unfolding workedBy eventsFrom walk faultAt knownKind bodyLength inRange applied exchanged taken judge rowOf rowIn isProgram verdict listed isRead commandVerdict jobVerdict jobOf fitsRule settled acted instantly ticksCore tickCore worked
+cutting-works m = refl
+
+-- sixteen of its nineteen ticks work, and the memory is the whole image
+pub cut-and-ended : (m : List ℕ) → runs 1 (events cutting) (begun m) .memory ≡ wholeImage SmallErase 1 0 blankLoad m
+cut-and-ended m = end-image 1 SmallErase 0 blankLoad (begun m) (begun-job m) (events cutting) (cutting-spares m) (cutting-works m)

@@ -1,0 +1,178 @@
+// The engine against the plain Rust model: the same cases on both, compared, then timed as ratios.
+// With `--cfg linked` the engine is in this process and timed; otherwise it is the library
+// process of compare/, which tells nothing of times, and the cases are only compared.
+
+#[allow(dead_code)]
+#[path = "../compare/case.rs"]
+mod case;
+#[allow(dead_code)]
+#[path = "../compare/coverage.rs"]
+mod coverage;
+#[allow(dead_code)]
+#[path = "../compare/generate.rs"]
+mod generate;
+#[cfg(not(linked))]
+#[path = "../compare/library.rs"]
+mod library;
+#[cfg(linked)]
+mod linked;
+#[path = "../second/model.rs"]
+mod model;
+#[path = "../compare/scenes.rs"]
+mod scenes;
+#[path = "../compare/side.rs"]
+mod side;
+#[allow(dead_code)]
+#[path = "../compare/states.rs"]
+mod states;
+#[cfg(linked)]
+mod timing;
+
+use case::{script_of, Bench, Case, Content, Event, Start, Step};
+use generate::{Rng, Writer};
+use model::Chip;
+use side::Side;
+use std::process::ExitCode;
+
+/// The longest script.
+const LONGEST: usize = 65_536;
+/// Events of the case of single events.
+const SINGLE: usize = 20_000;
+/// Events of the cases of idle ticks.
+const IDLE: usize = 20_000;
+
+/// A case with its words, and the number of bytes that a plain fill would set in its place.
+pub struct Row {
+    pub words: &'static str,
+    pub case: Case,
+    #[cfg_attr(not(linked), allow(dead_code))]
+    pub filled: Option<usize>,
+}
+
+/// The events of a frame.
+fn frame(bytes: impl IntoIterator<Item = u8>) -> Vec<Event> {
+    let sent = bytes.into_iter().map(|byte| (2, u64::from(byte)));
+    [(1, 0)].into_iter().chain(sent).chain([(3, 0)]).collect()
+}
+
+/// The events of a job: write enable, its frame, and its ticks.
+fn job(bytes: Vec<u8>, ticks: u64) -> Vec<Event> {
+    [frame([0x06]), frame(bytes), vec![(5, ticks)]].concat()
+}
+
+/// The events of as many page programs of so many bytes as a script has room for.
+fn programs(bytes: usize) -> Vec<Event> {
+    let mut events = Vec::new();
+    for page in 0_u32.. {
+        let [_, _, high, low] = (page * 256).to_be_bytes();
+        let data = (0..bytes).map(|at| (at + page as usize) as u8);
+        let more = job([0x02, 0, high, low].into_iter().chain(data).collect(), 16);
+        if script_of(&events).len() + script_of(&more).len() > LONGEST {
+            break;
+        }
+        events.extend(more);
+    }
+    events
+}
+
+/// The events of a mixed script of the longest length, by the random scenes of compare/.
+fn mixed(length: usize) -> Vec<Event> {
+    let (mut rng, mut memory) = (Rng::new(1), vec![0xFF; length]);
+    let mut writer = Writer::new(&mut rng, Chip::fresh(0), &mut memory);
+    while script_of(&writer.events).len() < LONGEST {
+        let scene = writer.rng.pick(&scenes::SCENES);
+        scene(&mut writer);
+    }
+    let mut events = writer.events;
+    while script_of(&events).len() > LONGEST {
+        events.pop();
+    }
+    let short = LONGEST - script_of(&events).len();
+    events.extend(std::iter::repeat_n((4, 0), short));
+    events
+}
+
+/// A case of one run over a memory of so many sectors.
+fn run(words: &'static str, sectors: usize, events: &[Event], filled: Option<usize>) -> Row {
+    let steps = vec![Step::Run { script: script_of(events), spare: 0, length: None }];
+    row(words, sectors, steps, filled)
+}
+
+/// A case of single events over one sector.
+fn single(words: &'static str, events: &[Event], lent: bool) -> Row {
+    let step = |event: &Event| Step::Event { event: *event, lent, length: None };
+    row(words, 1, events.iter().map(step).collect(), None)
+}
+
+/// A case on a fresh chip.
+fn row(words: &'static str, sectors: usize, steps: Vec<Step>, filled: Option<usize>) -> Row {
+    let (length, start, content) = (sectors * Chip::SECTOR, Start::Fresh(0), Content::Noise(1));
+    Row { words, case: Case { length, start, content, steps }, filled }
+}
+
+/// All cases.
+fn rows() -> Vec<Row> {
+    let data = std::iter::repeat_n(0, 30_000);
+    let low_power = frame([0x03, 0, 0, 0].into_iter().chain(data.clone()));
+    let high_speed = frame([0x0B, 0, 0, 0, 0].into_iter().chain(data));
+    let (sector, part) = (Chip::SECTOR, 32 * Chip::SECTOR);
+    let mix = mixed(Chip::SECTOR);
+    vec![
+        run("a  read of 30,000 bytes, 03h", 32, &low_power, None),
+        run("a  read of 30,000 bytes, 0Bh", 32, &high_speed, None),
+        run("b  page programs of 256 bytes", 32, &programs(256), None),
+        run("b  page programs of 300 bytes", 32, &programs(300), None),
+        run("c  mixed script of 65,536 bytes", 1, &mix, None),
+        run("d  erase of a sector", 32, &job(vec![0xD8, 0, 0, 0], 256), Some(sector)),
+        run("d  erase of the 2 MiB part", 32, &job(vec![0x60], 8_192), Some(part)),
+        run("e  20,000 times 65,535 idle ticks", 1, &vec![(5, 65_535); IDLE], None),
+        run("e  20,000 times 1 idle tick", 1, &vec![(5, 1); IDLE], None),
+        single("f  single events", &mix[..SINGLE], false),
+        single("f  single events, lent chip", &mix[..SINGLE], true),
+    ]
+}
+
+/// The engine in this process.
+#[cfg(linked)]
+fn engine() -> Result<linked::Linked, String> {
+    Ok(linked::Linked::new())
+}
+
+/// The engine in a process of its own: the words are the shared file and the command.
+#[cfg(not(linked))]
+fn engine() -> Result<library::Library, String> {
+    let words: Vec<String> = std::env::args().skip(1).collect();
+    let [shared, command @ ..] = words.as_slice() else {
+        return Err("usage: bench SHARED COMMAND ..".to_string());
+    };
+    library::Library::new(shared, command)
+}
+
+/// Compares every case, then prints the table of ratios where the engine can be timed.
+fn all() -> Result<(), String> {
+    let rows = rows();
+    let mut engine = engine()?;
+    for row in &rows {
+        if let Some((step, words)) = Bench::new(&mut engine as &mut dyn Side).replay(&row.case) {
+            return Err(format!("{}: a difference at step {step}: {words}", row.words));
+        }
+    }
+    println!("{} cases, no difference between the engine and the plain model", rows.len());
+    #[cfg(linked)]
+    timing::table(&mut engine, &rows)?;
+    #[cfg(not(linked))]
+    for row in &rows {
+        println!("  {:<36}same", row.words);
+    }
+    Ok(())
+}
+
+fn main() -> ExitCode {
+    match all() {
+        Ok(()) => ExitCode::SUCCESS,
+        Err(words) => {
+            eprintln!("bench: {words}");
+            ExitCode::FAILURE
+        }
+    }
+}

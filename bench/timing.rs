@@ -1,0 +1,113 @@
+// The times of the cases, on the engine and on the plain model in turn, as ratios of medians.
+
+use crate::case::{room_needed, Case, Step};
+use crate::linked::Linked;
+use crate::model::{self, Chip};
+use crate::side::{Side, OUTPUT_AREA};
+use crate::Row;
+use std::hint::black_box;
+use std::time::{Duration, Instant};
+
+/// Rounds of each case; the middle one counts.
+const ROUNDS: usize = 31;
+
+/// The room that a step's records ask for.
+fn room(step: &Step) -> usize {
+    match step {
+        Step::Run { script, .. } => room_needed(script) as usize,
+        _ => 0,
+    }
+}
+
+/// The time of the steps of a case on the plain model, its state behind `&mut`.
+fn time_model(case: &Case, rooms: &[usize], memory: &mut [u8], output: &mut [u8]) -> Duration {
+    let mut chip = Chip::fresh(0);
+    let begun = Instant::now();
+    for (step, room) in case.steps.iter().zip(rooms) {
+        match step {
+            Step::Event { event: (kind, body), .. } => {
+                black_box(model::event(&mut chip, memory, *kind, *body));
+            }
+            Step::Run { script, .. } => {
+                black_box(model::run(&mut chip, memory, script, &mut output[..*room]));
+            }
+            Step::HandOver => {}
+        }
+    }
+    begun.elapsed()
+}
+
+/// The time of the steps of a case on the engine.
+fn time_engine(engine: &mut Linked, case: &Case, rooms: &[usize]) -> Result<Duration, String> {
+    engine.fresh(0)?;
+    let begun = Instant::now();
+    for (step, room) in case.steps.iter().zip(rooms) {
+        match step {
+            Step::Event { event, lent, .. } => {
+                black_box(engine.event(case.length, *event, *lent)?);
+            }
+            Step::Run { script, .. } => {
+                black_box(engine.run(case.length, script, *room)?);
+            }
+            Step::HandOver => {}
+        }
+    }
+    Ok(begun.elapsed())
+}
+
+/// The time of a plain fill.
+fn time_fill(memory: &mut [u8]) -> Duration {
+    let begun = Instant::now();
+    black_box(&mut *memory).fill(0xFF);
+    black_box(memory);
+    begun.elapsed()
+}
+
+/// The middle of a row of times, in seconds.
+fn median(mut times: Vec<Duration>) -> f64 {
+    times.sort_unstable();
+    times[times.len() / 2].as_secs_f64()
+}
+
+/// One line of the table; gives the engine's time.
+fn line(engine: &mut Linked, row: &Row) -> Result<f64, String> {
+    let (case, length) = (&row.case, row.case.length);
+    let rooms: Vec<usize> = case.steps.iter().map(room).collect();
+    let (mut memory, mut output) = (vec![0; length], vec![0; OUTPUT_AREA]);
+    let (mut ours, mut plain, mut fill) = (Vec::new(), Vec::new(), Vec::new());
+    for round in 0..ROUNDS {
+        memory.fill(round as u8);
+        plain.push(time_model(case, &rooms, &mut memory, &mut output));
+        engine.memory()[..length].fill(round as u8);
+        ours.push(time_engine(engine, case, &rooms)?);
+        if let Some(bytes) = row.filled {
+            memory.fill(round as u8);
+            fill.push(time_fill(&mut memory[..bytes]));
+        }
+    }
+    let ours = median(ours);
+    print!("  {:<36}{:>14.2}", row.words, ours / median(plain));
+    match row.filled {
+        Some(_) => println!("{:>14.2}", ours / median(fill)),
+        None => println!("{:>14}", "-"),
+    }
+    Ok(ours)
+}
+
+/// The table: each case's time on the engine as a ratio to the plain model's and to a plain fill's,
+/// and the engine's time for many idle ticks as a ratio to its own for few.
+pub fn table(engine: &mut Linked, rows: &[Row]) -> Result<(), String> {
+    println!("medians of {ROUNDS} rounds, as ratios");
+    println!("  {:<36}{:>14}{:>14}", "engine to", "plain model", "plain fill");
+    let mut idle = Vec::new();
+    for row in rows {
+        let ours = line(engine, row)?;
+        if row.words.starts_with('e') {
+            idle.push(ours);
+        }
+    }
+    if let [many, few] = idle[..] {
+        println!("e, engine: events of 65,535 idle ticks to events of 1: {:.2}", many / few);
+    }
+    Ok(())
+}
