@@ -11,15 +11,18 @@ use lib.ListN.{length, getD, length-append, List·getD-append}
 use lib.Seq.{getD-append-add}
 use borrow.Author.Tests.{eq-eqb, ne-eqb, eqb-false, lt-ltb, le-ltb}
 use Rattle.cells.specs.Choice.{cond-yes, cond-no}
-use Rattle.part.specs.Part.{sectors}
+use Rattle.part.specs.Part.{permitted, sectors}
 use Rattle.chip.specs.declared.Chip.{Chip}
 use Rattle.chip.specs.Legal.{legal}
 use Rattle.event.specs.Event.{Outcome, applied}
-use Rattle.event.specs.Alone.{knownKind, bodyLength, inRange}
+use Rattle.event.specs.Alone.{knownKind, bodyLength, inRange, bodyUsed}
+use Rattle.event.specs.Alone as Alone
+use Rattle.event.specs.Laws.{answer-done, memory-done, happens-as}
 use Rattle.event.specs.Legality.{legal-applied}
 use Rattle.event.specs.Keeps.{length-applied}
 use Rattle.script.specs.Script.{Event, bodyAt, nextAt, faultAt, eventAt, eventsFrom, events, Refusal, refusalOf, firstBad, yields, room}
 use Rattle.script.specs.Run.{World, world, after, runs, recordBytes, outcome}
+use Rattle.demands.specs.Demand1.{event-refused-when}
 use Rattle.script.specs.Laws.{events-none, events-more, no-fault, good-event, Good, firstBad-later, runs-add}
 
 -- ---- events further on
@@ -260,3 +263,34 @@ pieces c m s t clean =
     run-cut s t clean S (world c m [] 0)
     ∙ runs-from S (events t) (w .chip) (w .memory) (w .written) (w .ticks)
     ∙ ap (λ (q : ℕ). world (runs q (events t) (world (w .chip) (w .memory) [] 0) .chip) (runs q (events t) (world (w .chip) (w .memory) [] 0) .memory) (w .written ++ runs q (events t) (world (w .chip) (w .memory) [] 0) .written) (w .ticks + runs q (events t) (world (w .chip) (w .memory) [] 0) .ticks)) same
+
+-- ---- events applied one by one
+
+-- the body of a script's event is the body that the event uses
+used-at : (s : List ℕ) (at : ℕ) → bodyUsed (getD s at 0) (bodyAt s at) ≡ bodyAt s at
+unfolding bodyUsed
+used-at s at = go (bodyLength (getD s at 0))
+  where
+    body : ℕ → ℕ
+    body l = cond (eqb l 1) (getD s (at + 1) 0) (cond (eqb l 2) (getD s (at + 1) 0 * 256 + getD s (at + 2) 0) 0)
+
+    go : (l : ℕ) → cond (eqb l 0) 0 (body l) ≡ body l
+    go zero = refl
+    go (suc l) = cond-no (eqb (suc l) 0) 0 (body (suc l)) (ne-eqb (suc l) 0 (λ e. omega arith))
+
+-- The event of a script applied alone, where nothing refuses it, gives what the run gives at that event: so a run is its events applied one by one.
+pub one-by-one : (c : Chip) (m s : List ℕ) (at : ℕ) → Alone.refusal c (length m) (getD s at 0) (bodyAt s at) ≡ 0
+    → (Alone.answerOf c m (getD s at 0) (bodyAt s at) ≡ Alone.done (applied (sectors (length m)) c m (getD s at 0) (bodyAt s at)))
+    × (Alone.memoryOf c m (getD s at 0) (bodyAt s at) ≡ applied (sectors (length m)) c m (getD s at 0) (bodyAt s at) .memory)
+one-by-one c m s at h =
+    let same : applied (sectors (length m)) c m (getD s at 0) (bodyAt s at) ≡ Alone.happens c m (getD s at 0) (bodyAt s at) =
+    happens-as c m (getD s at 0) (bodyAt s at) (sectors (length m)) (bodyAt s at) refl (sym (used-at s at)) in (
+      answer-done c m (getD s at 0) (bodyAt s at) h ∙ ap Alone.done (sym same),
+      memory-done c m (getD s at 0) (bodyAt s at) h ∙ ap (λ (o : Outcome). o .memory) (sym same),
+    )
+
+-- and a good event of a script is refused by nothing on a legal state of a permitted length
+pub good-alone : (c : Chip) (n : ℕ) (s : List ℕ) (at : ℕ) → permitted n ≡ true → legal c n ≡ true → faultAt s at ≡ 0 → Alone.refusal c n (getD s at 0) (bodyAt s at) ≡ 0
+good-alone c n s at p l z =
+    let g = good-event s at z in
+    event-refused-when c n (getD s at 0) (bodyAt s at) .none .1 (p, l, g .known, g .ranged)
