@@ -1,16 +1,16 @@
 -- Demand 1. Every event, script, memory length and chip state gets an answer, exactly one; a bad one is refused by a number of 01's table, with chip state,
 -- memory and output as they were.
-use Prim.Native.Nat.{ℕ, _<_, _≤_, zero-le}
-use mathlib.Core.Bool.{Bool, true, false, cond, not, true≢false, false≢true}
+use Prim.Native.Nat.{ℕ, zero, suc, _<_, _≤_, zero-le}
+use mathlib.Core.Bool.{Bool, true, false, cond, not, _||_, true≢false, false≢true}
 use mathlib.Core.List.{List, [], _∷_, _++_}
 use mathlib.Core.Path.{_≡_, refl, sym, ap, subst, _∙_}
-use mathlib.Core.Logic.{_↔_}
+use mathlib.Core.Logic.{_↔_, _⊎_, ⊎-elim}
 use native.Mathlib.Decide.{ℕ-discrete}
 use native.Mathlib.Omega.{arith}
-use lib.Dec.{eqb, ltb}
-use lib.ListN.{length}
+use lib.Dec.{eqb, ltb, leb}
+use lib.ListN.{length, getD}
 use borrow.Author.Tests.{eq-eqb, ne-eqb, eqb-true, eqb-false, ltb-true, ltb-false, lt-ltb, le-ltb}
-use Rattle.cells.specs.Choice.{cond-yes, cond-no}
+use Rattle.cells.specs.Choice.{cond-yes, cond-no, cond-either}
 use Rattle.part.specs.Part.{permitted}
 use Rattle.chip.specs.declared.Chip.{Chip}
 use Rattle.chip.specs.declared.Record.the-variants.{Nothing}
@@ -20,7 +20,7 @@ use Rattle.event.specs.Alone.{knownKind, inRange}
 use Rattle.event.specs.Alone as Alone
 use Rattle.event.specs.Laws as EventLaws
 use Rattle.script.specs.declared.Ran.{Ran}
-use Rattle.script.specs.Script.{Event, Refusal, refusalOf, events, eventsFrom, walk, firstBad, room}
+use Rattle.script.specs.Script.{Event, bodyAt, nextAt, faultAt, eventAt, Refusal, refusalOf, events, eventsFrom, walk, firstBad, room}
 use Rattle.script.specs.Run as Run
 use Rattle.script.specs.Laws as ScriptLaws
 
@@ -157,3 +157,64 @@ unfolding Run.outcome Run.runs eventsFrom walk firstBad room
 empty-script c m out p l =
     let ok : Run.refusal c (length m) [] (length out) .number ≡ 0 = ap (λ (r : Refusal). r .number) (ScriptLaws.refusal-none c (length m) [] (length out) p l (omega arith) refl zero-le) in
     (ScriptLaws.answer-done c m [] out ok, ScriptLaws.memory-done c m [] out ok, ScriptLaws.output-done c m [] out ok)
+
+-- ---- only then
+
+-- a fault is none, 4, 5 or 6
+abbrev faultKnown : ℕ → Bool
+faultKnown v = eqb v 0 || eqb v 4 || eqb v 5 || eqb v 6
+
+fault-known : (s : List ℕ) (at : ℕ) → faultKnown (faultAt s at) ≡ true
+unfolding faultAt
+fault-known s at =
+    cond-either (λ (v : ℕ). faultKnown v ≡ true) (not (knownKind (getD s at 0))) _ _ (λ _. refl)
+    (λ _. cond-either (λ (v : ℕ). faultKnown v ≡ true) (ltb (length s) (nextAt s at)) _ _ (λ _. refl)
+    (λ _. cond-either (λ (v : ℕ). faultKnown v ≡ true) (not (inRange (getD s at 0) (bodyAt s at))) _ _ (λ _. refl) (λ _. refl)))
+
+bad-known : (s : List ℕ) (fuel at : ℕ) → faultKnown (firstBad (walk fuel s at) .number) ≡ true
+unfolding walk firstBad
+bad-known s zero at = refl
+bad-known s (suc fuel) at =
+    cond-either (λ (es : List Event). faultKnown (firstBad es .number) ≡ true) (leb (length s) at) [] (eventAt s at ∷ walk fuel s (nextAt s at)) (λ _. refl)
+    (λ _. cond-either (λ (r : Refusal). faultKnown (r .number) ≡ true) (eqb (faultAt s at) 0) (firstBad (walk fuel s (nextAt s at))) (refusalOf (faultAt s at) at) (λ _. bad-known s fuel (nextAt s at)) (λ _. fault-known s at))
+
+-- A run is refused by 1, 2, 3 or 7 only when 01's table says so, and by 4, 5 or 6 only when the script has a bad event and nothing before it refuses.
+pub record RunOnlyWhen (number : ℕ) (length-permitted state-legal too-long clean too-little-room : Bool) : Type 0 where
+  pub one : number ≡ 1 → length-permitted ≡ false
+  pub two : number ≡ 2 → (length-permitted ≡ true) × (state-legal ≡ false)
+  pub three : number ≡ 3 → (length-permitted ≡ true) × (state-legal ≡ true) × (too-long ≡ true)
+  pub seven : number ≡ 7 → (length-permitted ≡ true) × (state-legal ≡ true) × (too-long ≡ false) × (clean ≡ true) × (too-little-room ≡ true)
+  pub bad-event : (number ≡ 4) ⊎ ((number ≡ 5) ⊎ (number ≡ 6)) → (length-permitted ≡ true) × (state-legal ≡ true) × (too-long ≡ false) × (clean ≡ false)
+
+-- a number that is no fault is not the bad event's
+no-fault-number : (v n : ℕ) → faultKnown v ≡ true → faultKnown n ≡ false → v ≡ n → ⊥
+no-fault-number v n k f e = false≢true (sym f ∙ subst (λ (q : ℕ). faultKnown q ≡ true) e k)
+
+none-of : {A : Type 0} {v : ℕ} → (v ≡ 4 → ⊥) → (v ≡ 5 → ⊥) → (v ≡ 6 → ⊥) → (v ≡ 4) ⊎ ((v ≡ 5) ⊎ (v ≡ 6)) → A
+none-of a b c = ⊎-elim (λ e. absurd (a e)) (⊎-elim (λ e. absurd (b e)) (λ e. absurd (c e)))
+
+only-when : (p l t b r : Bool) (x : Refusal) → faultKnown (x .number) ≡ true
+    → RunOnlyWhen (cond (not p) (refusalOf 1 0) (cond (not l) (refusalOf 2 0) (cond t (refusalOf 3 0) (cond (not b) x (cond r (refusalOf 7 0) (refusalOf 0 0))))) .number) p l t b r
+only-when false l t b r x k =
+    record { one = λ _. refl; two = λ e. absurd (omega arith); three = λ e. absurd (omega arith); seven = λ e. absurd (omega arith); bad-event = none-of (λ e. omega arith) (λ e. omega arith) (λ e. omega arith) }
+only-when true false t b r x k =
+    record { one = λ e. absurd (omega arith); two = λ _. (refl, refl); three = λ e. absurd (omega arith); seven = λ e. absurd (omega arith); bad-event = none-of (λ e. omega arith) (λ e. omega arith) (λ e. omega arith) }
+only-when true true true b r x k =
+    record { one = λ e. absurd (omega arith); two = λ e. absurd (omega arith); three = λ _. (refl, refl, refl); seven = λ e. absurd (omega arith); bad-event = none-of (λ e. omega arith) (λ e. omega arith) (λ e. omega arith) }
+only-when true true false false r x k =
+    record
+    { one = λ e. absurd (no-fault-number (x .number) 1 k refl e)
+    ; two = λ e. absurd (no-fault-number (x .number) 2 k refl e)
+    ; three = λ e. absurd (no-fault-number (x .number) 3 k refl e)
+    ; seven = λ e. absurd (no-fault-number (x .number) 7 k refl e)
+    ; bad-event = λ _. (refl, refl, refl, refl)
+    }
+only-when true true false true true x k =
+    record { one = λ e. absurd (omega arith); two = λ e. absurd (omega arith); three = λ e. absurd (omega arith); seven = λ _. (refl, refl, refl, refl, refl); bad-event = none-of (λ e. omega arith) (λ e. omega arith) (λ e. omega arith) }
+only-when true true false true false x k =
+    record { one = λ e. absurd (omega arith); two = λ e. absurd (omega arith); three = λ e. absurd (omega arith); seven = λ e. absurd (omega arith); bad-event = none-of (λ e. omega arith) (λ e. omega arith) (λ e. omega arith) }
+
+pub run-refused-only-when : (c : Chip) (n : ℕ) (s : List ℕ) (space : ℕ)
+    → RunOnlyWhen (Run.refusal c n s space .number) (permitted n) (legal c n) (ltb 65536 (length s)) (eqb (firstBad (events s) .number) 0) (ltb space (room (events s)))
+unfolding Run.refusal eventsFrom
+run-refused-only-when c n s space = only-when (permitted n) (legal c n) (ltb 65536 (length s)) (eqb (firstBad (events s) .number) 0) (ltb space (room (events s))) (firstBad (events s)) (bad-known s (length s) 0)

@@ -1,4 +1,4 @@
-// The LE25S161: its sizes, its opcodes, its table of commands and its protection. Numbers that belong to the part are written here and nowhere else.
+// The LE25S161: its sizes, its opcodes, its table of commands and its protection, each named here once.
 ghost use mathlib.Core.Path.{_≡_};
 ghost use mathlib.Core.Bool.{cond};
 ghost use Prim.Native.Nat.{_<_, _≤_, _%_, _/_, min};
