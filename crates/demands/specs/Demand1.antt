@@ -202,12 +202,12 @@ only-when true false t b r x k =
 only-when true true true b r x k =
     record { one = λ e. absurd (omega arith); two = λ e. absurd (omega arith); three = λ _. (refl, refl, refl); seven = λ e. absurd (omega arith); bad-event = none-of (λ e. omega arith) (λ e. omega arith) (λ e. omega arith) }
 only-when true true false false r x k =
-    record
-    { one = λ e. absurd (no-fault-number (x .number) 1 k refl e)
-    ; two = λ e. absurd (no-fault-number (x .number) 2 k refl e)
-    ; three = λ e. absurd (no-fault-number (x .number) 3 k refl e)
-    ; seven = λ e. absurd (no-fault-number (x .number) 7 k refl e)
-    ; bad-event = λ _. (refl, refl, refl, refl)
+    record {
+      one = λ e. absurd (no-fault-number (x .number) 1 k refl e);
+      two = λ e. absurd (no-fault-number (x .number) 2 k refl e);
+      three = λ e. absurd (no-fault-number (x .number) 3 k refl e);
+      seven = λ e. absurd (no-fault-number (x .number) 7 k refl e);
+      bad-event = λ _. (refl, refl, refl, refl);
     }
 only-when true true false true true x k =
     record { one = λ e. absurd (omega arith); two = λ e. absurd (omega arith); three = λ e. absurd (omega arith); seven = λ _. (refl, refl, refl, refl, refl); bad-event = none-of (λ e. omega arith) (λ e. omega arith) (λ e. omega arith) }

@@ -5,3 +5,4 @@ pub mod Demand2
 pub mod Unique
 pub mod Cut
 pub mod Examples
+pub mod Met

@@ -1,0 +1,42 @@
+-- The hypotheses of the theorems are met: for each kind of them a closed example. Demand 3's are met in `Examples` (P5, P9, `cut-and-ended`).
+use Prim.Native.Nat.{ℕ, _<_}
+use mathlib.Core.Bool.{true, false}
+use mathlib.Core.List.{List, [], _∷_}
+use mathlib.Core.Path.{_≡_, refl}
+use native.Mathlib.Omega.{arith}
+use Rattle.part.specs.Part.{permitted}
+use Rattle.part.specs.Table.{isProgram}
+use Rattle.chip.specs.declared.Chip.{Chip}
+use Rattle.chip.specs.declared.Frame.{Frame}
+use Rattle.chip.specs.Chip.{fresh}
+use Rattle.chip.specs.Legal.{legalJob, legalCore, legalFrame, isEmpty, isBlank, legal}
+use Rattle.frame.specs.Frame.{readsCell, takesData}
+use Rattle.event.specs.Alone.{knownKind, bodyLength, inRange, refusal}
+use Rattle.script.specs.Script.{faultAt, walk, eventsFrom, events, firstBad}
+
+-- a frame of that opcode with so many bytes, selected and not judged
+abbrev framed : ℕ → ℕ → Frame
+framed opcode count = record { selected = true; opcode = opcode; address = 0; place = 0; offset = 0; count = count; judgement = 0 }
+
+abbrev counted-to-7 : Chip
+counted-to-7 = record { core = fresh 0x00 .core; frame = framed 0x03 7; load = fresh 0x00 .load; page = fresh 0x00 .page }
+
+-- `legal-applied`, `legal-runs`, `good-alone`: a fresh state is legal, on the smallest and on the real part
+pub legal-met : (legal (fresh 0x00) 65536 ≡ true) × (legal (fresh 0xFF) 2097152 ≡ true)
+unfolding legal legalCore legalJob legalFrame isEmpty isBlank permitted fresh
+legal-met = (refl, refl)
+
+-- `reads-go-round`, `load-after-data`: a 03h frame and a 0Bh frame that read, a 02h frame that loads
+pub frames-met : (readsCell (framed 0x03 4) ≡ true) × (readsCell (framed 0x0B 5) ≡ true) × (takesData (framed 0x02 4) ≡ true)
+unfolding isProgram
+frames-met = (refl, refl, refl)
+
+-- `event-refused-when`: each number occurs; a byte count of 7 is in no legal frame
+pub refusals-met : (refusal (fresh 0x00) 65537 4 0 ≡ 1) × (refusal counted-to-7 65536 4 0 ≡ 2) × (refusal (fresh 0x00) 65536 9 0 ≡ 5) × (refusal (fresh 0x00) 65536 2 256 ≡ 6) × (refusal (fresh 0x00) 65536 4 0 ≡ 0)
+unfolding refusal legal legalCore legalJob legalFrame isEmpty isBlank permitted fresh knownKind inRange
+refusals-met = (refl, refl, refl, refl, refl)
+
+-- `pieces`, `first-bad-decides`: a script without a bad event, and one for each fault
+pub scripts-met : (firstBad (events (1 ∷ 2 ∷ 6 ∷ 3 ∷ [])) .number ≡ 0) × (firstBad (events (4 ∷ 2 ∷ [])) .number ≡ 4) × (firstBad (events (4 ∷ 9 ∷ [])) .number ≡ 5) × (firstBad (events (6 ∷ 2 ∷ [])) .number ≡ 6)
+unfolding firstBad eventsFrom walk faultAt knownKind bodyLength inRange
+scripts-met = (refl, refl, refl, refl)
