@@ -1,6 +1,4 @@
 // The engine against the plain Rust model: the same cases on both, compared, then timed as ratios.
-// With `--cfg linked` the engine is in this process and timed; otherwise it is the library
-// process of compare/, which tells nothing of times, and the cases are only compared.
 
 #[allow(dead_code)]
 #[path = "../compare/case.rs"]
@@ -11,10 +9,6 @@ mod coverage;
 #[allow(dead_code)]
 #[path = "../compare/generate.rs"]
 mod generate;
-#[cfg(not(linked))]
-#[path = "../compare/library.rs"]
-mod library;
-#[cfg(linked)]
 mod linked;
 #[path = "../second/model.rs"]
 mod model;
@@ -25,7 +19,6 @@ mod side;
 #[allow(dead_code)]
 #[path = "../compare/states.rs"]
 mod states;
-#[cfg(linked)]
 mod timing;
 
 use case::{script_of, Bench, Case, Content, Event, Start, Step};
@@ -41,12 +34,13 @@ const SINGLE: usize = 20_000;
 /// Events of the cases of idle ticks.
 const IDLE: usize = 20_000;
 
-/// A case with its words, and the number of bytes that a plain fill would set in its place.
+/// A case with its words, the number of bytes that a plain fill would set in its place, and the
+/// ratio that it is to stay within: to the fill where there is one, otherwise to the plain model.
 pub struct Row {
     pub words: &'static str,
     pub case: Case,
-    #[cfg_attr(not(linked), allow(dead_code))]
     pub filled: Option<usize>,
+    pub target: Option<f64>,
 }
 
 /// The events of a frame.
@@ -93,9 +87,15 @@ fn mixed(length: usize) -> Vec<Event> {
 }
 
 /// A case of one run over a memory of so many sectors.
-fn run(words: &'static str, sectors: usize, events: &[Event], filled: Option<usize>) -> Row {
+fn run(words: &'static str, sectors: usize, events: &[Event], target: Option<f64>) -> Row {
     let steps = vec![Step::Run { script: script_of(events), spare: 0, length: None }];
-    row(words, sectors, steps, filled)
+    row(words, sectors, steps, target)
+}
+
+/// A case of one erase of so many bytes of the 2 MiB part, held to a plain fill.
+fn erase(words: &'static str, bytes: Vec<u8>, filled: usize) -> Row {
+    let events = job(bytes, (filled / 256) as u64);
+    Row { filled: Some(filled), ..run(words, 32, &events, Some(2.0)) }
 }
 
 /// A case of single events over one sector.
@@ -105,9 +105,9 @@ fn single(words: &'static str, events: &[Event], lent: bool) -> Row {
 }
 
 /// A case on a fresh chip.
-fn row(words: &'static str, sectors: usize, steps: Vec<Step>, filled: Option<usize>) -> Row {
+fn row(words: &'static str, sectors: usize, steps: Vec<Step>, target: Option<f64>) -> Row {
     let (length, start, content) = (sectors * Chip::SECTOR, Start::Fresh(0), Content::Noise(1));
-    Row { words, case: Case { length, start, content, steps }, filled }
+    Row { words, case: Case { length, start, content, steps }, filled: None, target }
 }
 
 /// All cases.
@@ -115,16 +115,15 @@ fn rows() -> Vec<Row> {
     let data = std::iter::repeat_n(0, 30_000);
     let low_power = frame([0x03, 0, 0, 0].into_iter().chain(data.clone()));
     let high_speed = frame([0x0B, 0, 0, 0, 0].into_iter().chain(data));
-    let (sector, part) = (Chip::SECTOR, 32 * Chip::SECTOR);
     let mix = mixed(Chip::SECTOR);
     vec![
-        run("a  read of 30,000 bytes, 03h", 32, &low_power, None),
-        run("a  read of 30,000 bytes, 0Bh", 32, &high_speed, None),
-        run("b  page programs of 256 bytes", 32, &programs(256), None),
-        run("b  page programs of 300 bytes", 32, &programs(300), None),
-        run("c  mixed script of 65,536 bytes", 1, &mix, None),
-        run("d  erase of a sector", 32, &job(vec![0xD8, 0, 0, 0], 256), Some(sector)),
-        run("d  erase of the 2 MiB part", 32, &job(vec![0x60], 8_192), Some(part)),
+        run("a  read of 30,000 bytes, 03h", 32, &low_power, Some(1.5)),
+        run("a  read of 30,000 bytes, 0Bh", 32, &high_speed, Some(1.5)),
+        run("b  page programs of 256 bytes", 32, &programs(256), Some(1.5)),
+        run("b  page programs of 300 bytes", 32, &programs(300), Some(1.5)),
+        run("c  mixed script of 65,536 bytes", 1, &mix, Some(2.0)),
+        erase("d  erase of a sector", vec![0xD8, 0, 0, 0], Chip::SECTOR),
+        erase("d  erase of the 2 MiB part", vec![0x60], 32 * Chip::SECTOR),
         run("e  20,000 times 65,535 idle ticks", 1, &vec![(5, 65_535); IDLE], None),
         run("e  20,000 times 1 idle tick", 1, &vec![(5, 1); IDLE], None),
         single("f  single events", &mix[..SINGLE], false),
@@ -132,39 +131,17 @@ fn rows() -> Vec<Row> {
     ]
 }
 
-/// The engine in this process.
-#[cfg(linked)]
-fn engine() -> Result<linked::Linked, String> {
-    Ok(linked::Linked::new())
-}
-
-/// The engine in a process of its own: the words are the shared file and the command.
-#[cfg(not(linked))]
-fn engine() -> Result<library::Library, String> {
-    let words: Vec<String> = std::env::args().skip(1).collect();
-    let [shared, command @ ..] = words.as_slice() else {
-        return Err("usage: bench SHARED COMMAND ..".to_string());
-    };
-    library::Library::new(shared, command)
-}
-
-/// Compares every case, then prints the table of ratios where the engine can be timed.
+/// Compares every case, then prints the table of ratios.
 fn all() -> Result<(), String> {
     let rows = rows();
-    let mut engine = engine()?;
+    let mut engine = linked::Linked::new();
     for row in &rows {
         if let Some((step, words)) = Bench::new(&mut engine as &mut dyn Side).replay(&row.case) {
             return Err(format!("{}: a difference at step {step}: {words}", row.words));
         }
     }
     println!("{} cases, no difference between the engine and the plain model", rows.len());
-    #[cfg(linked)]
-    timing::table(&mut engine, &rows)?;
-    #[cfg(not(linked))]
-    for row in &rows {
-        println!("  {:<36}same", row.words);
-    }
-    Ok(())
+    timing::table(&mut engine, &rows)
 }
 
 fn main() -> ExitCode {

@@ -86,19 +86,27 @@ fn line(engine: &mut Linked, row: &Row) -> Result<f64, String> {
         }
     }
     let ours = median(ours);
-    print!("  {:<36}{:>14.2}", row.words, ours / median(plain));
-    match row.filled {
-        Some(_) => println!("{:>14.2}", ours / median(fill)),
-        None => println!("{:>14}", "-"),
-    }
+    let to_fill = row.filled.map(|_| ours / median(fill));
+    println!(
+        "  {:<36}{:>12}{:>12}{:>12}",
+        row.words,
+        number(Some(ours / median(plain))),
+        number(to_fill),
+        number(row.target)
+    );
     Ok(ours)
+}
+
+/// A ratio in words, or a stroke for none.
+fn number(ratio: Option<f64>) -> String {
+    ratio.map_or("-".to_string(), |ratio| format!("{ratio:.2}"))
 }
 
 /// The table: each case's time on the engine as a ratio to the plain model's and to a plain fill's,
 /// and the engine's time for many idle ticks as a ratio to its own for few.
 pub fn table(engine: &mut Linked, rows: &[Row]) -> Result<(), String> {
     println!("medians of {ROUNDS} rounds, as ratios");
-    println!("  {:<36}{:>14}{:>14}", "engine to", "plain model", "plain fill");
+    println!("  {:<36}{:>12}{:>12}{:>12}", "engine to", "plain model", "plain fill", "at most");
     let mut idle = Vec::new();
     for row in rows {
         let ours = line(engine, row)?;
@@ -107,7 +115,7 @@ pub fn table(engine: &mut Linked, rows: &[Row]) -> Result<(), String> {
         }
     }
     if let [many, few] = idle[..] {
-        println!("e, engine: events of 65,535 idle ticks to events of 1: {:.2}", many / few);
+        println!("  e, the engine itself, 65,535 idle ticks to 1: {:.2}", many / few);
     }
     Ok(())
 }

@@ -10,8 +10,9 @@ pub const OUTPUT_AREA: usize = 5 * Chip::SECTOR;
 /// Bytes after a lent buffer that are compared as well.
 pub const GUARD: usize = 64;
 
-/// The numbers of a chip as the library has them.
-#[derive(Clone, PartialEq, Eq)]
+/// The numbers of a chip, laid out as the library has them on a 64-bit machine.
+#[repr(C)]
+#[derive(Clone, Copy, PartialEq, Eq)]
 pub struct Image {
     pub flags: [u8; 8],
     pub level: u8,

@@ -676,6 +676,12 @@ fn check_script(script: &[u8]) -> Result<usize, (u8, usize)> {
     let mut offset = 0;
     while offset < script.len() {
         let kind = script[offset];
+        // Most events are exchanges, and any byte is in their range.
+        if kind == kind::EXCHANGE && offset + 1 < script.len() {
+            records += 1;
+            offset += 2;
+            continue;
+        }
         let length = body_length(kind).ok_or((5, offset))?;
         let end = offset + 1 + length;
         let body = script.get(offset + 1..end).ok_or((4, offset))?;
@@ -737,6 +743,13 @@ pub fn run(chip: &mut Chip, memory: &mut [u8], script: &[u8], output: &mut [u8])
     let mut answer = RunAnswer { refusal: 0, offset: 0, written: 0, ticks: 0 };
     let mut rest = script;
     while let [kind, after @ ..] = rest {
+        // Most events are exchanges.
+        if let (&kind::EXCHANGE, [byte, next @ ..]) = (kind, after) {
+            let record = exchange(chip, memory, *byte);
+            answer.written += write_record(&mut output[answer.written..], record);
+            rest = next;
+            continue;
+        }
         let (body, next) = after.split_at(BODY_LENGTHS[usize::from(*kind) - 1]);
         let (record, ticks) = apply(chip, memory, *kind, body_value(body));
         answer.written += write_record(&mut output[answer.written..], record);

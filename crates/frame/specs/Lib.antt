@@ -1,3 +1,4 @@
 pub mod Frame
 pub mod Laws
 pub mod Legality
+pub mod Stream

@@ -5,6 +5,7 @@ ghost use Prim.Native.Nat.{_%_, _*_, _+_, _<_, _≤_};
 ghost use Rattle.part.specs.Part.{reduced};
 ghost use Rattle.chip.specs.declared.Record.{Record};
 ghost use Rattle.frame.specs.Frame.{judge, counted, shifted, nextPlace, nextOffset, opened, counting, reading, loading, addressing, readsCell, takesData, exchange, taken, exchanged};
+ghost use Rattle.frame.specs.Stream.{isData, streams, streamed};
 use chip::Core;
 use chip::Frame;
 use chip::Record;
@@ -162,17 +163,37 @@ fn drives(b: u8, f: Frame) -> Exchanged
     }
 }
 
-// Byte 2 and up of a frame with judgement none.
-fn take(core: Core, f: Frame, load: &mut [u8; 256], mem: &[u8], b: u8) -> Exchanged
-    ensures { λ r. ⌜ exchange (r .said) (r .frame) (now (load .exit)) ≡ taken core f (now (load .entry)) (now (mem .entry)) b ⌝ }
+fn is_data(f: Frame) -> bool
+    ensures { λ r. ⌜ r ≡ isData f ⌝ }
+{
+    reads_cell(f) | takes_data(f)
+}
+
+// Whether the next byte is a data byte of a read of cells or of a page load.
+pub fn streams(f: Frame) -> bool
+    ensures { λ r. ⌜ r ≡ streams f ⌝ }
+{
+    f.selected & (f.judgement == 0) & is_data(f)
+}
+
+// A data byte of a read of cells or of a page load: it asks nothing of the core.
+pub fn stream(f: Frame, load: &mut [u8; 256], mem: &[u8], b: u8) -> Exchanged
+    ensures { λ r. ⌜ exchange (r .said) (r .frame) (now (load .exit)) ≡ streamed f (now (load .entry)) (now (mem .entry)) b ⌝ }
 {
     if reads_cell(f) {
         return drives(cells::byte_at(mem, f.place), read(mem.len(), f));
     }
-    if takes_data(f) {
-        let offset = f.offset as usize;
-        load[offset] = b;
-        return floats(load_up(f));
+    let offset = f.offset as usize;
+    load[offset] = b;
+    floats(load_up(f))
+}
+
+// Byte 2 and up of a frame with judgement none.
+fn take(core: Core, f: Frame, load: &mut [u8; 256], mem: &[u8], b: u8) -> Exchanged
+    ensures { λ r. ⌜ exchange (r .said) (r .frame) (now (load .exit)) ≡ taken core f (now (load .entry)) (now (mem .entry)) b ⌝ }
+{
+    if is_data(f) {
+        return stream(f, load, mem, b);
     }
     if f.opcode == Part::READ_STATUS {
         return drives(chip::status_byte(core), count(f));

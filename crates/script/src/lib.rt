@@ -142,6 +142,8 @@ fn put(out: &mut [u8], at: usize, said: Record) -> usize
 }
 
 // Runs a script that nothing refuses: the chip is taken apart once, and put together at the end.
+// Data bytes are most of a script: they go by the frame alone. The other calls get a copy of the
+// frame, so that it need not lie in memory from one data byte to the next.
 fn play(chip: Chip, mem: &mut [u8], script: &[u8], out: &mut [u8], sectors: u8) -> Ran
     requires { ⌜ Playable (now script) (length (now out)) ⌝ }
     ensures { λ r. ⌜ Played sectors chip (now (mem .entry)) (now (script .entry)) (now (out .entry)) r (now (mem .exit)) (now (out .exit)) ⌝ }
@@ -156,24 +158,26 @@ fn play(chip: Chip, mem: &mut [u8], script: &[u8], out: &mut [u8], sectors: u8) 
     while at < script.len() {
         let kind = script[at];
         if kind == 2 {
-            let e = frame::exchange(core, frame, &mut load, mem, script[at + 1]);
+            let b = script[at + 1];
+            if frame::streams(frame) {
+                let data = frame::stream(frame, &mut load, mem, b);
+                let given = data.said;
+                pos = put(out, pos, given);
+                frame = data.frame;
+                at += 2;
+                continue;
+            }
+            let before = frame;
+            let e = frame::exchange(core, before, &mut load, mem, b);
             let heard = e.said;
             pos = put(out, pos, heard);
             frame = e.frame;
             at += 2;
             continue;
         }
-        let body = body_at(script, at);
-        let s = event::step(
-            core,
-            frame,
-            &mut load,
-            &mut page,
-            mem,
-            sectors,
-            kind,
-            body as u32,
-        );
+        let before = frame;
+        let body = body_at(script, at) as u32;
+        let s = event::step(core, before, &mut load, &mut page, mem, sectors, kind, body);
         let said = s.said;
         pos = put(out, pos, said);
         core = s.core;

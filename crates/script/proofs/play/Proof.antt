@@ -1,9 +1,10 @@
--- `script::play` meets its contract. What is left of the script, run from here, comes to what the whole script comes to (`Playing`); each turn is one event of it.
+-- `script::play` meets its contract. What is left of the script, run from here, comes to what the whole script comes to (`Playing`); each turn is one event of it, a data byte an exchange by `exchanged-stream`.
 use Prim.Native.Nat.{ℕ, _+_, _-_, _<_, _≤_}
-use mathlib.Core.Path.{_≡_, refl, sym, _∙_, ap}
+use mathlib.Core.Path.{_≡_, sym, _∙_, ap}
 use mathlib.Core.List.{List}
 use native.Mathlib.Omega.{arith}
 use lib.ListN.{length, getD}
+use Rattle.frame.specs.Stream.{exchanged-stream}
 use Rattle.event.specs.Event.{whole, applied}
 use Rattle.script.specs.Script.{bodyAt, nextAt}
 use Rattle.script.specs.Laws.{exchange-next}
@@ -24,38 +25,56 @@ loop-holds c = starts _ _ _ _ _ (c .before .before .before .before .before .befo
 shared-slice-read-kind : tie.Need-shared-slice-read-kind Inv-loop μ-loop
 shared-slice-read-kind c = search needs
 
-add-exchange : tie.Need-add-exchange Inv-loop μ-loop
-add-exchange c = omega (arith, good (c .before .before .before .before .before .loop .inv) (c .before .before .before .before .loop-test .taken) .inside, exchange-next (c .before .before .before .before .before .before .before .before .before .before .before .before .before .args .script .now) (c .before .before .before .before .before .loop .at) (c .before .before .if1 .taken))
+add-b : tie.Need-add-b Inv-loop μ-loop
+add-b c = omega (arith, good (c .before .before .before .loop .inv) (c .before .before .loop-test .taken) .inside, exchange-next (c .before .before .before .before .before .before .before .before .before .before .before .args .script .now) (c .before .before .before .loop .at) (c .if1 .taken))
 
-shared-slice-read-exchange : tie.Need-shared-slice-read-exchange Inv-loop μ-loop
-shared-slice-read-exchange c = omega (arith, good (c .before .before .before .before .before .before .loop .inv) (c .before .before .before .before .before .loop-test .taken) .inside, exchange-next (c .before .before .before .before .before .before .before .before .before .before .before .before .before .before .args .script .now) (c .before .before .before .before .before .before .loop .at) (c .before .before .before .if1 .taken))
+shared-slice-read-b : tie.Need-shared-slice-read-b Inv-loop μ-loop
+shared-slice-read-b c = omega (arith, good (c .before .before .before .before .loop .inv) (c .before .before .before .loop-test .taken) .inside, exchange-next (c .before .before .before .before .before .before .before .before .before .before .before .before .args .script .now) (c .before .before .before .before .loop .at) (c .before .if1 .taken))
+
+streams-requires : tie.Need-streams-requires Inv-loop μ-loop
+streams-requires c κs = search needs
+
+stream-requires : tie.Need-stream-requires Inv-loop μ-loop
+stream-requires c κs = search needs
+
+put-requires : tie.Need-put-requires Inv-loop μ-loop
+put-requires c κs = exchange-finds-room (c .before .before .before .before .before .before .before .before .before .before .loop .inv) (c .before .before .before .before .before .before .before .before .before .loop-test .taken) (c .before .before .before .before .before .before .before .if1 .taken) (c .before .before .before .before .before .before .shared-slice-known3 .given (c .before .before .before .before .before .before .before .before .before .before .loop .at + 1) .fits) _ _ _ (c .before .stream .ensures ∙ sym (exchanged-stream _ _ _ _ _ (sym (c .before .before .before .before .before .streams .ensures) ∙ c .before .before .before .before .if2 .taken)))
+
+add-at : tie.Need-add-at Inv-loop μ-loop
+add-at c = omega (arith, good (c .before .before .before .before .before .before .before .before .before .before .before .before .before .before .loop .inv) (c .before .before .before .before .before .before .before .before .before .before .before .before .before .loop-test .taken) .inside, exchange-next (c .before .before .before .before .before .before .before .before .before .before .before .before .before .before .before .before .before .before .before .before .before .before .args .script .now) (c .before .before .before .before .before .before .before .before .before .before .before .before .before .before .loop .at) (c .before .before .before .before .before .before .before .before .before .before .before .if1 .taken))
+
+loop-less : tie.Need-loop-less Inv-loop μ-loop
+loop-less c = omega (arith, c .before .before .before .before .before .before .before .before .before .before .before .before .before .loop-test .taken)
+
+loop-again : tie.Need-loop-again Inv-loop μ-loop
+loop-again c = exchange-turns (c .before .before .before .before .before .before .before .before .before .before .before .before .before .before .loop .inv) (c .before .before .before .before .before .before .before .before .before .before .before .before .before .loop-test .taken) (c .before .before .before .before .before .before .before .before .before .before .before .if1 .taken) (c .before .before .before .before .before .before .before .before .before .before .shared-slice-known3 .given (c .before .before .before .before .before .before .before .before .before .before .before .before .before .before .loop .at + 1) .fits) _ _ _ (c .before .before .before .before .before .stream .ensures ∙ sym (exchanged-stream _ _ _ _ _ (sym (c .before .before .before .before .before .before .before .before .before .streams .ensures) ∙ c .before .before .before .before .before .before .before .before .if2 .taken))) _ _ (c .before .before .before .put .ensures) (c .before .before .before .put .kept .0)
 
 exchange-requires : tie.Need-exchange-requires Inv-loop μ-loop
 exchange-requires c κs = search needs
 
-put-requires : tie.Need-put-requires Inv-loop μ-loop
-put-requires c κs = exchange-finds-room (c .before .before .before .before .before .before .before .before .loop .inv) (c .before .before .before .before .before .before .before .loop-test .taken) (c .before .before .before .before .before .if1 .taken) (c .before .before .shared-slice-known3 .given (c .before .before .before .before .before .before .before .before .loop .at + 1) .fits) _ _ _ (c .before .exchange .ensures)
+put-requires-2 : tie.Need-put-requires-2 Inv-loop μ-loop
+put-requires-2 c κs = exchange-finds-room (c .before .before .before .before .before .before .before .before .before .before .loop .inv) (c .before .before .before .before .before .before .before .before .before .loop-test .taken) (c .before .before .before .before .before .before .before .if1 .taken) (c .before .before .before .before .before .before .shared-slice-known3 .given (c .before .before .before .before .before .before .before .before .before .before .loop .at + 1) .fits) _ _ _ (c .before .exchange .ensures)
 
-add-at : tie.Need-add-at Inv-loop μ-loop
-add-at c = omega (arith, good (c .before .before .before .before .before .before .before .before .before .before .before .before .loop .inv) (c .before .before .before .before .before .before .before .before .before .before .before .loop-test .taken) .inside, exchange-next (c .before .before .before .before .before .before .before .before .before .before .before .before .before .before .before .before .before .before .before .before .args .script .now) (c .before .before .before .before .before .before .before .before .before .before .before .before .loop .at) (c .before .before .before .before .before .before .before .before .before .if1 .taken))
+add-at-2 : tie.Need-add-at-2 Inv-loop μ-loop
+add-at-2 c = omega (arith, good (c .before .before .before .before .before .before .before .before .before .before .before .before .before .before .loop .inv) (c .before .before .before .before .before .before .before .before .before .before .before .before .before .loop-test .taken) .inside, exchange-next (c .before .before .before .before .before .before .before .before .before .before .before .before .before .before .before .before .before .before .before .before .before .before .args .script .now) (c .before .before .before .before .before .before .before .before .before .before .before .before .before .before .loop .at) (c .before .before .before .before .before .before .before .before .before .before .before .if1 .taken))
 
-loop-less : tie.Need-loop-less Inv-loop μ-loop
-loop-less c = omega (arith, c .before .before .before .before .before .before .before .before .before .before .before .loop-test .taken)
+loop-less-2 : tie.Need-loop-less-2 Inv-loop μ-loop
+loop-less-2 c = omega (arith, c .before .before .before .before .before .before .before .before .before .before .before .before .before .loop-test .taken)
 
-loop-again : tie.Need-loop-again Inv-loop μ-loop
-loop-again c = exchange-turns (c .before .before .before .before .before .before .before .before .before .before .before .before .loop .inv) (c .before .before .before .before .before .before .before .before .before .before .before .loop-test .taken) (c .before .before .before .before .before .before .before .before .before .if1 .taken) (c .before .before .before .before .before .before .shared-slice-known3 .given (c .before .before .before .before .before .before .before .before .before .before .before .before .loop .at + 1) .fits) _ _ _ (c .before .before .before .before .before .exchange .ensures) _ _ (c .before .before .before .put .ensures) (c .before .before .before .put .kept .0)
+loop-again-2 : tie.Need-loop-again-2 Inv-loop μ-loop
+loop-again-2 c = exchange-turns (c .before .before .before .before .before .before .before .before .before .before .before .before .before .before .loop .inv) (c .before .before .before .before .before .before .before .before .before .before .before .before .before .loop-test .taken) (c .before .before .before .before .before .before .before .before .before .before .before .if1 .taken) (c .before .before .before .before .before .before .before .before .before .before .shared-slice-known3 .given (c .before .before .before .before .before .before .before .before .before .before .before .before .before .before .loop .at + 1) .fits) _ _ _ (c .before .before .before .before .before .exchange .ensures) _ _ (c .before .before .before .put2 .ensures) (c .before .before .before .put2 .kept .0)
 
 body-at-requires : tie.Need-body-at-requires Inv-loop μ-loop
 body-at-requires c κs = search needs
 
-cast-step : tie.Need-cast-step Inv-loop μ-loop
-cast-step c = omega (arith, c .before .before .before .body-at .ensures .1)
+cast-body : tie.Need-cast-body Inv-loop μ-loop
+cast-body c = omega (arith, c .body-at .ensures .1)
 
 step-requires : tie.Need-step-requires Inv-loop μ-loop
 step-requires c κs = search needs
 
-put-requires-2 : tie.Need-put-requires-2 Inv-loop μ-loop
-put-requires-2 c κs = finds-room (c .before .before .before .before .before .before .before .before .before .before .before .loop .inv) (c .before .before .before .before .before .before .before .before .before .before .loop-test .taken) _ (c .before .before .before .step .ensures ∙ ap (applied _ _ _ _) (c .before .before .before .before .before .before .before .body-at .ensures .0))
+put-requires-3 : tie.Need-put-requires-3 Inv-loop μ-loop
+put-requires-3 c κs = finds-room (c .before .before .before .before .before .before .before .before .before .before .before .loop .inv) (c .before .before .before .before .before .before .before .before .before .before .loop-test .taken) _ (c .before .before .before .step .ensures ∙ ap (applied _ _ _ _) (c .before .before .before .before .before .before .before .body-at .ensures .0))
 
 cast-ticks : tie.Need-cast-ticks Inv-loop μ-loop
 cast-ticks c = search needs
@@ -68,11 +87,11 @@ add-ticks c =
 next-at-requires : tie.Need-next-at-requires Inv-loop μ-loop
 next-at-requires c κs = search needs
 
-loop-less-2 : tie.Need-loop-less-2 Inv-loop μ-loop
-loop-less-2 c = omega (arith, c .next-at .ensures, c .before .before .before .before .before .before .before .before .before .before .before .before .before .before .before .before .before .loop-test .taken)
+loop-less-3 : tie.Need-loop-less-3 Inv-loop μ-loop
+loop-less-3 c = omega (arith, c .next-at .ensures, c .before .before .before .before .before .before .before .before .before .before .before .before .before .before .before .before .before .loop-test .taken)
 
-loop-again-2 : tie.Need-loop-again-2 Inv-loop μ-loop
-loop-again-2 c = rw (c .next-at .ensures) (turns (c .before .before .before .before .before .before .before .before .before .before .before .before .before .before .before .before .before .before .loop .inv) (c .before .before .before .before .before .before .before .before .before .before .before .before .before .before .before .before .before .loop-test .taken) _ _ _ (c .before .before .before .before .before .before .before .before .before .before .step .ensures ∙ ap (applied _ _ _ _) (c .before .before .before .before .before .before .before .before .before .before .before .before .before .before .body-at .ensures .0)) (c .before .before .before .before .before .before .put2 .ensures) (search needs) (c .before .before .before .before .before .before .before .before .before .before .step .kept .1 .1 .1 .1 .0) (c .before .before .before .before .before .before .put2 .kept .0))
+loop-again-3 : tie.Need-loop-again-3 Inv-loop μ-loop
+loop-again-3 c = rw (c .next-at .ensures) (turns (c .before .before .before .before .before .before .before .before .before .before .before .before .before .before .before .before .before .before .loop .inv) (c .before .before .before .before .before .before .before .before .before .before .before .before .before .before .before .before .before .loop-test .taken) _ _ _ (c .before .before .before .before .before .before .before .before .before .before .step .ensures ∙ ap (applied _ _ _ _) (c .before .before .before .before .before .before .before .before .before .before .before .before .before .before .body-at .ensures .0)) (c .before .before .before .before .before .before .put3 .ensures) (search needs) (c .before .before .before .before .before .before .before .before .before .before .step .kept .1 .1 .1 .1 .0) (c .before .before .before .before .before .before .put3 .kept .0))
 
 same-length : tie.Need-same-length Inv-loop μ-loop
 same-length c = c .before .loop .inv .memory
@@ -91,22 +110,28 @@ play-spec =
     μ-loop
     loop-holds
     shared-slice-read-kind
-    add-exchange
-    shared-slice-read-exchange
-    exchange-requires
+    add-b
+    shared-slice-read-b
+    streams-requires
+    stream-requires
     put-requires
     add-at
     loop-less
     loop-again
-    body-at-requires
-    cast-step
-    step-requires
+    exchange-requires
     put-requires-2
+    add-at-2
+    loop-less-2
+    loop-again-2
+    body-at-requires
+    cast-body
+    step-requires
+    put-requires-3
     cast-ticks
     add-ticks
     next-at-requires
-    loop-less-2
-    loop-again-2
+    loop-less-3
+    loop-again-3
     same-length
     same-length-2
     returns)

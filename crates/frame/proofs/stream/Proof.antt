@@ -1,0 +1,51 @@
+-- `frame::stream` meets its contract. A cell is driven, or the byte goes into the load: each by its law.
+use mathlib.Core.Path.{_≡_, sym, _∙_}
+use Rattle.frame.specs.Stream.{streamed-cell, streamed-load}
+use borrow.Author.Needs.{needs}
+use Rattle.frame.proofs.stream.Statement.{statement}
+use Rattle.frame.proofs.stream.Tie as tie
+
+reads-cell-requires : tie.Need-reads-cell-requires
+reads-cell-requires c κs = search needs
+
+byte-at-requires : tie.Need-byte-at-requires
+byte-at-requires c κs = search needs
+
+read-requires : tie.Need-read-requires
+read-requires c κs = search needs
+
+drives-requires : tie.Need-drives-requires
+drives-requires c κs = search needs
+
+returns : tie.Need-returns
+returns c = rw (c .drives .ensures, c .before .read .ensures, c .before .before .byte-at .ensures) (sym (streamed-cell _ _ _ _ (sym (c .before .before .before .before .reads-cell .ensures) ∙ c .before .before .before .if1 .taken)))
+
+cast-offset : tie.Need-cast-offset
+cast-offset c = search needs
+
+element-write-load : tie.Need-element-write-load
+element-write-load c = search needs
+
+load-up-requires : tie.Need-load-up-requires
+load-up-requires c κs = search needs
+
+floats-requires : tie.Need-floats-requires
+floats-requires c κs = search needs
+
+returns-2 : tie.Need-returns-2
+returns-2 c = rw (c .floats .ensures, c .before .load-up .ensures) (sym (streamed-load _ _ _ _ (sym (c .before .before .before .before .reads-cell .ensures) ∙ c .before .before .before .if1 .left)))
+
+pub stream-spec : {M : Type 1} → statement M
+stream-spec =
+    tie.close
+    (tie.spec
+    reads-cell-requires
+    byte-at-requires
+    read-requires
+    drives-requires
+    returns
+    cast-offset
+    element-write-load
+    load-up-requires
+    floats-requires
+    returns-2)
