@@ -243,7 +243,7 @@ fn read_places(opcode: u8, n: usize) -> usize
     ensures { λ r. ⌜ r ≡ readPlaces opcode n ⌝ }
 {
     if opcode == Part::JEDEC_ID {
-        return 4;
+        return Part::JEDEC_CYCLE;
     }
     n
 }

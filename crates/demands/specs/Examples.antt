@@ -2,13 +2,13 @@
 use Prim.Native.Nat.{ℕ, zero, suc, _+_, _%_, _<_, _≤_, zero-le}
 use mathlib.Core.Bool.{Bool, true, false}
 use mathlib.Core.List.{List, [], _∷_, _++_}
-use mathlib.Core.Path.{_≡_, refl, sym, ap, _∙_}
+use mathlib.Core.Path.{_≡_, refl, sym, ap, subst, _∙_}
 use mathlib.Core.Logic.{inl, inr}
 use native.Mathlib.Nat.{zero-add, add-zero}
 use native.Mathlib.Omega.{arith}
 use lib.Bits.{bitAnd}
 use lib.Dec.{eqb, ltb, leb}
-use lib.ListN.{length, getD, replicate}
+use lib.ListN.{length, getD}
 use borrow.Author.Tests.{lt-ltb, le-leb}
 use Rattle.cells.specs.Cells.{sweep, later, blanked, anded}
 use Rattle.cells.specs.Laws.{sweep-changes, sweep-outside}
@@ -16,6 +16,7 @@ use Rattle.part.specs.Table.{rowOf, rowIn, fitsRule, isRead, isProgram}
 use Rattle.part.specs.Protection.{protectedCount, protectedSector}
 use Rattle.chip.specs.declared.Chip.{Chip}
 use Rattle.chip.specs.declared.Core.{Core}
+use Rattle.chip.specs.declared.Frame.{Frame}
 use Rattle.chip.specs.declared.JobKind.{JobKind}
 use Rattle.chip.specs.Job.{steps, wholeImage}
 use Rattle.chip.specs.Chip.{fresh, emptyFrame, blankLoad, statusByte}
@@ -23,10 +24,11 @@ use Rattle.job.specs.Tick.{tickCore, tickMemory, ticksCore, ticksMemory, worked
 use Rattle.frame.specs.Frame.{judge, taken, exchanged}
 use Rattle.verdict.specs.Verdict.{jobOf, jobVerdict, commandVerdict, listed, verdict}
 use Rattle.verdict.specs.Effect.{instantly, acted, settled}
-use Rattle.event.specs.Event.{applied}
+use Rattle.event.specs.Event.{whole, applied}
 use Rattle.event.specs.Alone.{knownKind, bodyLength, inRange}
 use Rattle.script.specs.Script.{Event, faultAt, walk, eventsFrom, events}
 use Rattle.script.specs.Run.{World, world, runs}
+use Rattle.script.specs.Laws.{runs-add}
 use Rattle.chip.specs.declared.JobKind.the-variants.{Program, SmallErase}
 use Rattle.demands.specs.JobSteps.{Spares, replaces}
 use Rattle.demands.specs.Demand3.{UnderWay, AllSpare, workedBy, k-steps, end-image}
@@ -56,24 +58,6 @@ p1 : P1
 unfolding runs eventsFrom walk faultAt knownKind bodyLength inRange applied exchanged taken judge fresh rowOf rowIn isProgram verdict listed isRead settled acted statusByte
 p1 m h = rw h refl
 
--- a blank one-sector part
-abbrev pub blank : List ℕ
-blank = replicate 65536 255
-
--- P3: "status after 06h: 02h; after a program begins: 03h; suspended: 42h"
-abbrev pub statusAfter : List ℕ → ℕ
-statusAfter s = statusByte (played 1 0x00 s blank .chip .core)
-
-abbrev pub programs : List ℕ
-programs = frame (0x06 ∷ []) ++ frame (0x02 ∷ 0 ∷ 0 ∷ 0 ∷ 0x11 ∷ [])
-
-abbrev pub P3 : Type 0
-P3 = (statusAfter (frame (0x06 ∷ [])) ≡ 0x02) × (statusAfter programs ≡ 0x03) × (statusAfter (programs ++ frame (0xB0 ∷ [])) ≡ 0x42)
-
-p3 : P3
-unfolding runs eventsFrom walk faultAt knownKind bodyLength inRange applied exchanged taken judge fresh rowOf rowIn isProgram verdict listed isRead commandVerdict jobVerdict jobOf fitsRule settled acted instantly statusByte protectedSector protectedCount
-p3 = (refl, refl, refl)
-
 -- P2: "program at page offset 250, 260 bytes, byte j worth j mod 251: load holds 5 at 250, 8 at 253, 4 at 254, 5 at 255, 6 at 0, 4 at 249"
 abbrev pub counting : ℕ → ℕ → List ℕ
 counting zero j = []
@@ -93,13 +77,25 @@ p2 : P2
 unfolding runs eventsFrom walk faultAt knownKind bodyLength inRange applied exchanged taken judge fresh rowOf rowIn isProgram
 p2 m = refl
 
+-- P3: "status after 06h: 02h; after a program begins: 03h; suspended: 42h"
+abbrev pub statusAfter : List ℕ → List ℕ → ℕ
+statusAfter s m = statusByte (played 1 0x00 s m .chip .core)
+
+abbrev pub programs : List ℕ
+programs = frame (0x06 ∷ []) ++ frame (0x02 ∷ 0 ∷ 0 ∷ 0 ∷ 0x0F ∷ [])
+
+abbrev pub P3 : Type 0
+P3 =
+    (m : List ℕ) → length m ≡ 65536
+    → (statusAfter (frame (0x06 ∷ [])) m ≡ 0x02) × (statusAfter programs m ≡ 0x03) × (statusAfter (programs ++ frame (0xB0 ∷ [])) m ≡ 0x42)
+
 -- P4: "06h, then write status FFh, one tick: BCh"
 abbrev pub P4 : Type 0
-P4 = statusAfter (frame (0x06 ∷ []) ++ (frame (0x01 ∷ 0xFF ∷ []) ++ (0x04 ∷ []))) ≡ 0xBC
+P4 = (m : List ℕ) → statusAfter (frame (0x06 ∷ []) ++ (frame (0x01 ∷ 0xFF ∷ []) ++ (0x04 ∷ []))) m ≡ 0xBC
 
 p4 : P4
 unfolding runs eventsFrom walk faultAt knownKind bodyLength inRange applied exchanged taken judge fresh rowOf rowIn isProgram verdict listed isRead commandVerdict jobVerdict jobOf fitsRule settled acted instantly statusByte ticksCore tickCore worked
-p4 = refl
+p4 m = refl
 
 -- P6: "level 1, TB 0, real part: 1F0000h protected, 1EFFFFh free": a sector erase there gets verdict 9, here it begins
 abbrev pub P6 : Type 0
@@ -116,7 +112,16 @@ p6 m h = (rw h refl, rw h refl)
 abbrev pub P7 : Type 0
 P7 =
     ((tb : Bool) (x : ℕ) → x < 1 → protectedSector 5 tb 1 x ≡ true)
-    × (played 1 0x14 (frame (0x06 ∷ []) ++ frame (0x20 ∷ 0x00 ∷ 0xF0 ∷ 0x00 ∷ [])) blank .written ≡ 0x80 ∷ 0x82 ∷ 1 ∷ 0x80 ∷ 0x80 ∷ 0x80 ∷ 0x80 ∷ 0x82 ∷ 9 ∷ [])
+    × ((m : List ℕ) → length m ≡ 65536
+    → played 1 0x14 (frame (0x06 ∷ []) ++ frame (0x20 ∷ 0x00 ∷ 0xF0 ∷ 0x00 ∷ [])) m .written ≡ 0x80 ∷ 0x82 ∷ 1 ∷ 0x80 ∷ 0x80 ∷ 0x80 ∷ 0x80 ∷ 0x82 ∷ 9 ∷ [])
+
+p7 : P7
+unfolding runs eventsFrom walk faultAt knownKind bodyLength inRange applied exchanged taken judge fresh rowOf rowIn isProgram verdict listed isRead commandVerdict jobVerdict jobOf fitsRule settled acted instantly protectedSector protectedCount
+p7 = (sectors-all, λ m h. rw h refl)
+  where
+    sectors-all : (tb : Bool) (x : ℕ) → x < 1 → protectedSector 5 tb 1 x ≡ true
+    sectors-all true x h = lt-ltb x 1 h
+    sectors-all false x h = le-leb 0 x zero-le
 
 -- P8: "66h, 05h, 99h: verdicts 1, 0, 11"
 abbrev pub P8 : Type 0
@@ -136,14 +141,6 @@ p10 : P10
 unfolding runs eventsFrom walk faultAt knownKind bodyLength inRange applied exchanged taken judge fresh rowOf rowIn isProgram verdict listed isRead fitsRule settled acted
 p10 m = refl
 
-p7 : P7
-unfolding runs eventsFrom walk faultAt knownKind bodyLength inRange applied exchanged taken judge fresh rowOf rowIn isProgram verdict listed isRead commandVerdict jobVerdict jobOf fitsRule settled acted instantly protectedSector protectedCount
-p7 = (sectors-all, refl)
-  where
-    sectors-all : (tb : Bool) (x : ℕ) → x < 1 → protectedSector 5 tb 1 x ≡ true
-    sectors-all true x h = lt-ltb x 1 h
-    sectors-all false x h = le-leb 0 x zero-le
-
 -- ---- P5 and P9, on any memory: the job begun by a frame, and n ticks of it
 
 -- the event of n ticks
@@ -156,7 +153,7 @@ spared n w = (record { known = refl; no-power-cut = λ e. omega arith; clean-spa
 
 -- P5: "0Fh programmed over F0h: 00h"
 abbrev pub programming : List ℕ → World
-programming m = played 1 0x00 (frame (0x06 ∷ []) ++ frame (0x02 ∷ 0 ∷ 0 ∷ 0 ∷ 0x0F ∷ [])) m
+programming m = played 1 0x00 programs m
 
 abbrev pub P5 : Type 0
 P5 = (m : List ℕ) → length m ≡ 65536 → getD m 0 0 ≡ 0xF0 → getD (runs 1 (ticks 16 ∷ []) (programming m) .memory) 0 0 ≡ 0x00
@@ -260,6 +257,44 @@ p5 m h c =
     ∙ sweep-changes (later (anded (programming m .chip .page)) 0) m 0 256 0 (omega arith) (omega arith)
     ∙ ap (λ (old : ℕ). bitAnd old (getD (programming m .chip .page) 0 0)) c
     ∙ ap (bitAnd 0xF0) (programming-load m h)
+
+-- ---- P3, on any memory: the program of P5, then the frame that suspends it
+
+abbrev suspending : List Event
+suspending = eventsFrom (programs ++ frame (0xB0 ∷ [])) (length programs)
+
+in-two : events (programs ++ frame (0xB0 ∷ [])) ≡ events programs ++ suspending
+unfolding eventsFrom walk faultAt knownKind bodyLength inRange
+in-two = refl
+
+suspends : (k : Core) (f : Frame) (load page m written : List ℕ) (ticks : ℕ) → k ≡ begunCore Program → f ≡ emptyFrame false
+    → statusByte (runs 1 suspending (world (whole k f load page) m written ticks) .chip .core) ≡ 0x42
+unfolding runs eventsFrom walk faultAt knownKind bodyLength inRange applied exchanged taken judge fresh rowOf rowIn isProgram verdict listed isRead commandVerdict jobVerdict jobOf fitsRule settled acted instantly statusByte
+suspends k f load page m written ticks p q =
+    subst (λ (x : Core). statusByte (runs 1 suspending (world (whole x f load page) m written ticks) .chip .core) ≡ 0x42) (sym p)
+    (subst (λ (y : Frame). statusByte (runs 1 suspending (world (whole (begunCore Program) y load page) m written ticks) .chip .core) ≡ 0x42) (sym q) refl)
+
+programming-frame : (m : List ℕ) → programming m .chip .frame ≡ emptyFrame false
+unfolding runs eventsFrom walk faultAt knownKind bodyLength inRange applied exchanged taken judge fresh rowOf rowIn isProgram verdict listed isRead commandVerdict jobVerdict jobOf fitsRule settled acted instantly protectedSector protectedCount
+programming-frame m = refl
+
+begun-status : statusByte (begunCore Program) ≡ 0x03
+unfolding statusByte
+begun-status = refl
+
+enabled-status : (m : List ℕ) → statusAfter (frame (0x06 ∷ [])) m ≡ 0x02
+unfolding runs eventsFrom walk faultAt knownKind bodyLength inRange applied exchanged taken judge fresh rowOf rowIn isProgram verdict listed isRead commandVerdict jobVerdict jobOf fitsRule settled acted instantly statusByte
+enabled-status m = refl
+
+p3 : P3
+p3 m h =
+    let w : World = programming m in (
+      enabled-status m,
+      ap statusByte (programming-core m h) ∙ begun-status,
+      ap (λ (es : List Event). statusByte (runs 1 es (world (fresh 0x00) m [] 0) .chip .core)) in-two
+          ∙ ap (λ (x : World). statusByte (x .chip .core)) (runs-add 1 (events programs) suspending (world (fresh 0x00) m [] 0))
+          ∙ suspends (w .chip .core) (w .chip .frame) (w .chip .load) (w .chip .page) (w .memory) (w .written) (w .ticks) (programming-core m h) (programming-frame m),
+    )
 
 -- ---- all of them under one claim
 

@@ -199,7 +199,7 @@ fn take(core: Core, f: Frame, load: &mut [u8; 256], mem: &[u8], b: u8) -> Exchan
         return drives(chip::status_byte(core), count(f));
     }
     if f.opcode == Part::JEDEC_ID {
-        return drives(part::jedec_byte(f.place), read(4, f));
+        return drives(part::jedec_byte(f.place), read(Part::JEDEC_CYCLE, f));
     }
     if (f.opcode == Part::WAKE) & (4 <= f.count) {
         return drives(Part::DEVICE, count(f));

@@ -92,8 +92,10 @@ impl Part {
         [Part::RESET, 1, 1, 1],
     ];
 
-    // The identity that 9Fh drives, byte by byte, in a cycle.
+    // The identity that 9Fh drives, byte by byte, in a cycle, and the cycle's length.
     pub const JEDEC: [u8; 4] = [0x62, 0x16, 0x15, 0x00];
+
+    pub const JEDEC_CYCLE: usize = 4;
     // The identity that ABh drives.
     pub const DEVICE: u8 = 0x88;
 }
@@ -127,7 +129,7 @@ pub fn cell_of(n: usize, address: u32) -> usize
 pub fn jedec_byte(i: usize) -> u8
     ensures { λ r. ⌜ r ≡ jedecByte i ⌝ }
 {
-    if i < 4 {
+    if i < Part::JEDEC_CYCLE {
         return Part::JEDEC[i];
     }
     0

@@ -14,8 +14,7 @@ use Rattle.frame.specs.Frame.{exchange, exchanged}
 use Rattle.event.specs.Event.{Outcome, whole, settleExchange, applied}
 use Rattle.event.specs.Laws.{applied-exchange}
 use Rattle.script.specs.Script.{Refusal, events, eventsFrom, firstBad, room, yields, nextAt, bodyAt}
-use Rattle.script.specs.Run.{World, world, after, recordBytes, runs, Stored, Playable, Played, done}
-use Rattle.script.specs.declared.Ran.{Ran}
+use Rattle.script.specs.Run.{World, world, after, recordBytes, runs, Stored, Playable, Played, finished, done}
 use Rattle.script.specs.Laws.{exchange-body, exchange-next, no-fault, good-event, Good, firstBad-later, room-more, said-room, runs-more, runs-none}
 
 pub record Playing (S : ℕ) (s : List ℕ) (c₀ : Chip) (m₀ out₀ : List ℕ) (c : Chip) (m out : List ℕ) (at pos ticks : ℕ) : Type 0 where
@@ -28,10 +27,6 @@ pub record Playing (S : ℕ) (s : List ℕ) (c₀ : Chip) (m₀ out₀ : List �
   pub inside : at ≤ length s
   pub short : length s ≤ 65536
   pub few : ticks ≤ at * 4294967296
-
--- the answer to a run that is done
-abbrev pub ranOf : Chip → ℕ → ℕ → Ran
-ranOf c written ticks = record { chip = c; refusal = 0; offset = 0; written = written; ticks = ticks }
 
 -- before the first event
 pub starts : (S : ℕ) (s : List ℕ) (c : Chip) (m out : List ℕ) → Playable s (length out) → Playing S s c m out c m out 0 0 0
@@ -113,12 +108,12 @@ module _ {S : ℕ} {s : List ℕ} {c₀ : Chip} {m₀ out₀ : List ℕ} {c : Ch
           rw (exchange-next s at is-exchange, add-zero ticks) at p
 
   -- after the last event
-  pub ends : length s ≤ at → Played S c₀ m₀ s out₀ (ranOf c pos ticks) m out
+  pub ends : length s ≤ at → Played S c₀ m₀ s out₀ (finished c pos ticks) m out
   ends over =
       let w : runs S (events s) (world c₀ m₀ [] 0) ≡ world c m (take pos out) ticks = i .same ∙ runs-none S s at (world c m (take pos out) ticks) over in
       let l : length (take pos out) ≡ pos = length-take-le pos out (omega (arith, i .fits)) in
       record {
-        answer = ap (λ (n : ℕ). ranOf c n ticks) (sym l) ∙ ap done (sym w);
+        answer = ap (λ (n : ℕ). finished c n ticks) (sym l) ∙ ap done (sym w);
         memory = ap (λ (x : World). x .memory) (sym w);
         output =
             sym (take-append-drop pos out)

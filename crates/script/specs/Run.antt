@@ -69,8 +69,11 @@ abbrev pub refused : Chip → Refusal → Ran
 refused c r = record { chip = c; refusal = r .number; offset = r .offset; written = 0; ticks = 0 }
 
 -- "Done: new state, number of output bytes written, and the number of working ticks"
+abbrev pub finished : Chip → ℕ → ℕ → Ran
+finished c written ticks = record { chip = c; refusal = 0; offset = 0; written = written; ticks = ticks }
+
 abbrev pub done : World → Ran
-done w = record { chip = w .chip; refusal = 0; offset = 0; written = length (w .written); ticks = w .ticks }
+done w = finished (w .chip) (length (w .written)) (w .ticks)
 
 -- the whole answer, and the memory and the output afterwards: "Output beyond the written bytes keeps its content"
 unfoldable pub answerOf : Chip → List ℕ → List ℕ → List ℕ → Ran

@@ -4,8 +4,9 @@ ghost use mathlib.Core.Bool.{cond};
 ghost use mathlib.Core.List.{List, [], _++_};
 ghost use Prim.Native.Nat.{ℕ, _+_, _≤_, _<_};
 ghost use lib.ListN.{length, take, drop, getD};
+ghost use Rattle.event.specs.Event.{whole};
 ghost use Rattle.script.specs.Script.{bodyAt, nextAt, faultAt, yields, events, firstBad, room, refusalOf};
-ghost use Rattle.script.specs.Run.{recordBytes, Scan, Stored, Playable, Played, refusal, answerOf, memoryOf, outputOf};
+ghost use Rattle.script.specs.Run.{recordBytes, finished, Scan, Stored, Playable, Played, refusal, answerOf, memoryOf, outputOf};
 use chip::Chip;
 use chip::Core;
 use chip::Frame;
@@ -141,6 +142,31 @@ fn put(out: &mut [u8], at: usize, said: Record) -> usize
     }
 }
 
+// The answer to a run that is done: the chip put together again.
+fn finished(
+    core: Core,
+    frame: Frame,
+    load: [u8; 256],
+    page: [u8; 256],
+    written: usize,
+    ticks: u64,
+) -> Ran
+    ensures { λ r. ⌜ r ≡ finished (whole core frame load page) written ticks ⌝ }
+{
+    Ran {
+        chip: Chip {
+            core: core,
+            frame: frame,
+            load: load,
+            page: page,
+        },
+        refusal: 0,
+        offset: 0,
+        written: written,
+        ticks: ticks,
+    }
+}
+
 // Runs a script that nothing refuses: the chip is taken apart once, and put together at the end.
 // Data bytes are most of a script: they go by the frame alone. The other calls get a copy of the
 // frame, so that it need not lie in memory from one data byte to the next.
@@ -185,18 +211,7 @@ fn play(chip: Chip, mem: &mut [u8], script: &[u8], out: &mut [u8], sectors: u8) 
         ticks += s.ticks as u64;
         at = next_at(script, at);
     }
-    Ran {
-        chip: Chip {
-            core: core,
-            frame: frame,
-            load: load,
-            page: page,
-        },
-        refusal: 0,
-        offset: 0,
-        written: pos,
-        ticks: ticks,
-    }
+    finished(core, frame, load, page, pos, ticks)
 }
 
 fn refuse(number: u8) -> Refused

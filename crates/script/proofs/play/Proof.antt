@@ -93,14 +93,17 @@ loop-less-3 c = omega (arith, c .next-at .ensures, c .before .before .before .be
 loop-again-3 : tie.Need-loop-again-3 Inv-loop μ-loop
 loop-again-3 c = rw (c .next-at .ensures) (turns (c .before .before .before .before .before .before .before .before .before .before .before .before .before .before .before .before .before .before .loop .inv) (c .before .before .before .before .before .before .before .before .before .before .before .before .before .before .before .before .before .loop-test .taken) _ _ _ (c .before .before .before .before .before .before .before .before .before .before .step .ensures ∙ ap (applied _ _ _ _) (c .before .before .before .before .before .before .before .before .before .before .before .before .before .before .body-at .ensures .0)) (c .before .before .before .before .before .before .put3 .ensures) (search needs) (c .before .before .before .before .before .before .before .before .before .before .step .kept .1 .1 .1 .1 .0) (c .before .before .before .before .before .before .put3 .kept .0))
 
+finished-requires : tie.Need-finished-requires Inv-loop μ-loop
+finished-requires c κs = search needs
+
 same-length : tie.Need-same-length Inv-loop μ-loop
-same-length c = c .before .loop .inv .memory
+same-length c = c .before .before .loop .inv .memory
 
 same-length-2 : tie.Need-same-length-2 Inv-loop μ-loop
-same-length-2 c = c .before .loop .inv .output
+same-length-2 c = c .before .before .loop .inv .output
 
 returns : tie.Need-returns Inv-loop μ-loop
-returns c = ends (c .before .loop .inv) (c .loop-test .left)
+returns c = rw (c .finished .ensures) (ends (c .before .before .loop .inv) (c .before .loop-test .left))
 
 pub play-spec : {M : Type 1} → statement M
 play-spec =
@@ -132,6 +135,7 @@ play-spec =
     next-at-requires
     loop-less-3
     loop-again-3
+    finished-requires
     same-length
     same-length-2
     returns)
