@@ -11,6 +11,7 @@ use Rattle.chip.specs.Chip.{fresh}
 use Rattle.chip.specs.Legal.{legal}
 use Rattle.job.specs.Tick.{TicksAnswer}
 use Rattle.frame.specs.Frame.{Exchange, exchange, exchanged}
+use Rattle.frame.specs.Stream.{streamed}
 use Rattle.frame.specs.declared.Exchanged.{Exchanged}
 use Rattle.event.specs.declared.Answer.{Answer}
 use Rattle.event.specs.declared.Stepped.{Stepped}
@@ -58,13 +59,20 @@ unique-step S c m kind body r r′ l₁ l₂ p₁ p₂ m₁ m₂ p q = (
     stepped : Outcome → Stepped
     stepped o = record { core = o .chip .core; frame = o .chip .frame; said = o .said; ticks = o .ticks }
 
--- `frame::exchange`: the answer and the load
-pub unique-exchange : (k : Core) (f : Frame) (load m : List ℕ) (b : ℕ) (r r′ : Exchanged) (l₁ l₂ : List ℕ)
-    → exchange (r .said) (r .frame) l₁ ≡ exchanged k f load m b → exchange (r′ .said) (r′ .frame) l₂ ≡ exchanged k f load m b → (r ≡ r′) × (l₁ ≡ l₂)
-unique-exchange k f load m b r r′ l₁ l₂ p q = (ap (λ (e : Exchange). told e) (same p q), ap (λ (e : Exchange). e .load) (same p q))
+-- `frame::exchange` and `frame::stream`: the answer and the load
+exchange-parts : (e : Exchange) (r r′ : Exchanged) (l₁ l₂ : List ℕ) → exchange (r .said) (r .frame) l₁ ≡ e → exchange (r′ .said) (r′ .frame) l₂ ≡ e → (r ≡ r′) × (l₁ ≡ l₂)
+exchange-parts e r r′ l₁ l₂ p q = (ap (λ (x : Exchange). told x) (same p q), ap (λ (x : Exchange). x .load) (same p q))
   where
     told : Exchange → Exchanged
-    told e = record { said = e .said; frame = e .frame }
+    told x = record { said = x .said; frame = x .frame }
+
+pub unique-exchange : (k : Core) (f : Frame) (load m : List ℕ) (b : ℕ) (r r′ : Exchanged) (l₁ l₂ : List ℕ)
+    → exchange (r .said) (r .frame) l₁ ≡ exchanged k f load m b → exchange (r′ .said) (r′ .frame) l₂ ≡ exchanged k f load m b → (r ≡ r′) × (l₁ ≡ l₂)
+unique-exchange k f load m b = exchange-parts (exchanged k f load m b)
+
+pub unique-stream : (f : Frame) (load m : List ℕ) (b : ℕ) (r r′ : Exchanged) (l₁ l₂ : List ℕ)
+    → exchange (r .said) (r .frame) l₁ ≡ streamed f load m b → exchange (r′ .said) (r′ .frame) l₂ ≡ streamed f load m b → (r ≡ r′) × (l₁ ≡ l₂)
+unique-stream f load m b = exchange-parts (streamed f load m b)
 
 -- `job::ticks`: the core, the working ticks and the memory
 pub unique-ticks : (S n : ℕ) (k : Core) (page m : List ℕ) (k₁ k₂ : Core) (w₁ w₂ : ℕ) (m₁ m₂ : List ℕ)
