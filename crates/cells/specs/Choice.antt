@@ -31,6 +31,10 @@ pub and-both : (a b : Bool) → a ≡ true → b ≡ true → (a && b) ≡ true
 and-both true b p q = q
 and-both false b p q = p
 
+pub and-true : (a : Bool) → (a && true) ≡ a
+and-true true = refl
+and-true false = refl
+
 -- `not a || b` is the test that a means b
 pub means-holds : (a b : Bool) → (not a || b) ≡ true → a ≡ true → b ≡ true
 means-holds true b h e = h

@@ -1,25 +1,22 @@
--- What is true of the chip's state: a look through a load, and what a legal state has, fact by fact.
-use Prim.Native.Nat.{ℕ, suc, zero, _+_, _<_, _≤_}
-use mathlib.Core.Bool.{Bool, true, false, _&&_, _||_, not}
+-- What is true of a look through a load.
+use Prim.Native.Nat.{ℕ, _+_, _<_, _≤_}
+use mathlib.Core.Bool.{Bool, true, false, _&&_}
 use mathlib.Core.List.{List, [], _∷_}
-use mathlib.Core.Path.{_≡_, refl, sym, ap, _∙_}
+use mathlib.Core.Path.{_≡_, refl, ap, _∙_}
 use native.Mathlib.Numerals.{add-one}
 use lib.Dec.{eqb}
 use lib.ListN.{length, getD, drop, drop-of-length-le}
 use lib.Seq.{drop-cons}
-use borrow.Author.Tests.{eq-eqb, ne-eqb}
+use Rattle.cells.specs.Choice.{and-true}
 use Rattle.chip.specs.Legal.{isBlank}
 
--- ---- a look through a load
-
-pub isBlank-stops : (l : List ℕ) (i : ℕ) → i < length l → (getD l i 0 ≡ 255 → ⊥) → isBlank (drop i l) ≡ false
+-- one byte more of a look that has been blank so far, or not
+pub isBlank-more : (so-far : Bool) (l : List ℕ) (i : ℕ) → i < length l
+    → (so-far && isBlank (drop i l)) ≡ (so-far && eqb (getD l i 0) 255 && isBlank (drop (i + 1) l))
 unfolding isBlank
-isBlank-stops l i h e = rw (drop-cons l i 0 h, ne-eqb _ _ e)
+isBlank-more true l i h = rw (add-one, drop-cons l i 0 h)
+isBlank-more false l i h = refl
 
-pub isBlank-goes : (l : List ℕ) (i : ℕ) → i < length l → getD l i 0 ≡ 255 → isBlank (drop i l) ≡ isBlank (drop (i + 1) l)
+pub isBlank-ends : (so-far : Bool) (l : List ℕ) (i : ℕ) → length l ≤ i → (so-far && isBlank (drop i l)) ≡ so-far
 unfolding isBlank
-isBlank-goes l i h e = rw (add-one, drop-cons l i 0 h, eq-eqb _ _ e)
-
-pub isBlank-ends : (l : List ℕ) (i : ℕ) → length l ≤ i → isBlank (drop i l) ≡ true
-unfolding isBlank
-isBlank-ends l i h = ap isBlank (drop-of-length-le l h)
+isBlank-ends so-far l i h = ap (λ (rest : List ℕ). so-far && isBlank rest) (drop-of-length-le l h) ∙ and-true so-far

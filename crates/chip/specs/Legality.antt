@@ -6,7 +6,7 @@ use mathlib.Core.Path.{_≡_, refl, sym, ap, _∙_}
 use native.Mathlib.Omega.{arith}
 use lib.Dec.{eqb, ltb, leb}
 use borrow.Author.Tests.{lt-ltb, le-leb, ltb-true, leb-true, eqb-true, eq-eqb, not-true}
-use Rattle.cells.specs.Choice.{and-left, and-right, and-both, and-four, four-and, means-holds, means-shown}
+use Rattle.cells.specs.Choice.{and-left, and-right, and-both, and-true, and-four, four-and, means-holds, means-shown}
 use Rattle.part.specs.Part.{permitted, sectors}
 use Rattle.part.specs.Laws.{permitted-some}
 use Rattle.chip.specs.declared.Chip.{Chip}
@@ -122,3 +122,17 @@ unbegun-empty f load h e = and-left (isEmpty f) (isBlank load) (go (f .selected)
     go true true p q = q
     go true false p q = absurd (false≢true p)
     go false z p q = q
+
+-- ---- a load is looked through only where it has to be blank
+
+module _ (c : Chip) (n : ℕ) (part : permitted n ≡ true) where
+  abbrev sound : Bool
+  sound = legalCore (c .core) (sectors n) n && legalFrame (c .frame) n
+
+  pub legal-begun : begun (c .frame) ≡ true → legal c n ≡ sound
+  unfolding legal
+  legal-begun h = rw (part, h) (and-true (legalCore (c .core) (sectors n) n && legalFrame (c .frame) n))
+
+  pub legal-empty : begun (c .frame) ≡ false → legal c n ≡ (sound && (isEmpty (c .frame) && isBlank (c .load)))
+  unfolding legal
+  legal-empty h = rw (part, h)

@@ -266,17 +266,17 @@ fn is_empty(f: Frame) -> bool
         & (f.judgement == 0)
 }
 
+// No early way out: so the look goes through the load in wide pieces.
 fn is_blank(load: &[u8]) -> bool
     ensures { λ r. ⌜ r ≡ isBlank (now (load .entry)) ⌝ }
 {
+    let mut blank = true;
     let mut i = 0;
     while i < load.len() {
-        if load[i] != 255 {
-            return false;
-        }
+        blank = blank & (load[i] == 255);
         i += 1;
     }
-    true
+    blank
 }
 
 // Whether a state is legal for a memory of n cells.
@@ -291,7 +291,10 @@ pub fn is_legal(chip: Chip, n: usize) -> bool
     let frame = chip.frame;
     let load = chip.load;
     let begun = frame.selected & !(frame.count == 0);
-    is_legal_core(core, sectors, n)
-        & is_legal_frame(frame, n)
-        & (begun | (is_empty(frame) & is_blank(&load)))
+    let sound = is_legal_core(core, sectors, n) & is_legal_frame(frame, n);
+    // A load is looked through only where it has to be blank.
+    if begun {
+        return sound;
+    }
+    sound & (is_empty(frame) & is_blank(&load))
 }

@@ -78,17 +78,12 @@ fn advance(core: Core, k: u32) -> Core
 fn clear(level: u8, tb: bool, srwp: bool, core: Core) -> Core
     ensures { λ r. ⌜ r ≡ cleared level tb srwp core ⌝ }
 {
-    let idle = Job {
-        kind: JobKind::Idle,
-        place: 0,
-        done: 0,
-    };
     let mut next = core;
     next.level = level;
     next.tb = tb;
     next.srwp = srwp;
     next.wen = false;
-    next.job = idle;
+    next.job = chip::no_job();
     next
 }
 
