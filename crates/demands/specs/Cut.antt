@@ -15,12 +15,12 @@ use Rattle.part.specs.Part.{permitted, sectors}
 use Rattle.chip.specs.declared.Chip.{Chip}
 use Rattle.chip.specs.Legal.{legal}
 use Rattle.event.specs.Event.{Outcome, applied}
-use Rattle.event.specs.Alone.{knownKind, bodyLength, inRange, bodyUsed}
+use Rattle.event.specs.Alone.{knownKind, bodyLength, inRange, bodyUsed, yields}
 use Rattle.event.specs.Alone as Alone
 use Rattle.event.specs.Laws.{answer-done, memory-done, happens-as}
 use Rattle.event.specs.Legality.{legal-applied}
 use Rattle.event.specs.Keeps.{length-applied}
-use Rattle.script.specs.Script.{Event, bodyAt, nextAt, faultAt, eventAt, eventsFrom, events, Refusal, refusalOf, firstBad, yields, room}
+use Rattle.script.specs.Script.{Event, bodyAt, nextAt, faultAt, eventAt, eventsFrom, events, Refusal, refusalOf, firstBad, room}
 use Rattle.script.specs.Run.{World, world, after, runs, recordBytes, outcome}
 use Rattle.demands.specs.Demand1.{event-refused-when}
 use Rattle.script.specs.Laws.{events-none, events-more, no-fault, good-event, Good, firstBad-later, runs-add}

@@ -1,6 +1,6 @@
 -- One event alone: its answer for every kind, body, state and memory length (01, Events; Refusal numbers).
 use Prim.Native.Nat.{ℕ}
-use mathlib.Core.Bool.{Bool, true, cond, not, _&&_}
+use mathlib.Core.Bool.{Bool, true, cond, not, _&&_, _||_}
 use mathlib.Core.List.{List}
 use lib.Dec.{eqb, leb}
 use lib.ListN.{length}
@@ -26,6 +26,10 @@ inRange kind body =
     (cond (eqb kind 5) (leb 1 body && leb body 65535)
     (cond (eqb kind 6) (leb body 1)
     (cond (eqb kind 8) (leb 1 body && leb body 7) true)))
+
+-- whether a kind yields a record: "each exchange", "each deselect"; "Other events yield none"
+unfoldable pub yields : ℕ → Bool
+yields kind = eqb kind 2 || eqb kind 3 || eqb kind 8
 
 -- "the body of a kind that has none is ignored"
 unfoldable pub bodyUsed : ℕ → ℕ → ℕ

@@ -6,7 +6,7 @@ ghost use Prim.Native.Nat.{ℕ, _≤_, _<_};
 ghost use lib.ListN.{length};
 ghost use Rattle.chip.specs.Chip.{emptyFrame, blankLoad};
 ghost use Rattle.event.specs.Event.{whole, outcome, applied, selectedFrame, wpAs, poweredUp, deselect, tick};
-ghost use Rattle.event.specs.Alone.{knownKind, bodyLength, inRange, bodyUsed, refusal, done, answerOf, memoryOf};
+ghost use Rattle.event.specs.Alone.{knownKind, bodyLength, inRange, yields, bodyUsed, refusal, done, answerOf, memoryOf};
 use chip::Chip;
 use chip::Core;
 use chip::Frame;
@@ -180,6 +180,13 @@ pub fn is_in_range(kind: u64, body: u64) -> bool
         8 => (1 <= body) & (body <= 7),
         _ => true,
     }
+}
+
+// Whether an event of a kind yields a record.
+pub fn yields(kind: u64) -> bool
+    ensures { λ r. ⌜ r ≡ yields kind ⌝ }
+{
+    (kind == 2) | (kind == 3) | (kind == 8)
 }
 
 fn body_used(kind: u64, body: u64) -> u64

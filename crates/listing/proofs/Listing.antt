@@ -10,7 +10,8 @@ use lib.Seq.{sets}
 use borrow.Author.Tests.{lt-ltb}
 use Rattle.cells.specs.Choice.{cond-yes, cond-no}
 use Rattle.chip.specs.declared.Record.{Record}
-use Rattle.script.specs.Script.{Event, nextAt, eventsFrom, events, yields}
+use Rattle.event.specs.Alone.{yields}
+use Rattle.script.specs.Script.{Event, nextAt, eventsFrom, events}
 use Rattle.script.specs.Run.{recordBytes}
 use Rattle.script.specs.Laws.{events-none, events-more, recordBytes-two}
 use Rattle.listing.specs.Text.{lineOf, Put}

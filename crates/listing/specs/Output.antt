@@ -6,7 +6,8 @@ use lib.Dec.{eqb, ltb}
 use lib.ListN.{length, getD}
 use Rattle.chip.specs.declared.Record.{Record}
 use Rattle.chip.specs.declared.Record.the-variants.{Nothing, Floating, Driven, Verdict}
-use Rattle.script.specs.Script.{Event, nextAt, yields}
+use Rattle.event.specs.Alone.{yields}
+use Rattle.script.specs.Script.{Event, nextAt}
 use Rattle.script.specs.Run.{recordBytes}
 use Rattle.listing.specs.Text.{lineOf}
 

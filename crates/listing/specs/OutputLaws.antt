@@ -18,9 +18,9 @@ use Rattle.chip.specs.declared.Record.{Record}
 use Rattle.chip.specs.declared.Record.the-variants.{Nothing, Floating, Driven, Verdict}
 use Rattle.frame.specs.Frame.{Exchange, exchange, readsCell, takesData, taken, exchanged}
 use Rattle.event.specs.Event.{Outcome, deselect, applied}
-use Rattle.event.specs.Alone.{knownKind}
+use Rattle.event.specs.Alone.{knownKind, yields}
 use Rattle.event.specs.Laws.{applied-each}
-use Rattle.script.specs.Script.{Event, bodyAt, nextAt, faultAt, eventAt, eventsFrom, Refusal, firstBad, yields}
+use Rattle.script.specs.Script.{Event, bodyAt, nextAt, faultAt, eventAt, eventsFrom, Refusal, firstBad}
 use Rattle.script.specs.Run.{World, after, recordBytes, runs}
 use Rattle.script.specs.Laws.{events-none, events-more, firstBad-later, no-fault, good-event, said-room}
 use Rattle.listing.specs.Text.{lineOf}

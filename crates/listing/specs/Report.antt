@@ -9,7 +9,8 @@ use Rattle.chip.specs.declared.Chip.{Chip}
 use Rattle.chip.specs.Chip.{fresh}
 use Rattle.event.specs.Event.{applied}
 use Rattle.script.specs.declared.Ran.{Ran}
-use Rattle.script.specs.Script.{Event, events, yields}
+use Rattle.event.specs.Alone.{yields}
+use Rattle.script.specs.Script.{Event, events}
 use Rattle.script.specs.Run.{World, world, after, answerOf}
 use Rattle.listing.specs.Text.{lineOf, partLine, doneLine, refusedLine, tooLong}
 

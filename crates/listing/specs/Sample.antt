@@ -9,8 +9,8 @@ use Rattle.frame.specs.Frame.{judge, taken, exchanged}
 use Rattle.verdict.specs.Verdict.{jobOf, jobVerdict, commandVerdict, listed, verdict}
 use Rattle.verdict.specs.Effect.{instantly, acted, settled}
 use Rattle.event.specs.Event.{applied}
-use Rattle.event.specs.Alone.{knownKind, bodyLength, inRange}
-use Rattle.script.specs.Script.{faultAt, walk, eventsFrom, firstBad, yields, room}
+use Rattle.event.specs.Alone.{knownKind, bodyLength, inRange, yields}
+use Rattle.script.specs.Script.{faultAt, walk, eventsFrom, firstBad, room}
 use Rattle.script.specs.Run.{runs, refusal, outcome, answerOf}
 use Rattle.listing.specs.Text.{ascii, spelled, lineOf, partLine, doneLine, refusedLine}
 use Rattle.listing.specs.Report.{linesOf, answerText, runText, reportOf}

@@ -4,7 +4,8 @@ ghost use mathlib.Core.List.{_++_};
 ghost use Prim.Native.Nat.{_+_, _*_, _<_, _≤_};
 ghost use lib.ListN.{length, drop, getD};
 ghost use Rattle.io.specs.Counts.{Counts};
-ghost use Rattle.script.specs.Script.{events, yields};
+ghost use Rattle.event.specs.Alone.{yields};
+ghost use Rattle.script.specs.Script.{events};
 ghost use Rattle.script.specs.Run.{recordBytes};
 ghost use Rattle.listing.specs.Text.{Put, decimalOf, hexDigit, hexOf, wordOf, lineOf, partLine, doneLine, refusedLine};
 ghost use Rattle.listing.specs.Output.{recordAt, stepTo, readLines};
@@ -50,12 +51,7 @@ pub fn record_length(said: Record) -> usize
 pub fn yields_at(s: &[u8], at: usize) -> bool
     ensures { λ r. ⌜ r ≡ yields (getD (now (s .entry)) at 0) ⌝ }
 {
-    match cells::byte_at(s, at) {
-        2 => true,
-        3 => true,
-        8 => true,
-        _ => false,
-    }
+    event::yields(cells::byte_at(s, at) as u64)
 }
 
 // Where the event after the one at an offset starts; past the end, the same offset.

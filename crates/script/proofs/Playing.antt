@@ -13,7 +13,8 @@ use Rattle.chip.specs.declared.Record.{Record}
 use Rattle.frame.specs.Frame.{exchange, exchanged}
 use Rattle.event.specs.Event.{Outcome, whole, settleExchange, applied}
 use Rattle.event.specs.Laws.{applied-exchange}
-use Rattle.script.specs.Script.{Refusal, events, eventsFrom, firstBad, room, yields, nextAt, bodyAt}
+use Rattle.event.specs.Alone.{yields}
+use Rattle.script.specs.Script.{Refusal, events, eventsFrom, firstBad, room, nextAt, bodyAt}
 use Rattle.script.specs.Run.{World, world, after, recordBytes, runs, Stored, Playable, Played, finished, done}
 use Rattle.script.specs.Laws.{exchange-body, exchange-next, no-fault, good-event, Good, firstBad-later, room-more, said-room, runs-more, runs-none}
 

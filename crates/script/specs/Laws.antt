@@ -17,9 +17,9 @@ use Rattle.chip.specs.Legal.{legal}
 use Rattle.chip.specs.declared.Record.{Record}
 use Rattle.chip.specs.declared.Record.the-variants.{Nothing, Floating, Driven, Verdict}
 use Rattle.event.specs.Event.{Outcome, exchangeByte, deselect, applied}
-use Rattle.event.specs.Alone.{knownKind, bodyLength, inRange}
+use Rattle.event.specs.Alone.{knownKind, bodyLength, inRange, yields}
 use Rattle.event.specs.Laws.{applied-each}
-use Rattle.script.specs.Script.{Event, bodyAt, nextAt, faultAt, eventAt, walk, eventsFrom, events, Refusal, refusalOf, firstBad, yields, room}
+use Rattle.script.specs.Script.{Event, bodyAt, nextAt, faultAt, eventAt, walk, eventsFrom, events, Refusal, refusalOf, firstBad, room}
 use Rattle.script.specs.Run.{World, world, after, recordBytes, Stored, runs, Playable, refusal, outcome, refused, done, answerOf, memoryOf, outputOf}
 
 -- ---- a script, event by event

@@ -1,10 +1,10 @@
 -- A script: its events with their offsets, the first bad one and why, and the room that its records need (01, Events; Refusal numbers).
 use Prim.Native.Nat.{ℕ, zero, suc, _+_, _*_}
-use mathlib.Core.Bool.{Bool, cond, not, _||_}
+use mathlib.Core.Bool.{Bool, cond, not}
 use mathlib.Core.List.{List, [], _∷_}
 use lib.Dec.{eqb, ltb, leb}
 use lib.ListN.{length, getD}
-use Rattle.event.specs.Alone.{knownKind, bodyLength, inRange}
+use Rattle.event.specs.Alone.{knownKind, bodyLength, inRange, yields}
 
 -- an event of a script: "one byte of kind, then a body whose length the kind fixes"; its offset is that of its kind byte, its fault 0 or what refuses it
 pub record Event : Type 0 where
@@ -57,10 +57,6 @@ refusalOf number offset = record { number = number; offset = offset }
 unfoldable pub firstBad : List Event → Refusal
 firstBad [] = refusalOf 0 0
 firstBad (e ∷ es) = cond (eqb (e .fault) 0) (firstBad es) (refusalOf (e .fault) (e .offset))
-
--- whether a kind yields a record: exchanges, and "deselects of both kinds"
-unfoldable pub yields : ℕ → Bool
-yields kind = eqb kind 2 || eqb kind 3 || eqb kind 8
 
 -- "2 × (exchanges + deselects of both kinds)"
 unfoldable pub room : List Event → ℕ

@@ -5,7 +5,8 @@ ghost use mathlib.Core.List.{List, [], _++_};
 ghost use Prim.Native.Nat.{ℕ, _+_, _≤_, _<_};
 ghost use lib.ListN.{length, take, drop, getD};
 ghost use Rattle.event.specs.Event.{whole};
-ghost use Rattle.script.specs.Script.{bodyAt, nextAt, faultAt, yields, events, firstBad, room, refusalOf};
+ghost use Rattle.event.specs.Alone.{yields};
+ghost use Rattle.script.specs.Script.{bodyAt, nextAt, faultAt, events, firstBad, room, refusalOf};
 ghost use Rattle.script.specs.Run.{recordBytes, finished, Scan, Stored, Playable, Played, refusal, answerOf, memoryOf, outputOf};
 use chip::Chip;
 use chip::Core;
@@ -80,12 +81,10 @@ fn fault_at(s: &[u8], at: usize) -> u8
 fn room_for(kind: u8) -> usize
     ensures { λ r. ⌜ (r ≡ cond (yields kind) 2 0) × (r ≤ 2) ⌝ }
 {
-    match kind {
-        2 => 2,
-        3 => 2,
-        8 => 2,
-        _ => 0,
+    if event::yields(kind as u64) {
+        return 2;
     }
+    0
 }
 
 // A look through the script: the first bad event, and the room for the records.

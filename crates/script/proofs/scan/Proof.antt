@@ -5,7 +5,8 @@ use mathlib.Core.Path.{_≡_, refl, sym, _∙_, ap}
 use native.Mathlib.Nat.{add-zero, add-assoc, zero-add}
 use native.Mathlib.Omega.{arith}
 use lib.ListN.{length, getD}
-use Rattle.script.specs.Script.{events, eventsFrom, firstBad, room, refusalOf, Refusal, faultAt, nextAt, yields}
+use Rattle.event.specs.Alone.{yields}
+use Rattle.script.specs.Script.{events, eventsFrom, firstBad, room, refusalOf, Refusal, faultAt, nextAt}
 use Rattle.script.specs.Laws.{firstBad-none, firstBad-here, firstBad-later, good-event, Good, room-none, room-more}
 use borrow.Author.Needs.{needs}
 use Rattle.script.proofs.scan.Statement.{statement}
