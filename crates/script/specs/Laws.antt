@@ -97,6 +97,16 @@ pub exchange-next : (s : List ℕ) (at : ℕ) → getD s at 0 ≡ 2 → nextAt s
 unfolding bodyLength
 exchange-next s at e = rw e (omega arith)
 
+-- with a whole one nothing is wrong
+pub exchange-good : (s : List ℕ) (at : ℕ) → getD s at 0 ≡ 2 → at + 1 < length s → getD s (at + 1) 0 < 256 → faultAt s at ≡ 0
+unfolding faultAt knownKind inRange
+exchange-good s at e more byte =
+    let next : nextAt s at ≡ at + 2 = exchange-next s at e in
+    let body : bodyAt s at ≡ getD s (at + 1) 0 = exchange-body s at e in
+    cond-no (not (knownKind (getD s at 0))) _ _ (ap (λ (kind : ℕ). not (knownKind kind)) e)
+    ∙ cond-no (ltb (length s) (nextAt s at)) _ _ (le-ltb (length s) (nextAt s at) (omega (arith, next)))
+    ∙ cond-no (not (inRange (getD s at 0) (bodyAt s at))) _ _ (ap (λ (kind : ℕ). not (inRange kind (bodyAt s at))) e ∙ ap not (le-leb (bodyAt s at) 255 (omega (arith, body))))
+
 -- ---- room
 
 pub room-none : (s : List ℕ) (at : ℕ) → length s ≤ at → room (eventsFrom s at) ≡ 0
@@ -106,6 +116,13 @@ room-none s at h = ap room (events-none s at h)
 pub room-more : (s : List ℕ) (at : ℕ) → at < length s → room (eventsFrom s at) ≡ cond (yields (getD s at 0)) 2 0 + room (eventsFrom s (nextAt s at))
 unfolding room
 room-more s at h = ap room (events-more s at h)
+
+pub exchange-room : (s : List ℕ) (at : ℕ) → getD s at 0 ≡ 2 → at < length s → room (eventsFrom s at) ≡ 2 + room (eventsFrom s (at + 2))
+unfolding yields
+exchange-room s at e h =
+    room-more s at h
+    ∙ ap (λ (kind : ℕ). cond (yields kind) 2 0 + room (eventsFrom s (nextAt s at))) e
+    ∙ ap (λ (next : ℕ). 2 + room (eventsFrom s next)) (exchange-next s at e)
 
 -- ---- records
 

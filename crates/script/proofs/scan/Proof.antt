@@ -1,13 +1,15 @@
--- `script::scan` meets its contract. No event passed was bad, so the first bad one lies ahead; the room counted and the room ahead are the whole.
+-- `script::scan` meets its contract. No event passed was bad, so the first bad one lies ahead; the room counted and the room ahead are the whole. A whole exchange is never bad.
 use Prim.Native.Nat.{ℕ, _≤_, _<_, _+_, _-_, _*_}
-use mathlib.Core.Bool.{cond}
+use mathlib.Core.Bool.{true, _&&_}
 use mathlib.Core.Path.{_≡_, refl, sym, _∙_, ap}
 use native.Mathlib.Nat.{add-zero, add-assoc, zero-add}
 use native.Mathlib.Omega.{arith}
+use lib.Dec.{eqb, ltb}
 use lib.ListN.{length, getD}
-use Rattle.event.specs.Alone.{yields}
-use Rattle.script.specs.Script.{events, eventsFrom, firstBad, room, refusalOf, Refusal, faultAt, nextAt}
-use Rattle.script.specs.Laws.{firstBad-none, firstBad-here, firstBad-later, good-event, Good, room-none, room-more}
+use borrow.Author.Tests.{eqb-true, ltb-true}
+use Rattle.cells.specs.Choice.{and-left, and-right}
+use Rattle.script.specs.Script.{events, eventsFrom, firstBad, room, refusalOf, faultAt, nextAt}
+use Rattle.script.specs.Laws.{firstBad-none, firstBad-here, firstBad-later, good-event, exchange-next, exchange-good, exchange-room, room-none, room-more}
 use borrow.Author.Needs.{needs}
 use Rattle.script.proofs.scan.Statement.{statement}
 use Rattle.script.proofs.scan.Tie as tie
@@ -21,15 +23,42 @@ abbrev μ-loop : tie.MeasureT-loop
 loop-holds : tie.Need-loop-holds Inv-loop μ-loop
 loop-holds c = (search needs, search needs, refl, sym (zero-add _))
 
+shared-slice-read-if1 : tie.Need-shared-slice-read-if1 Inv-loop μ-loop
+shared-slice-read-if1 c = search needs
+
+add-if1 : tie.Need-add-if1 Inv-loop μ-loop
+add-if1 c = search needs
+
+add-space : tie.Need-add-space Inv-loop μ-loop
+add-space c = omega (arith, c .before .before .before .loop .inv .1, c .before .before .before .before .before .pre)
+
+add-at : tie.Need-add-at Inv-loop μ-loop
+add-at c = omega (arith, c .before .before .before .loop .inv .0, c .before .before .before .before .before .pre)
+
+loop-less : tie.Need-loop-less Inv-loop μ-loop
+loop-less c = omega (arith, c .before .before .loop-test .taken)
+
+loop-again : tie.Need-loop-again Inv-loop μ-loop
+loop-again c =
+    let both : (eqb (getD (c .before .before .before .before .before .args .s .now) (c .before .before .before .loop .at) 0) 2 && ltb (c .before .before .before .loop .at + 1) (length (c .before .before .before .before .before .args .s .now))) ≡ true = c .if1 .taken in
+    let e : getD (c .before .before .before .before .before .args .s .now) (c .before .before .before .loop .at) 0 ≡ 2 = eqb-true _ _ (and-left (eqb (getD (c .before .before .before .before .before .args .s .now) (c .before .before .before .loop .at) 0) 2) (ltb (c .before .before .before .loop .at + 1) (length (c .before .before .before .before .before .args .s .now))) both) in
+    let more : c .before .before .before .loop .at + 1 < length (c .before .before .before .before .before .args .s .now) = ltb-true _ _ (and-right (eqb (getD (c .before .before .before .before .before .args .s .now) (c .before .before .before .loop .at) 0) 2) (ltb (c .before .before .before .loop .at + 1) (length (c .before .before .before .before .before .args .s .now))) both) in
+    let z : faultAt (c .before .before .before .before .before .args .s .now) (c .before .before .before .loop .at) ≡ 0 = exchange-good (c .before .before .before .before .before .args .s .now) (c .before .before .before .loop .at) e more (c .before .shared-slice-known2 .given (c .before .before .before .loop .at + 1) .fits) in (
+      omega (arith, more),
+      omega (arith, c .before .before .before .loop .inv .1),
+      c .before .before .before .loop .inv .2 ∙ firstBad-later _ _ (c .before .before .loop-test .taken) z ∙ ap (λ (at : ℕ). firstBad (eventsFrom (c .before .before .before .before .before .args .s .now) at)) (exchange-next (c .before .before .before .before .before .args .s .now) (c .before .before .before .loop .at) e),
+      c .before .before .before .loop .inv .3 ∙ ap (λ (r : ℕ). c .before .before .before .loop .space + r) (exchange-room (c .before .before .before .before .before .args .s .now) (c .before .before .before .loop .at) e (c .before .before .loop-test .taken)) ∙ sym (add-assoc (c .before .before .before .loop .space) 2 _),
+    )
+
 fault-at-requires : tie.Need-fault-at-requires Inv-loop μ-loop
 fault-at-requires c κs = search needs
 
 returns : tie.Need-returns Inv-loop μ-loop
 returns c =
-    let is : c .before .fault-at .result ≡ faultAt (c .before .before .before .before .before .args .s .now) (c .before .before .before .loop .at) = c .before .fault-at .ensures in
+    let is : c .before .fault-at .result ≡ faultAt (c .before .before .before .before .before .before .before .args .s .now) (c .before .before .before .before .before .loop .at) = c .before .fault-at .ensures in
     record {
-      bad = ap (λ (n : ℕ). refusalOf n (c .before .before .before .loop .at)) is ∙ sym (c .before .before .before .loop .inv .2 ∙ firstBad-here _ _ (c .before .before .loop-test .taken) (λ e. c .if1 .taken (is ∙ e)));
-      rooms = λ e. absurd (c .if1 .taken e);
+      bad = ap (λ (n : ℕ). refusalOf n (c .before .before .before .before .before .loop .at)) is ∙ sym (c .before .before .before .before .before .loop .inv .2 ∙ firstBad-here _ _ (c .before .before .before .before .loop-test .taken) (λ e. c .if2 .taken (is ∙ e)));
+      rooms = λ e. absurd (c .if2 .taken e);
     }
 
 shared-slice-read-room-for : tie.Need-shared-slice-read-room-for Inv-loop μ-loop
@@ -38,23 +67,23 @@ shared-slice-read-room-for c = search needs
 room-for-requires : tie.Need-room-for-requires Inv-loop μ-loop
 room-for-requires c κs = search needs
 
-add-space : tie.Need-add-space Inv-loop μ-loop
-add-space c = search needs
+add-space-2 : tie.Need-add-space-2 Inv-loop μ-loop
+add-space-2 c = search needs
 
 next-at-requires : tie.Need-next-at-requires Inv-loop μ-loop
 next-at-requires c κs = search needs
 
-loop-less : tie.Need-loop-less Inv-loop μ-loop
-loop-less c = omega (arith, c .next-at .ensures)
+loop-less-2 : tie.Need-loop-less-2 Inv-loop μ-loop
+loop-less-2 c = omega (arith, c .next-at .ensures)
 
-loop-again : tie.Need-loop-again Inv-loop μ-loop
-loop-again c =
-    let z : faultAt (c .before .before .before .before .before .before .before .before .args .s .now) (c .before .before .before .before .before .before .loop .at) ≡ 0 = sym (c .before .before .before .before .fault-at .ensures) ∙ c .before .before .before .if1 .left in
-    let next : c .next-at .result ≡ nextAt (c .before .before .before .before .before .before .before .before .args .s .now) (c .before .before .before .before .before .before .loop .at) = c .next-at .ensures in (
-      omega (arith, next, good-event (c .before .before .before .before .before .before .before .before .args .s .now) (c .before .before .before .before .before .before .loop .at) z .inside),
-      omega (arith, next, c .before .room-for .ensures .1, c .before .before .before .before .before .before .loop .inv .1),
-      c .before .before .before .before .before .before .loop .inv .2 ∙ firstBad-later _ _ (c .before .before .before .before .before .loop-test .taken) z ∙ ap (λ (at : ℕ). firstBad (eventsFrom (c .before .before .before .before .before .before .before .before .args .s .now) at)) (sym next),
-      c .before .before .before .before .before .before .loop .inv .3 ∙ ap (λ (r : ℕ). c .before .before .before .before .before .before .loop .space + r) (room-more _ _ (c .before .before .before .before .before .loop-test .taken)) ∙ rw (next, c .before .room-for .ensures .0) (sym (add-assoc _ _ _)),
+loop-again-2 : tie.Need-loop-again-2 Inv-loop μ-loop
+loop-again-2 c =
+    let z : faultAt (c .before .before .before .before .before .before .before .before .before .before .args .s .now) (c .before .before .before .before .before .before .before .before .loop .at) ≡ 0 = sym (c .before .before .before .before .fault-at .ensures) ∙ c .before .before .before .if2 .left in
+    let next : c .next-at .result ≡ nextAt (c .before .before .before .before .before .before .before .before .before .before .args .s .now) (c .before .before .before .before .before .before .before .before .loop .at) = c .next-at .ensures in (
+      omega (arith, next, good-event (c .before .before .before .before .before .before .before .before .before .before .args .s .now) (c .before .before .before .before .before .before .before .before .loop .at) z .inside),
+      omega (arith, next, c .before .room-for .ensures .1, c .before .before .before .before .before .before .before .before .loop .inv .1),
+      c .before .before .before .before .before .before .before .before .loop .inv .2 ∙ firstBad-later _ _ (c .before .before .before .before .before .before .before .loop-test .taken) z ∙ ap (λ (at : ℕ). firstBad (eventsFrom (c .before .before .before .before .before .before .before .before .before .before .args .s .now) at)) (sym next),
+      c .before .before .before .before .before .before .before .before .loop .inv .3 ∙ ap (λ (r : ℕ). c .before .before .before .before .before .before .before .before .loop .space + r) (room-more _ _ (c .before .before .before .before .before .before .before .loop-test .taken)) ∙ rw (next, c .before .room-for .ensures .0) (sym (add-assoc _ _ _)),
     )
 
 returns-2 : tie.Need-returns-2 Inv-loop μ-loop
@@ -71,12 +100,18 @@ scan-spec =
     Inv-loop
     μ-loop
     loop-holds
+    shared-slice-read-if1
+    add-if1
+    add-space
+    add-at
+    loop-less
+    loop-again
     fault-at-requires
     returns
     shared-slice-read-room-for
     room-for-requires
-    add-space
+    add-space-2
     next-at-requires
-    loop-less
-    loop-again
+    loop-less-2
+    loop-again-2
     returns-2)
