@@ -35,7 +35,7 @@ kindOf kind value =
     (cond (eqb kind 4) SectorErase
     (cond (eqb kind 5) ChipErase Idle))))
 
--- whether numbers are a state at all: "A kind number over 5 is no state"
+-- whether numbers are a state at all: over 5 no kind has a number
 abbrev pub isState : ChipNumbers → Bool
 isState c = leb (c .kind) 5
 

@@ -85,7 +85,7 @@ verdict-first k f loose S n h =
     go false true false false false i b p true t w u q = refl
     go false true false false false i b p false t w u q = refl
 
--- "A judgement once given is the verdict"; an empty frame is 0.
+-- "a frame so judged floats to its end and that verdict stands"; an empty frame is 0.
 pub verdict-judged : (k : Core) (f : Frame) (loose : Bool) (S n : ℕ) → (f .count ≡ 0 → ⊥) → (f .judgement ≡ 0 → ⊥) → verdict k f loose S n ≡ f .judgement
 unfolding verdict
 verdict-judged k f loose S n c j = cond-no (eqb (f .count) 0) _ _ (ne-eqb _ _ c) ∙ cond-yes (not (eqb (f .judgement) 0)) _ _ (ap not (ne-eqb _ _ j))
@@ -250,7 +250,7 @@ load-after-data k m (b ∷ bs) f load h =
     let one : taken k f load m b ≡ exchange Floating (loading f) (set load (f .offset) b) = taken-data k f load m b (data-no-cell f h) h in
     ap (λ (e : Exchange). fed k m bs (e .frame) (e .load) .load) one ∙ load-after-data k m bs (loading f) (set load (f .offset) b) (data-goes-on f h)
 
--- ---- identities: "9Fh .. from byte 2, repeating in that cycle; ABh 88h from byte 5 on"
+-- ---- identities: "9Fh .. from byte 2, repeating in that cycle ..; ABh 88h from byte 5 on"
 
 -- The j-th byte from byte 2 of a 9Fh frame that began at place 0 of the cycle.
 pub jedec-goes-round : (k : Core) (f : Frame) (load m : List ℕ) (b j : ℕ) → f .place < 4 → f .opcode ≡ jedecId

@@ -96,7 +96,7 @@ readsCell f = eqb (f .opcode) lowPowerRead && leb 4 (f .count) || eqb (f .opcode
 abbrev pub takesData : Frame → Bool
 takesData f = isProgram (f .opcode) && leb 4 (f .count)
 
--- byte 2 and up of a frame with judgement none: "status from byte 2 ..; 03h data from byte 5; 0Bh from byte 6; 9Fh .. from byte 2, repeating in that cycle; ABh 88h from byte 5 on. Other bytes float"
+-- byte 2 and up of a frame with judgement none: "status from byte 2 ..; 03h data from byte 5; 0Bh from byte 6; 9Fh .. from byte 2, repeating in that cycle ..; ABh 88h from byte 5 on. Other bytes float"
 unfoldable pub taken : Core → Frame → List ℕ → List ℕ → ℕ → Exchange
 taken k f load m b =
     cond (readsCell f) (exchange (Driven (getD m (f .place) 0)) (reading (length m) f) load)

@@ -87,6 +87,10 @@ module _ {S : ℕ} {s : List ℕ} {c₀ : Chip} {m₀ out₀ : List ℕ} {c : Ch
           few = omega (arith, i .few, t);
         }
 
+    -- an exchange stands whole in the script
+    pub exchange-inside : getD s at 0 ≡ 2 → at + 2 ≤ length s
+    exchange-inside e = omega (arith, good .inside, exchange-next s at e)
+
     -- the same of an exchange, whose byte stands behind its kind
     module _ (is-exchange : getD s at 0 ≡ 2) (byte : getD s (at + 1) 0 < 256) (said : Record) (f′ : Frame) (load′ : List ℕ)
         (e : exchange said f′ load′ ≡ exchanged (c .core) (c .frame) (c .load) m (getD s (at + 1) 0)) where

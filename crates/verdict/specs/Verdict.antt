@@ -49,7 +49,7 @@ abbrev pub pointless : Core → ℕ → Bool
 pointless k opcode =
     eqb opcode suspend && not (running k && hasCells (k .job .kind)) || eqb opcode resume && not (k .suspended) || eqb opcode reset && not (k .armed)
 
--- 12, 8, 10, 9, 2: "program or erase while suspended with WEN 0; program, erase or write status with WEN 0; write status with SRWP 1 and WP low; target protected; job begun"
+-- "12 program or erase while suspended with WEN 0; 8 program, erase or write status with WEN 0; 10 write status with SRWP 1 and WP low; 9 target protected; 2 job begun"
 unfoldable pub jobVerdict : Core → JobKind → ℕ → ℕ → ℕ
 jobVerdict k kind S place =
     cond (hasCells kind && k .suspended && not (k .wen)) 12

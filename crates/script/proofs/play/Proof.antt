@@ -7,8 +7,7 @@ use lib.ListN.{length, getD}
 use Rattle.frame.specs.Stream.{exchanged-stream}
 use Rattle.event.specs.Event.{whole, applied}
 use Rattle.script.specs.Script.{bodyAt, nextAt}
-use Rattle.script.specs.Laws.{exchange-next}
-use Rattle.script.proofs.Playing.{Playing, starts, good, finds-room, turns, exchange-finds-room, exchange-turns, ends}
+use Rattle.script.proofs.Playing.{Playing, starts, finds-room, exchange-inside, turns, exchange-finds-room, exchange-turns, ends}
 use borrow.Author.Needs.{needs}
 use Rattle.script.proofs.play.Statement.{statement}
 use Rattle.script.proofs.play.Tie as tie
@@ -26,10 +25,10 @@ shared-slice-read-kind : tie.Need-shared-slice-read-kind Inv-loop μ-loop
 shared-slice-read-kind c = search needs
 
 add-b : tie.Need-add-b Inv-loop μ-loop
-add-b c = omega (arith, good (c .before .before .before .loop .inv) (c .before .before .loop-test .taken) .inside, exchange-next (c .before .before .before .before .before .before .before .before .before .before .before .args .script .now) (c .before .before .before .loop .at) (c .if1 .taken))
+add-b c = omega (arith, exchange-inside (c .before .before .before .loop .inv) (c .before .before .loop-test .taken) (c .if1 .taken))
 
 shared-slice-read-b : tie.Need-shared-slice-read-b Inv-loop μ-loop
-shared-slice-read-b c = omega (arith, good (c .before .before .before .before .loop .inv) (c .before .before .before .loop-test .taken) .inside, exchange-next (c .before .before .before .before .before .before .before .before .before .before .before .before .args .script .now) (c .before .before .before .before .loop .at) (c .before .if1 .taken))
+shared-slice-read-b c = omega (arith, exchange-inside (c .before .before .before .before .loop .inv) (c .before .before .before .loop-test .taken) (c .before .if1 .taken))
 
 streams-requires : tie.Need-streams-requires Inv-loop μ-loop
 streams-requires c κs = search needs
@@ -41,7 +40,7 @@ put-requires : tie.Need-put-requires Inv-loop μ-loop
 put-requires c κs = exchange-finds-room (c .before .before .before .before .before .before .before .before .before .before .loop .inv) (c .before .before .before .before .before .before .before .before .before .loop-test .taken) (c .before .before .before .before .before .before .before .if1 .taken) (c .before .before .before .before .before .before .shared-slice-known3 .given (c .before .before .before .before .before .before .before .before .before .before .loop .at + 1) .fits) _ _ _ (c .before .stream .ensures ∙ sym (exchanged-stream _ _ _ _ _ (sym (c .before .before .before .before .before .streams .ensures) ∙ c .before .before .before .before .if2 .taken)))
 
 add-at : tie.Need-add-at Inv-loop μ-loop
-add-at c = omega (arith, good (c .before .before .before .before .before .before .before .before .before .before .before .before .before .before .loop .inv) (c .before .before .before .before .before .before .before .before .before .before .before .before .before .loop-test .taken) .inside, exchange-next (c .before .before .before .before .before .before .before .before .before .before .before .before .before .before .before .before .before .before .before .before .before .before .args .script .now) (c .before .before .before .before .before .before .before .before .before .before .before .before .before .before .loop .at) (c .before .before .before .before .before .before .before .before .before .before .before .if1 .taken))
+add-at c = omega (arith, exchange-inside (c .before .before .before .before .before .before .before .before .before .before .before .before .before .before .loop .inv) (c .before .before .before .before .before .before .before .before .before .before .before .before .before .loop-test .taken) (c .before .before .before .before .before .before .before .before .before .before .before .if1 .taken))
 
 loop-less : tie.Need-loop-less Inv-loop μ-loop
 loop-less c = omega (arith, c .before .before .before .before .before .before .before .before .before .before .before .before .before .loop-test .taken)
@@ -56,7 +55,7 @@ put-requires-2 : tie.Need-put-requires-2 Inv-loop μ-loop
 put-requires-2 c κs = exchange-finds-room (c .before .before .before .before .before .before .before .before .before .before .loop .inv) (c .before .before .before .before .before .before .before .before .before .loop-test .taken) (c .before .before .before .before .before .before .before .if1 .taken) (c .before .before .before .before .before .before .shared-slice-known3 .given (c .before .before .before .before .before .before .before .before .before .before .loop .at + 1) .fits) _ _ _ (c .before .exchange .ensures)
 
 add-at-2 : tie.Need-add-at-2 Inv-loop μ-loop
-add-at-2 c = omega (arith, good (c .before .before .before .before .before .before .before .before .before .before .before .before .before .before .loop .inv) (c .before .before .before .before .before .before .before .before .before .before .before .before .before .loop-test .taken) .inside, exchange-next (c .before .before .before .before .before .before .before .before .before .before .before .before .before .before .before .before .before .before .before .before .before .before .args .script .now) (c .before .before .before .before .before .before .before .before .before .before .before .before .before .before .loop .at) (c .before .before .before .before .before .before .before .before .before .before .before .if1 .taken))
+add-at-2 c = omega (arith, exchange-inside (c .before .before .before .before .before .before .before .before .before .before .before .before .before .before .loop .inv) (c .before .before .before .before .before .before .before .before .before .before .before .before .before .loop-test .taken) (c .before .before .before .before .before .before .before .before .before .before .before .if1 .taken))
 
 loop-less-2 : tie.Need-loop-less-2 Inv-loop μ-loop
 loop-less-2 c = omega (arith, c .before .before .before .before .before .before .before .before .before .before .before .before .before .loop-test .taken)
