@@ -1,62 +1,13 @@
 // What has occurred: opcodes by verdicts, refusals by entry points, jobs by fates, and situations.
 
-use crate::case::{events_of, Event, Start, Step, LENGTHS};
-use crate::generate::Class;
+use crate::case::{Start, Step, LENGTHS};
+use crate::class::Class;
+use crate::commands::{COMMANDS, EMPTY, UNKNOWN, UNSELECTED};
+use crate::event::{events_of, Event};
 use crate::model::{self, Chip, Record};
 use crate::side::Answer;
+use crate::states::RULES;
 use std::collections::BTreeSet;
-
-/// A row of the table of verdicts: an opcode, or none for the rows after the opcodes.
-pub struct Command {
-    pub opcode: Option<u8>,
-    pub name: &'static str,
-    /// The verdicts that can occur.
-    pub verdicts: &'static [u8],
-}
-
-/// A row of an opcode.
-const fn command(opcode: u8, name: &'static str, verdicts: &'static [u8]) -> Command {
-    Command { opcode: Some(opcode), name, verdicts }
-}
-
-/// A row without an opcode.
-const fn other(name: &'static str, verdicts: &'static [u8]) -> Command {
-    Command { opcode: None, name, verdicts }
-}
-
-/// The opcodes, the bytes that are none, and the deselects without an opcode, each with the
-/// verdicts that can occur on a legal state after a frame that was sent byte by byte. (A frame that
-/// came with a lent state may carry any judgement and is not counted here.)
-pub const COMMANDS: [Command; 23] = [
-    command(0x06, "write enable", &[1, 4, 5, 6, 7]),
-    command(0x04, "write disable", &[1, 4, 5, 6, 7]),
-    command(0x05, "read status", &[0, 5]),
-    command(0x01, "write status", &[2, 4, 5, 6, 7, 8, 10]),
-    command(0x03, "low-power read", &[0, 5, 6]),
-    command(0x0B, "high-speed read", &[0, 5, 6]),
-    command(0x20, "small sector erase", &[2, 4, 5, 6, 8, 9]),
-    command(0xD7, "small sector erase", &[2, 4, 5, 6, 8, 9]),
-    command(0xD8, "sector erase", &[2, 4, 5, 6, 8, 9]),
-    command(0x60, "chip erase", &[2, 4, 5, 6, 8, 9]),
-    command(0xC7, "chip erase", &[2, 4, 5, 6, 8, 9]),
-    command(0x02, "page program", &[2, 4, 5, 6, 8, 9]),
-    command(0x0A, "page program", &[2, 4, 5, 6, 8, 9]),
-    command(0xB0, "suspend", &[1, 4, 5, 7, 11]),
-    command(0x30, "resume", &[1, 4, 5, 6, 11]),
-    command(0x9F, "JEDEC ID", &[0, 5, 6, 7]),
-    command(0xAB, "device ID, wake", &[1, 4, 6, 7]),
-    command(0xB9, "deep power-down", &[1, 4, 5, 6, 7]),
-    command(0x66, "reset enable", &[1, 4, 5]),
-    command(0x99, "reset", &[1, 4, 5, 11]),
-    other("unknown", &[3]),
-    other("empty frame", &[0]),
-    other("unselected", &[0]),
-];
-
-/// The rows after the opcodes.
-const UNKNOWN: usize = 20;
-const EMPTY: usize = 21;
-const UNSELECTED: usize = 22;
 
 /// Why a verdict cannot occur in the rows that do not list it.
 const REASONS: [&str; 13] = [
@@ -405,7 +356,7 @@ impl Coverage {
             faults += print_cells(counts, |number| numbers.contains(&(number as u8)));
         }
         println!("\nstates that break one rule of legality alone, refused by 2");
-        for ((name, _), count) in crate::states::RULES.iter().zip(&self.rules) {
+        for ((name, _), count) in RULES.iter().zip(&self.rules) {
             println!("  {name:48}{count:>8}{}", mark(*count == 0));
             faults += usize::from(*count == 0);
         }

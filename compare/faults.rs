@@ -1,8 +1,9 @@
 // A copy of the model as the other side, with a planted fault or none, to test the harness itself.
 
-use crate::case::{events_of, Event};
+use crate::event::{events_of, Event};
+use crate::image::{edited_image, image_of, Edit, Image};
 use crate::model::{self, Chip, Job, JobKind, Record};
-use crate::side::{edited_image, image_of, Answer, Edit, Image, Side, MEMORY_AREA, OUTPUT_AREA};
+use crate::side::{Answer, Side, MEMORY_AREA, OUTPUT_AREA};
 
 /// The faults, in words; the first five are errors that look right.
 pub const FAULTS: [&str; 16] = [

@@ -1,7 +1,8 @@
 // The library as one side: a process of its own, two pipes and one shared file.
 
+use crate::image::{edited_image, Edit, Image};
 use crate::model::{Chip, Record};
-use crate::side::{edited_image, Answer, Edit, Image, Side, MEMORY_AREA, OUTPUT_AREA};
+use crate::side::{Answer, Side, MEMORY_AREA, OUTPUT_AREA};
 use std::ffi::{c_int, c_void};
 use std::fs::File;
 use std::io::{Read, Write};

@@ -3,21 +3,29 @@
 #[path = "../second/model.rs"]
 mod model;
 
+mod bench;
 mod case;
+mod class;
+mod commands;
 mod coverage;
+mod event;
 mod faults;
 mod generate;
+mod image;
 mod library;
 mod plan;
+mod rng;
 mod scenes;
 mod shrink;
 mod side;
 mod states;
+mod words;
 
-use case::{case_words, Bench};
+use bench::Bench;
 use plan::Session;
 use side::Side;
 use std::process::ExitCode;
+use words::case_words;
 
 /// Random events of the quick run, after those that are planned.
 const QUICK: u64 = 600_000;

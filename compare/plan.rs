@@ -1,11 +1,16 @@
 // What is done: first the cases that are planned, then random ones, each step on both sides.
 
-use crate::case::{room_needed, script_of, Bench, Case, Content, Event, Start, Step, LENGTHS};
-use crate::coverage::{Coverage, COMMANDS};
-use crate::generate::{Class, Rng, Writer, LONG_JOBS};
+use crate::bench::Bench;
+use crate::case::{Case, Content, Start, Step, LENGTHS};
+use crate::class::{Class, LONG_JOBS};
+use crate::commands::COMMANDS;
+use crate::coverage::Coverage;
+use crate::event::{room_needed, script_of, Event};
+use crate::generate::Writer;
+use crate::image::Edit;
 use crate::model::Chip;
+use crate::rng::Rng;
 use crate::scenes::SCENES;
-use crate::side::Edit;
 use crate::states;
 
 /// The longest script that a run takes.

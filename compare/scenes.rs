@@ -1,7 +1,8 @@
 // The frames and scenes that a writer can write: every opcode with every verdict, and the rest.
 
-use crate::coverage::COMMANDS;
-use crate::generate::{Class, Writer, LONG_JOBS};
+use crate::class::{Class, LONG_JOBS};
+use crate::commands::COMMANDS;
+use crate::generate::Writer;
 
 impl Writer<'_> {
     /// Sends a frame of an opcode that is to end with a verdict.

@@ -1,8 +1,10 @@
 // Makes a failing case smaller while it still fails.
 
-use crate::case::{events_of, script_of, Bench, Case, Content, Event, Start, Step, LENGTHS};
+use crate::bench::Bench;
+use crate::case::{Case, Content, Start, Step, LENGTHS};
+use crate::event::{events_of, script_of, Event};
+use crate::image::Edit;
 use crate::model::Chip;
-use crate::side::Edit;
 use std::time::{Duration, Instant};
 
 /// The longest time that one case is given.

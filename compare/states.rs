@@ -1,9 +1,10 @@
 // States that are lent: legal ones of every sort, and those that break one rule of legality alone.
 
-use crate::coverage::COMMANDS;
-use crate::generate::{Class, Rng, LONG_JOBS};
+use crate::class::{Class, LONG_JOBS};
+use crate::commands::COMMANDS;
+use crate::image::Edit;
 use crate::model::{Chip, Job, JobKind};
-use crate::side::Edit;
+use crate::rng::Rng;
 
 /// A rule of legality: its words, and whether a chip over a memory length keeps it.
 pub type Rule = (&'static str, fn(&Chip, usize) -> bool);

@@ -1,4 +1,4 @@
--- Memory as a list of cells, and the two ways in which a job changes it (01, Jobs).
+-- Memory as a list of cells, and the two ways in which a job changes it (RULES, Jobs).
 use Prim.Native.Nat.{ℕ, zero, suc, _+_, _-_, _%_}
 use mathlib.Core.Bool.{Bool, cond, _&&_}
 use mathlib.Core.List.{List, [], _∷_}
@@ -10,11 +10,11 @@ use lib.ListN.{getD, set}
 abbrev pub Rule : Type 0
 Rule = ℕ → ℕ → ℕ
 
--- an erased cell is FFh (01: "each sets 256 bytes to FFh")
+-- an erased cell is FFh
 abbrev pub blanked : Rule
 blanked j old = 255
 
--- a programmed cell is ANDed with the load byte at its offset in the page (01: "cell becomes cell AND load")
+-- a programmed cell is ANDed with the load byte at its offset in the page: it can only lose bits
 abbrev pub anded : List ℕ → Rule
 anded load j old = bitAnd old (getD load (j % 256) 0)
 
@@ -26,7 +26,7 @@ later g d j old = g (d + j) old
 abbrev pub change : (ℕ → ℕ) → ℕ → List ℕ → List ℕ
 change f i m = set m i (f (getD m i 0))
 
--- m with the first n cells of the range at p changed by g, in ascending place (01: "Steps are in ascending place")
+-- m with the first n cells of the range at p changed by g, upwards
 unfoldable pub sweep : Rule → List ℕ → ℕ → ℕ → List ℕ
 sweep g m p zero = m
 sweep g m p (suc n) = change (g n) (p + n) (sweep g m p n)
@@ -40,7 +40,7 @@ unfoldable pub imageFrom : Rule → ℕ → ℕ → ℕ → List ℕ → List �
 imageFrom g p n i [] = []
 imageFrom g p n i (x ∷ m) = cond (within p n i) (g (i - p) x) x ∷ imageFrom g p n (suc i) m
 
--- the whole image of a range, with no steps: each cell of it changed by g, every other as it was (01: "a definition without steps")
+-- the whole image of a range, with no steps: each cell of it changed by g, every other as it was
 unfoldable pub image : Rule → ℕ → ℕ → List ℕ → List ℕ
 unfolding imageFrom
 image g p n m = imageFrom g p n 0 m

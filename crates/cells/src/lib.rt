@@ -15,7 +15,7 @@ pub fn byte_at(s: &[u8], i: usize) -> u8
 }
 
 // How many of the n cells from `from` lie inside a memory of `len` cells.
-pub fn inside(len: usize, from: usize, n: usize) -> usize
+fn inside(len: usize, from: usize, n: usize) -> usize
     ensures { λ r. ⌜ r ≡ min n (len - from) ⌝ }
 {
     if len <= from {

@@ -1,48 +1,50 @@
--- The chip's state: a fresh one, an empty frame, the status byte (01, Events; Commands).
+-- The chip's state: a fresh one, an empty frame, the status byte, and what a gone job leaves (RULES, Status; Jobs; Legal states).
 use Prim.Native.Nat.{ℕ, _+_, _*_, _/_, _%_}
 use mathlib.Core.Bool.{Bool, true, false, cond, not, _&&_}
 use mathlib.Core.List.{List}
+use mathlib.Core.Path.{_≡_}
 use lib.Dec.{eqb}
 use lib.ListN.{replicate}
 use Rattle.chip.specs.declared.Chip.{Chip}
 use Rattle.chip.specs.declared.Core.{Core}
 use Rattle.chip.specs.declared.Frame.{Frame}
-use Rattle.chip.specs.Job.{isJob, noJob}
+use Rattle.chip.specs.Fields.{withLevel, withTb, withSrwp}
+use Rattle.chip.specs.Job.{isJob, hasLoad, noJob}
 
--- "A page load starts as 256 bytes FFh"
+-- the chip of its four parts: core, frame, the frame's load, the job's load
+abbrev pub whole : Core → Frame → List ℕ → List ℕ → Chip
+whole k f load held = record { core = k; frame = f; load = load; held = held }
+
+-- a load before any byte has come: a page of FFh
 abbrev pub blankLoad : List ℕ
 blankLoad = replicate 256 255
 
--- the empty frame: "opcode, address, both places and byte count 0, judgement none"
+-- the frame before any byte has come
 abbrev pub emptyFrame : Bool → Frame
-emptyFrame selected = record { selected = selected; opcode = 0; address = 0; place = 0; offset = 0; count = 0; judgement = 0 }
+emptyFrame selected = record { selected = selected; opcode = 0; address = 0; place = 0; slot = 0; count = 0; judgement = 0 }
 
--- "made from any status byte: bits 2 to 5 and 7 are kept, the rest ignored; WP high, awake, unselected, unarmed, no job"
+-- the five bits that a status byte carries into the core: BP0 to BP2, TB and SRWP (RULES, Status)
+abbrev pub withBits : ℕ → Core → Core
+withBits byte k = withLevel (byte / 4 % 8) (withTb (eqb (byte / 32 % 2) 1) (withSrwp (eqb (byte / 128 % 2) 1) k))
+
+-- the core at rest, with none of those bits: WP is high
+abbrev pub resting : Core
+resting = record { level = 0; tb = false; srwp = false; wen = false; suspended = false; wp = true; deep = false; armed = false; job = noJob }
+
+-- a fresh state takes those bits from any byte
 unfoldable pub fresh : ℕ → Chip
-fresh status =
-    record {
-      core =
-          record {
-            level = status / 4 % 8;
-            tb = eqb (status / 32 % 2) 1;
-            srwp = eqb (status / 128 % 2) 1;
-            wen = false;
-            suspended = false;
-            wp = true;
-            deep = false;
-            armed = false;
-            job = noJob;
-          };
-      frame = emptyFrame false;
-      load = blankLoad;
-      page = blankLoad;
-    }
+fresh status = whole (withBits status resting) (emptyFrame false) blankLoad blankLoad
 
 -- whether a job runs: there is one, and it is not suspended
 abbrev pub running : Core → Bool
 running k = isJob (k .job .kind) && not (k .suspended)
 
--- "Status bits 0 to 7: RDY (1 while a job runs), WEN, BP0, BP1, BP2, TB, SUS, SRWP"
+-- the status byte, from RDY in bit 0 to SRWP in bit 7 (RULES, Status)
 unfoldable pub statusByte : Core → ℕ
 statusByte k =
     cond (running k) 1 0 + cond (k .wen) 2 0 + 4 * (k .level % 8) + cond (k .tb) 32 0 + cond (k .suspended) 64 0 + cond (k .srwp) 128 0
+
+-- nothing is left of a gone job: only a program holds a load, and no job has a start or steps (RULES, Jobs)
+pub record NoLeftovers (k : Core) (held : List ℕ) : Type 0 where
+  pub load-blank : hasLoad (k .job .kind) ≡ false → held ≡ blankLoad
+  pub job-none : isJob (k .job .kind) ≡ false → k .job ≡ noJob

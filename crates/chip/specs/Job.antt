@@ -1,9 +1,9 @@
--- A job: its size, its steps, what a step does to a cell (01, Jobs).
+-- A job: its size, its steps, what a step does to a cell (RULES, Jobs).
 use Prim.Native.Nat.{ℕ, _+_, _*_}
 use mathlib.Core.Bool.{Bool, true, false, not}
 use mathlib.Core.List.{List}
 use Rattle.cells.specs.Cells.{Rule, sweep, image, blanked, anded, later}
-use Rattle.part.specs.Part.{page, smallSector, sector}
+use Rattle.part.specs.Part.{page, smallSector, sector, lengthOf}
 use Rattle.chip.specs.declared.Job.{Job}
 use Rattle.chip.specs.declared.JobKind.{JobKind}
 use Rattle.chip.specs.declared.JobKind.the-variants.{Idle, WriteStatus, Program, SmallErase, SectorErase, ChipErase}
@@ -17,7 +17,7 @@ isJob SmallErase = true
 isJob SectorErase = true
 isJob ChipErase = true
 
--- whether the job is "a program or erase", the jobs that have cells and can be suspended
+-- whether the job changes cells, as programs and erases do: only such a job can be suspended
 abbrev pub hasCells : JobKind → Bool
 hasCells Idle = false
 hasCells (WriteStatus value) = false
@@ -26,6 +26,15 @@ hasCells SmallErase = true
 hasCells SectorErase = true
 hasCells ChipErase = true
 
+-- whether the job holds a load: a program does
+abbrev pub hasLoad : JobKind → Bool
+hasLoad Idle = false
+hasLoad (WriteStatus value) = false
+hasLoad Program = true
+hasLoad SmallErase = false
+hasLoad SectorErase = false
+hasLoad ChipErase = false
+
 -- the number of cells of a job on a part of S sectors, which is its size
 abbrev pub span : JobKind → ℕ → ℕ
 span Idle S = 0
@@ -33,9 +42,9 @@ span (WriteStatus value) S = 0
 span Program S = page
 span SmallErase S = smallSector
 span SectorErase S = sector
-span ChipErase S = S * sector
+span ChipErase S = lengthOf S
 
--- the number of cells of a step: "16 steps, each 16 bytes", "each sets 256 bytes to FFh"
+-- the number of cells of a step
 abbrev pub unit : JobKind → ℕ
 unit Idle = 0
 unit (WriteStatus value) = 0
@@ -44,7 +53,7 @@ unit SmallErase = 256
 unit SectorErase = 256
 unit ChipErase = 256
 
--- the number of steps: "A program has 16", "Small sector erase 16 steps, sector erase 256, chip erase 256 × S", "Write status 1"
+-- the number of steps on a part of S sectors
 abbrev pub total : JobKind → ℕ → ℕ
 total Idle S = 0
 total (WriteStatus value) S = 1
@@ -64,12 +73,12 @@ rule ChipErase load = blanked
 
 -- memory after k steps of a job from step d on: cells d × unit to (d + k) × unit of its range
 abbrev pub steps : JobKind → ℕ → List ℕ → ℕ → ℕ → List ℕ → List ℕ
-steps kind place load d k m = sweep (later (rule kind load) (d * unit kind)) m (place + d * unit kind) (k * unit kind)
+steps kind start load d k m = sweep (later (rule kind load) (d * unit kind)) m (start + d * unit kind) (k * unit kind)
 
--- "The whole image has a definition without steps"
+-- what the whole job leaves, said without steps
 abbrev pub wholeImage : JobKind → ℕ → ℕ → List ℕ → List ℕ → List ℕ
-wholeImage kind S place load m = image (rule kind load) place (span kind S) m
+wholeImage kind S start load m = image (rule kind load) start (span kind S) m
 
 -- no job
 abbrev pub noJob : Job
-noJob = record { kind = Idle; place = 0; done = 0 }
+noJob = record { kind = Idle; start = 0; done = 0 }

@@ -1,9 +1,9 @@
--- Which states are legal: exactly 01's list (01, Refusal numbers: "A state is legal when").
+-- Which states are legal: the list of the rule book, and no more (RULES, Legal states).
 use Prim.Native.Nat.{ℕ, _+_, _%_, _^_}
 use mathlib.Core.Bool.{Bool, true, cond, not, _&&_, _||_}
 use mathlib.Core.List.{List, [], _∷_}
 use lib.Dec.{eqb, ltb, leb}
-use Rattle.part.specs.Part.{permitted, sectors, page, smallSector, sector, jedecCycle}
+use Rattle.part.specs.Part.{permitted, sectors, lengthOf, page, smallSector, sector, jedecCycle}
 use Rattle.part.specs.Table.{jedecId}
 use Rattle.chip.specs.declared.Chip.{Chip}
 use Rattle.chip.specs.declared.Core.{Core}
@@ -13,69 +13,77 @@ use Rattle.chip.specs.declared.JobKind.{JobKind}
 use Rattle.chip.specs.declared.JobKind.the-variants.{Idle, WriteStatus, Program, SmallErase, SectorErase, ChipErase}
 use Rattle.chip.specs.Job.{isJob, hasCells, total}
 
--- a place inside a memory of n cells and aligned to a size
+-- ---- the core, on a part of S sectors
+
+-- a start on the part and aligned to a size
 abbrev pub alignedTo : ℕ → ℕ → ℕ → Bool
-alignedTo size place n = eqb (place % size) 0 && leb (place + size) n
+alignedTo S size start = eqb (start % size) 0 && leb (start + size) (lengthOf S)
 
--- "placed inside memory and aligned to its size (write status and chip erase at 0)"
-abbrev pub placed : JobKind → ℕ → ℕ → Bool
-placed Idle place n = true
-placed (WriteStatus value) place n = eqb place 0
-placed Program place n = alignedTo page place n
-placed SmallErase place n = alignedTo smallSector place n
-placed SectorErase place n = alignedTo sector place n
-placed ChipErase place n = eqb place 0
+-- where a job may stand: aligned to its size, and on the part; those with no size of their own at 0
+abbrev pub placed : ℕ → JobKind → ℕ → Bool
+placed S Idle start = true
+placed S (WriteStatus value) start = eqb start 0
+placed S Program start = alignedTo S page start
+placed S SmallErase start = alignedTo S smallSector start
+placed S SectorErase start = alignedTo S sector start
+placed S ChipErase start = eqb start 0
 
--- the job's part of the list: its place, and "with fewer steps done than its total"
-unfoldable pub legalJob : Job → ℕ → ℕ → Bool
-legalJob j S n = placed (j .kind) (j .place) n && (not (isJob (j .kind)) || ltb (j .done) (total (j .kind) S))
+-- the job's share of the list: where it stands, and that it has steps left
+unfoldable pub legalJob : ℕ → Job → Bool
+legalJob S j = placed S (j .kind) (j .start) && (not (isJob (j .kind)) || ltb (j .done) (total (j .kind) S))
 
--- "a job means WEN is 1"
+-- whoever has a job has WEN
 abbrev pub jobEnabled : Core → Bool
 jobEnabled k = not (isJob (k .job .kind)) || k .wen
 
--- "suspended means the job is a program or erase"
+-- only a job with cells is suspended
 abbrev pub suspendedHasCells : Core → Bool
 suspendedHasCells k = not (k .suspended) || hasCells (k .job .kind)
 
--- "deep power-down means no job and not armed"
+-- asleep there is neither a job nor an armed reset
 abbrev pub deepRests : Core → Bool
 deepRests k = not (k .deep) || not (isJob (k .job .kind)) && not (k .armed)
 
--- "level ≤ 7"; the job's part; and the three above
-unfoldable pub legalCore : Core → ℕ → ℕ → Bool
-legalCore k S n = leb (k .level) 7 && legalJob (k .job) S n && jobEnabled k && suspendedHasCells k && deepRests k
+-- three bits of level, the job's share, and the three above
+unfoldable pub legalCore : ℕ → Core → Bool
+legalCore S k = leb (k .level) 7 && legalJob S (k .job) && jobEnabled k && suspendedHasCells k && deepRests k
 
--- "its opcode judgement none or verdict 3, 5, 6 or 7"; none is 0
+-- ---- the frame
+
+-- a judgement is none, which is 0, or one of the four that fall at the opcode byte
 abbrev pub judgementKnown : ℕ → Bool
 judgementKnown v = eqb v 0 || eqb v 3 || eqb v 5 || eqb v 6 || eqb v 7
 
--- "its read place below the memory length (below 3 in a 9Fh frame, where it is the place in the cycle)"; the cycle is 4 long (docs/DECISIONS.md, D1)
+-- how many read places a frame has: the cells, or the bytes of the 9Fh cycle (docs/DECISIONS.md, D1)
 abbrev pub readPlaces : ℕ → ℕ → ℕ
-readPlaces opcode n = cond (eqb opcode jedecId) jedecCycle n
+readPlaces S opcode = cond (eqb opcode jedecId) jedecCycle (lengthOf S)
 
--- "the frame's address is below 2^24, its read place .., its load place below 256, its byte count at most 6"; the load place is a byte
-unfoldable pub legalFrame : Frame → ℕ → Bool
-legalFrame f n =
+-- an address of 24 bits, a read place that there is, a count up to 6, a known judgement; the load place is a byte by its type
+unfoldable pub legalFrame : ℕ → Frame → Bool
+legalFrame S f =
     ltb (f .address) (2 ^ 24)
-    && ltb (f .place) (readPlaces (f .opcode) n)
+    && ltb (f .place) (readPlaces S (f .opcode))
     && leb (f .count) 6
     && judgementKnown (f .judgement)
 
--- "an empty frame, as in a fresh state: opcode, address, both places and byte count 0, judgement none"
+-- the empty frame, number by number
 unfoldable pub isEmpty : Frame → Bool
-isEmpty f = eqb (f .opcode) 0 && eqb (f .address) 0 && eqb (f .place) 0 && eqb (f .offset) 0 && eqb (f .count) 0 && eqb (f .judgement) 0
+isEmpty f = eqb (f .opcode) 0 && eqb (f .address) 0 && eqb (f .place) 0 && eqb (f .slot) 0 && eqb (f .count) 0 && eqb (f .judgement) 0
 
--- "load all FFh"
+-- a load of nothing but FFh
 unfoldable pub isBlank : List ℕ → Bool
 isBlank [] = true
 isBlank (b ∷ load) = eqb b 255 && isBlank load
 
--- "unselected, or a byte count of 0, means an empty frame"
+-- a frame with a byte in it; any other frame is the empty one, with a blank load
 abbrev pub begun : Frame → Bool
 begun f = f .selected && not (eqb (f .count) 0)
 
+abbrev pub tidy : Frame → List ℕ → Bool
+tidy f load = begun f || isEmpty f && isBlank load
+
+-- ---- the whole
+
 -- whether a state is legal for a memory of n cells; for a length that no part has, none is
 unfoldable pub legal : Chip → ℕ → Bool
-legal c n =
-    permitted n && legalCore (c .core) (sectors n) n && legalFrame (c .frame) n && (begun (c .frame) || isEmpty (c .frame) && isBlank (c .load))
+legal c n = permitted n && legalCore (sectors n) (c .core) && legalFrame (sectors n) (c .frame) && tidy (c .frame) (c .load)

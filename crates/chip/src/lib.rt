@@ -2,9 +2,10 @@
 ghost use mathlib.Core.Path.{_≡_};
 ghost use mathlib.Core.Bool.{cond};
 ghost use Prim.Native.Nat.{_≤_, _<_};
-ghost use lib.ListN.{replicate};
-ghost use Rattle.chip.specs.Job.{isJob, hasCells, total};
-ghost use Rattle.chip.specs.Chip.{fresh, emptyFrame, running, statusByte};
+ghost use lib.ListN.{length};
+ghost use Rattle.chip.specs.Job.{isJob, hasCells, total, noJob};
+ghost use Rattle.chip.specs.Chip.{fresh, emptyFrame, withBits, running, statusByte};
+ghost use Rattle.chip.specs.Record.{recordBytes, longestRecord};
 ghost use Rattle.chip.specs.Legal.{placed, alignedTo, legalJob, legalCore, legalFrame, readPlaces, judgementKnown, isEmpty, isBlank, legal};
 use part::Part;
 
@@ -18,10 +19,10 @@ pub enum JobKind {
     ChipErase,
 }
 
-// The one job: its kind, the first cell of its range, and its steps done.
+// The one job: its kind, its place, which is the first cell of its range, and its steps done.
 pub struct Job {
     pub kind: JobKind,
-    pub place: u32,
+    pub start: u32,
     pub done: u32,
 }
 
@@ -38,23 +39,23 @@ pub struct Core {
     pub job: Job,
 }
 
-// The frame on the wire: `place` is the read place, `offset` the load place, `count` the whole bytes so far (6 meaning six or more), and `judgement` 0 for none.
+// The frame on the wire: `place` is the read place, `slot` the load place, `count` the whole bytes so far (6 meaning six or more), and `judgement` 0 for none.
 pub struct Frame {
     pub selected: bool,
     pub opcode: u8,
     pub address: u32,
     pub place: usize,
-    pub offset: u8,
+    pub slot: u8,
     pub count: u8,
     pub judgement: u8,
 }
 
-// The chip: `load` is the frame's page load, `page` the load of the program job.
+// The chip: `load` is the frame's load, `held` the load that a program job holds.
 pub struct Chip {
     pub core: Core,
     pub frame: Frame,
     pub load: [u8; 256],
-    pub page: [u8; 256],
+    pub held: [u8; 256],
 }
 
 // What an event says: nothing, the line left floating, the byte driven, or the verdict.
@@ -70,32 +71,44 @@ impl Chip {
     pub fn fresh(status: u8) -> Chip
         ensures { λ r. ⌜ r ≡ fresh status ⌝ }
     {
+        let resting = Core {
+            level: 0,
+            tb: false,
+            srwp: false,
+            wen: false,
+            suspended: false,
+            wp: true,
+            deep: false,
+            armed: false,
+            job: no_job(),
+        };
         Chip {
-            core: Core {
-                level: status / 4 % 8,
-                tb: status / 32 % 2 == 1,
-                srwp: status / 128 % 2 == 1,
-                wen: false,
-                suspended: false,
-                wp: true,
-                deep: false,
-                armed: false,
-                job: no_job(),
-            },
+            core: set_bits(status, resting),
             frame: empty_frame(false),
             load: [255; 256],
-            page: [255; 256],
+            held: [255; 256],
         }
     }
 }
 
+// The core with bits 2 to 5 and 7 of a status byte.
+pub fn set_bits(status: u8, core: Core) -> Core
+    ensures { λ r. ⌜ r ≡ withBits status core ⌝ }
+{
+    let mut next = core;
+    next.level = status / 4 % 8;
+    next.tb = status / 32 % 2 == 1;
+    next.srwp = status / 128 % 2 == 1;
+    next
+}
+
 // No job.
 pub fn no_job() -> Job
-    ensures { λ r. ⌜ r ≡ record { kind = JobKind.Idle; place = 0; done = 0 } ⌝ }
+    ensures { λ r. ⌜ r ≡ noJob ⌝ }
 {
     Job {
         kind: JobKind::Idle,
-        place: 0,
+        start: 0,
         done: 0,
     }
 }
@@ -109,7 +122,7 @@ pub fn empty_frame(selected: bool) -> Frame
         opcode: 0,
         address: 0,
         place: 0,
-        offset: 0,
+        slot: 0,
         count: 0,
         judgement: 0,
     }
@@ -166,6 +179,18 @@ pub fn is_running(core: Core) -> bool
     is_job(kind) & !core.suspended
 }
 
+// The number of bytes of a record.
+pub fn record_length(said: Record) -> usize
+    ensures { λ r. ⌜ (r ≡ length (recordBytes said)) × (r ≤ longestRecord) ⌝ }
+{
+    match said {
+        Record::Nothing => 0,
+        Record::Floating => 1,
+        Record::Driven(_) => 2,
+        Record::Verdict(_) => 2,
+    }
+}
+
 // A status bit's weight, if it is set.
 fn weight(set: bool, of: u8) -> u8
     ensures { λ r. ⌜ (r ≡ cond set of 0) × (r ≤ of) ⌝ }
@@ -188,45 +213,45 @@ pub fn status_byte(core: Core) -> u8
     ready + wen + 4 * (core.level % 8) + tb + sus + srwp
 }
 
-// Whether a place is inside a memory of n cells and aligned to a size.
-fn aligned_to(size: usize, place: u32, n: usize) -> bool
+// Whether a start is on the part and aligned to a size.
+fn aligned_to(sectors: u8, size: usize, start: u32) -> bool
     requires { ⌜ (0 < size) × (size ≤ 65536) ⌝ }
-    ensures { λ r. ⌜ r ≡ alignedTo size place n ⌝ }
+    ensures { λ r. ⌜ r ≡ alignedTo sectors size start ⌝ }
 {
-    let at = place as usize;
-    (at % size == 0) & (at + size <= n)
+    let at = start as usize;
+    (at % size == 0) & (at + size <= part::length_of(sectors))
 }
 
-// Whether a job of some kind may stand at a place.
-fn is_placed(kind: JobKind, place: u32, n: usize) -> bool
-    ensures { λ r. ⌜ r ≡ placed kind place n ⌝ }
+// Whether a job of some kind may stand at a start.
+fn is_placed(sectors: u8, kind: JobKind, start: u32) -> bool
+    ensures { λ r. ⌜ r ≡ placed sectors kind start ⌝ }
 {
     match kind {
         JobKind::Idle => true,
-        JobKind::WriteStatus(_) => place == 0,
-        JobKind::Program => aligned_to(Part::PAGE, place, n),
-        JobKind::SmallErase => aligned_to(Part::SMALL_SECTOR, place, n),
-        JobKind::SectorErase => aligned_to(Part::SECTOR, place, n),
-        JobKind::ChipErase => place == 0,
+        JobKind::WriteStatus(_) => start == 0,
+        JobKind::Program => aligned_to(sectors, Part::PAGE, start),
+        JobKind::SmallErase => aligned_to(sectors, Part::SMALL_SECTOR, start),
+        JobKind::SectorErase => aligned_to(sectors, Part::SECTOR, start),
+        JobKind::ChipErase => start == 0,
     }
 }
 
-fn is_legal_job(job: Job, sectors: u8, n: usize) -> bool
-    ensures { λ r. ⌜ r ≡ legalJob job sectors n ⌝ }
+fn is_legal_job(sectors: u8, job: Job) -> bool
+    ensures { λ r. ⌜ r ≡ legalJob sectors job ⌝ }
 {
     let kind = job.kind;
     let total = total_of(kind, sectors);
-    is_placed(kind, job.place, n) & (!is_job(kind) | (job.done < total))
+    is_placed(sectors, kind, job.start) & (!is_job(kind) | (job.done < total))
 }
 
-fn is_legal_core(core: Core, sectors: u8, n: usize) -> bool
-    ensures { λ r. ⌜ r ≡ legalCore core sectors n ⌝ }
+fn is_legal_core(sectors: u8, core: Core) -> bool
+    ensures { λ r. ⌜ r ≡ legalCore sectors core ⌝ }
 {
     let job = core.job;
     let kind = job.kind;
     let some = is_job(kind);
     (core.level <= 7)
-        & is_legal_job(job, sectors, n)
+        & is_legal_job(sectors, job)
         & (!some | core.wen)
         & (!core.suspended | has_cells(kind))
         & (!core.deep | (!some & !core.armed))
@@ -239,19 +264,19 @@ fn is_known_judgement(v: u8) -> bool
 }
 
 // The number of read places in a frame of an opcode.
-fn read_places(opcode: u8, n: usize) -> usize
-    ensures { λ r. ⌜ r ≡ readPlaces opcode n ⌝ }
+fn read_places(sectors: u8, opcode: u8) -> usize
+    ensures { λ r. ⌜ r ≡ readPlaces sectors opcode ⌝ }
 {
     if opcode == Part::JEDEC_ID {
         return Part::JEDEC_CYCLE;
     }
-    n
+    part::length_of(sectors)
 }
 
-fn is_legal_frame(f: Frame, n: usize) -> bool
-    ensures { λ r. ⌜ r ≡ legalFrame f n ⌝ }
+fn is_legal_frame(sectors: u8, f: Frame) -> bool
+    ensures { λ r. ⌜ r ≡ legalFrame sectors f ⌝ }
 {
-    let places = read_places(f.opcode, n);
+    let places = read_places(sectors, f.opcode);
     (f.address < 16777216) & (f.place < places) & (f.count <= 6) & is_known_judgement(f.judgement)
 }
 
@@ -261,7 +286,7 @@ fn is_empty(f: Frame) -> bool
     (f.opcode == 0)
         & (f.address == 0)
         & (f.place == 0)
-        & (f.offset == 0)
+        & (f.slot == 0)
         & (f.count == 0)
         & (f.judgement == 0)
 }
@@ -291,7 +316,7 @@ pub fn is_legal(chip: Chip, n: usize) -> bool
     let frame = chip.frame;
     let load = chip.load;
     let begun = frame.selected & !(frame.count == 0);
-    let sound = is_legal_core(core, sectors, n) & is_legal_frame(frame, n);
+    let sound = is_legal_core(sectors, core) & is_legal_frame(sectors, frame);
     // A load is looked through only where it has to be blank.
     if begun {
         return sound;

@@ -12,7 +12,7 @@ use lib.Seq.{drop-cons}
 use borrow.Author.Tests.{eq-eqb, ne-eqb, eqb-true}
 use Rattle.cells.specs.Choice.{cond-yes, cond-no, cond-either}
 use Rattle.part.specs.declared.Row.{Row}
-use Rattle.part.specs.Part.{permitted, sectors, sector}
+use Rattle.part.specs.Part.{permitted, sectors, lengthOf}
 use Rattle.part.specs.Table.{rowIn, factsOf}
 use Rattle.part.specs.Protection.{protectedCount}
 
@@ -52,8 +52,8 @@ permitted-each P p₁ p₂ p₄ p₈ p₁₆ p₃₂ n h =
     or false b p q e = q e
 
 -- a permitted length is a whole number of sectors, 1 to 32
-pub permitted-whole : (n : ℕ) → permitted n ≡ true → sectors n * sector ≡ n
-permitted-whole = permitted-each (λ n. sectors n * sector ≡ n) refl refl refl refl refl refl
+pub permitted-whole : (n : ℕ) → permitted n ≡ true → lengthOf (sectors n) ≡ n
+permitted-whole = permitted-each (λ n. lengthOf (sectors n) ≡ n) refl refl refl refl refl refl
 
 pub permitted-some : (n : ℕ) → permitted n ≡ true → 1 ≤ sectors n
 permitted-some = permitted-each (λ n. 1 ≤ sectors n) (omega arith) (omega arith) (omega arith) (omega arith) (omega arith) (omega arith)

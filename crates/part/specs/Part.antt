@@ -1,11 +1,11 @@
--- The part: its sizes, its six lengths, what an address means, and its identity (01, The array; Commands).
+-- The part: its sizes, its six lengths, what an event is given of it, what an address means, and its identity (RULES, The array; Commands).
 use Prim.Native.Nat.{ℕ, _/_, _%_, _-_, _*_}
 use mathlib.Core.Bool.{Bool, _||_}
 use mathlib.Core.List.{[], _∷_}
 use lib.Dec.{eqb}
 use lib.ListN.{getD}
 
--- "Page 256, small sector 4,096, sector 65,536" (01, The array)
+-- the three sizes of the array, in cells (RULES, The array)
 abbrev pub page : ℕ
 page = 256
 
@@ -19,20 +19,35 @@ sector = 65536
 abbrev pub sectors : ℕ → ℕ
 sectors n = n / sector
 
--- whether n is "S × 65,536 bytes, S being 1, 2, 4, 8, 16 or 32"
+-- and the number of cells of a part of S sectors
+abbrev pub lengthOf : ℕ → ℕ
+lengthOf S = S * sector
+
+-- whether a part may be n cells long: six lengths are permitted (RULES, The array)
 unfoldable pub permitted : ℕ → Bool
 permitted n =
-    eqb n (1 * sector) || eqb n (2 * sector) || eqb n (4 * sector) || eqb n (8 * sector) || eqb n (16 * sector) || eqb n (32 * sector)
+    eqb n (lengthOf 1) || eqb n (lengthOf 2) || eqb n (lengthOf 4) || eqb n (lengthOf 8) || eqb n (lengthOf 16) || eqb n (lengthOf 32)
 
--- the cell that an address means in a memory of n cells: "taken modulo the memory length"
+-- what an event is given and does not change: now the number of sectors alone (RULES, Events)
+pub record Setting : Type 0 where
+  pub sectors : ℕ
+
+abbrev pub setting : ℕ → Setting
+setting S = record { sectors = S }
+
+-- the setting that goes with a memory of n cells
+abbrev pub settingOf : ℕ → Setting
+settingOf n = setting (sectors n)
+
+-- the cell that an address means on a part of S sectors: the rest of a division by the length (RULES, The array)
 abbrev pub reduced : ℕ → ℕ → ℕ
-reduced n address = address % n
+reduced S address = address % lengthOf S
 
--- "the address rounded down to its size" (01, Jobs)
+-- an address rounded down to a multiple of a size (RULES, Jobs)
 abbrev pub roundedDown : ℕ → ℕ → ℕ
 roundedDown size address = address - address % size
 
--- byte i of the JEDEC cycle: 62h, 16h, 15h, and 00h, which 000 adds (docs/DECISIONS.md, D1)
+-- byte i of the cycle that 9Fh drives: maker, two bytes of identity, and a reserve code (RULES, Commands; docs/DECISIONS.md, D1)
 abbrev pub jedecByte : ℕ → ℕ
 jedecByte i = getD (0x62 ∷ 0x16 ∷ 0x15 ∷ 0x00 ∷ []) i 0
 
@@ -40,6 +55,6 @@ jedecByte i = getD (0x62 ∷ 0x16 ∷ 0x15 ∷ 0x00 ∷ []) i 0
 abbrev pub jedecCycle : ℕ
 jedecCycle = 4
 
--- what ABh drives
+-- what ABh drives (RULES, Commands)
 abbrev pub deviceByte : ℕ
 deviceByte = 0x88

@@ -1,4 +1,4 @@
--- The commands: one row an opcode, with its length rule and where it is allowed (01, Commands).
+-- The commands: one row an opcode, with its length rule and where it is allowed (RULES, Commands).
 use Prim.Native.Nat.{ℕ}
 use mathlib.Core.Bool.{Bool, true, false, cond, _||_}
 use mathlib.Core.List.{List, [], _∷_}
@@ -114,7 +114,7 @@ rowOf opcode = rowIn rows opcode
 unfoldable pub fitsRule : ℕ → ℕ → Bool
 fitsRule rule n = eqb rule 0 || cond (eqb rule 5) (leb 5 n) (eqb n rule)
 
--- "a read" (01, Verdicts): 05h, 03h, 0Bh, 9Fh
+-- the reads, which are verdict 0 however they end: 05h, 03h, 0Bh, 9Fh (RULES, Verdicts)
 unfoldable pub isRead : ℕ → Bool
 isRead opcode = eqb opcode readStatus || eqb opcode lowPowerRead || eqb opcode highSpeedRead || eqb opcode jedecId
 

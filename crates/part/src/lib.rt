@@ -1,17 +1,15 @@
 // The LE25S161: its sizes, its opcodes, its table of commands and its protection, each named here once.
 ghost use mathlib.Core.Path.{_≡_};
 ghost use mathlib.Core.Bool.{cond};
-ghost use Prim.Native.Nat.{_<_, _≤_, _%_, _/_, min};
+ghost use Prim.Native.Nat.{_<_, _≤_, min};
 ghost use mathlib.Core.List.{[]};
 ghost use lib.ListN.{getD};
-ghost use Rattle.part.specs.Part.{permitted, reduced, roundedDown, sectors, jedecByte};
+ghost use Rattle.part.specs.Part.{permitted, reduced, sectors, lengthOf, jedecByte};
 ghost use Rattle.part.specs.Table.{rows, rowOf, fitsRule, isRead, isProgram};
 ghost use Rattle.part.specs.Protection.{protectedCount, protectedSector};
 
-// The part, cut to some number of sectors; 32 is the real one.
-pub struct Part {
-    pub sectors: u8,
-}
+// The part's own numbers are constants of this type; it holds nothing.
+pub struct Part {}
 
 // What the table says of an opcode.
 pub struct Row {
@@ -69,7 +67,7 @@ impl Part {
     pub const RESET: u8 = 0x99;
 
     // Opcode, length rule (0 any; 5 five or more; otherwise exactly that many bytes), allowed while running, allowed suspended.
-    pub const ROWS: [[u8; 4]; 20] = [
+    const ROWS: [[u8; 4]; 20] = [
         [Part::WRITE_ENABLE, 1, 0, 0],
         [Part::WRITE_DISABLE, 1, 0, 0],
         [Part::READ_STATUS, 0, 1, 1],
@@ -93,7 +91,7 @@ impl Part {
     ];
 
     // The identity that 9Fh drives, byte by byte, in a cycle, and the cycle's length.
-    pub const JEDEC: [u8; 4] = [0x62, 0x16, 0x15, 0x00];
+    const JEDEC: [u8; 4] = [0x62, 0x16, 0x15, 0x00];
 
     pub const JEDEC_CYCLE: usize = 4;
     // The identity that ABh drives.
@@ -115,10 +113,18 @@ pub fn sectors_of(n: usize) -> u8
     }
 }
 
-// The cell that an address means in a memory of n cells.
-pub fn cell_of(n: usize, address: u32) -> usize
-    ensures { λ r. ⌜ r ≡ reduced n address ⌝ }
+// The number of cells of a part of `sectors` sectors.
+pub fn length_of(sectors: u8) -> usize
+    ensures { λ r. ⌜ (r ≡ lengthOf sectors) × (r ≤ 16711680) ⌝ }
 {
+    (sectors as usize) * Part::SECTOR
+}
+
+// The cell that an address means on a part of `sectors` sectors.
+pub fn cell_of(sectors: u8, address: u32) -> usize
+    ensures { λ r. ⌜ r ≡ reduced sectors address ⌝ }
+{
+    let n = length_of(sectors);
     if n == 0 {
         return address as usize;
     }
@@ -212,7 +218,7 @@ fn smaller(a: u8, b: u8) -> u8
 }
 
 // How many of `sectors` sectors a level protects.
-pub fn protected_count(level: u8, sectors: u8) -> u8
+fn protected_count(level: u8, sectors: u8) -> u8
     ensures { λ r. ⌜ r ≡ protectedCount level sectors ⌝ }
 {
     match level {

@@ -1,4 +1,4 @@
--- `chip::read_places` meets its contract. By the opcode: the cycle of 9Fh, or the memory's length.
+-- `chip::read_places` meets its contract. By the opcode: the cycle of 9Fh, or the part's length.
 use mathlib.Core.Path.{sym}
 use borrow.Author.Tests.{eq-eqb, ne-eqb}
 use borrow.Author.Needs.{needs}
@@ -8,8 +8,11 @@ use Rattle.chip.proofs.read_places.Tie as tie
 returns : tie.Need-returns
 returns c = rw (eq-eqb _ _ (c .if1 .taken))
 
+length-of-requires : tie.Need-length-of-requires
+length-of-requires c κs = search needs
+
 returns-2 : tie.Need-returns-2
-returns-2 c = rw (ne-eqb _ _ (c .if1 .left))
+returns-2 c = rw (ne-eqb _ _ (c .before .if1 .left)) (c .length-of .ensures .0)
 
 pub read-places-spec : {M : Type 1} → statement M
-read-places-spec = tie.close (tie.spec returns returns-2)
+read-places-spec = tie.close (tie.spec returns length-of-requires returns-2)

@@ -1,0 +1,92 @@
+// Cases in words, for the report of a difference.
+
+use crate::case::{room, Case, Start, Step};
+use crate::event::{events_of, Event};
+
+/// One event in words.
+fn event_words((kind, body): Event) -> String {
+    match (kind, body) {
+        (1, _) => "select".to_string(),
+        (2, 0..=255) => format!("exchange {body:02X}h"),
+        (3, _) => "deselect".to_string(),
+        (4, _) => "tick".to_string(),
+        (5, 1..=65_535) => format!("{body} ticks"),
+        (6, 0) => "WP low".to_string(),
+        (6, 1) => "WP high".to_string(),
+        (7, _) => "power cut".to_string(),
+        (8, 1..=7) => format!("loose deselect, {body} bits"),
+        _ => format!("event of kind {kind:X}h with body {body:X}h"),
+    }
+}
+
+/// How many lines are shown of the start, and of the end, of a long run.
+const SHOWN: usize = 40;
+
+/// Events in words, one line for those that are alike and follow each other.
+fn event_lines(events: impl Iterator<Item = Event>) -> Vec<String> {
+    let mut alike: Vec<(Event, usize)> = Vec::new();
+    for event in events {
+        match alike.last_mut() {
+            Some((last, times)) if *last == event => *times += 1,
+            _ => alike.push((event, 1)),
+        }
+    }
+    let line = |(event, times)| match times {
+        1 => event_words(event),
+        _ => format!("{}, {times} times", event_words(event)),
+    };
+    alike.into_iter().map(line).collect()
+}
+
+/// A step in words, one line an event.
+fn step_words(step: &Step) -> String {
+    let over = |length: &Option<usize>| {
+        length.map_or(String::new(), |length| format!(", memory length {length}"))
+    };
+    match step {
+        Step::HandOver => "the model's chip is handed over".to_string(),
+        Step::Event { event, lent, length } => {
+            let way = if *lent { " (lent record)" } else { "" };
+            format!("{}{way}{}", event_words(*event), over(length))
+        }
+        Step::Run { script, spare, length } => {
+            let (events, end) = events_of(script);
+            let room = room(script, *spare);
+            let mut text = format!("run of {} bytes, room {room}{}", script.len(), over(length));
+            let lines = event_lines(events.into_iter().map(|(_, event)| event));
+            for (number, line) in lines.iter().enumerate() {
+                if number < SHOWN || number + SHOWN >= lines.len() {
+                    text += &format!("\n      {line}");
+                } else if number == SHOWN {
+                    text += &format!("\n      {} lines more", lines.len() - 2 * SHOWN);
+                }
+            }
+            let rest = &script[end..];
+            if !rest.is_empty() {
+                text += &format!("\n      then the bytes {:02X?}", &rest[..rest.len().min(8)]);
+            }
+            text
+        }
+    }
+}
+
+/// A start in words, the frame's and the job's load only where they are not blank.
+fn start_words(start: &Start) -> String {
+    let Start::Lent(chip, edit) = start else {
+        let Start::Fresh(status) = start else { return String::new() };
+        return format!("fresh from status {status:02X}h");
+    };
+    let text = format!("lent state {chip:?}, edit {edit:?}");
+    let blank = format!("{:?}", [0xFF_u8; 256]);
+    text.replace(&blank, "blank")
+}
+
+/// A case in words.
+pub fn case_words(case: &Case) -> String {
+    let mut text = format!("  memory length {}, {:?}\n", case.length, case.content);
+    text += &format!("  {}\n", start_words(&case.start));
+    for step in &case.steps {
+        text += &format!("    {}\n", step_words(step));
+    }
+    text
+}

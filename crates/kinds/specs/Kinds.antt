@@ -1,0 +1,110 @@
+-- The kinds of events: one row a kind, with its body, what it can say and the room for that (RULES, Events; Records).
+use Prim.Native.Nat.{ℕ}
+use mathlib.Core.Bool.{Bool, true, false, cond, _&&_, _||_}
+use mathlib.Core.List.{List, [], _∷_}
+use lib.Dec.{eqb, leb}
+
+-- ---- the kinds by name
+
+-- CS goes low: a frame begins
+abbrev pub SELECT : ℕ
+SELECT = 0x01
+
+-- eight clocks: a byte goes in on SI, and perhaps one comes out on SO
+abbrev pub EXCHANGE : ℕ
+EXCHANGE = 0x02
+
+-- CS goes high on a byte boundary
+abbrev pub DESELECT : ℕ
+DESELECT = 0x03
+
+-- one tick; and as many ticks as the body says
+abbrev pub TICK : ℕ
+TICK = 0x04
+
+abbrev pub TICKS : ℕ
+TICKS = 0x05
+
+-- the level of the WP pin
+abbrev pub WP : ℕ
+WP = 0x06
+
+-- power goes, and comes back
+abbrev pub POWER : ℕ
+POWER = 0x07
+
+-- CS goes high with some bits of a byte gone in
+abbrev pub LOOSE : ℕ
+LOOSE = 0x08
+
+-- ---- the table
+
+-- what an event can say: nothing; what the line did in an exchange; a deselect's verdict
+pub data Says : Type 0 where
+  silent : Says
+  line : Says
+  verdict : Says
+
+-- a kind, the length of its body, the least and the greatest body, what it can say, and the room for it
+pub record KindRow : Type 0 where
+  pub kind : ℕ
+  pub body : ℕ
+  pub least : ℕ
+  pub most : ℕ
+  pub says : Says
+  pub room : ℕ
+
+abbrev pub row : ℕ → ℕ → ℕ → ℕ → Says → ℕ → KindRow
+row kind body least most says room = record { kind = kind; body = body; least = least; most = most; says = says; room = room }
+
+abbrev pub kindRows : List KindRow
+kindRows =
+    row SELECT 0 0 0 silent 0
+    ∷ row EXCHANGE 1 0 255 line 2
+    ∷ row DESELECT 0 0 0 verdict 2
+    ∷ row TICK 0 0 0 silent 0
+    ∷ row TICKS 2 1 65535 silent 0
+    ∷ row WP 1 0 1 silent 0
+    ∷ row POWER 0 0 0 silent 0
+    ∷ row LOOSE 1 1 7 verdict 2
+    ∷ []
+
+-- whether some row has a kind
+unfoldable pub knownIn : List KindRow → ℕ → Bool
+knownIn [] kind = false
+knownIn (r ∷ rs) kind = eqb kind (r .kind) || knownIn rs kind
+
+-- the first row of a kind; what is no kind has no body and says nothing
+unfoldable pub kindRowIn : List KindRow → ℕ → KindRow
+kindRowIn [] kind = row kind 0 0 0 silent 0
+kindRowIn (r ∷ rs) kind = cond (eqb kind (r .kind)) r (kindRowIn rs kind)
+
+-- ---- what the table says of a kind
+
+unfoldable pub knownKind : ℕ → Bool
+knownKind kind = knownIn kindRows kind
+
+unfoldable pub kindRow : ℕ → KindRow
+kindRow kind = kindRowIn kindRows kind
+
+abbrev pub bodyLength : ℕ → ℕ
+bodyLength kind = kindRow kind .body
+
+-- whether a body is in its kind's range; a kind without a body has no range, and any number will do
+abbrev pub inRange : ℕ → ℕ → Bool
+inRange kind body = eqb (bodyLength kind) 0 || leb (kindRow kind .least) body && leb body (kindRow kind .most)
+
+abbrev pub saysOf : ℕ → Says
+saysOf kind = kindRow kind .says
+
+-- whether a kind yields a record
+abbrev pub isSaid : Says → Bool
+isSaid silent = false
+isSaid line = true
+isSaid verdict = true
+
+abbrev pub yields : ℕ → Bool
+yields kind = isSaid (saysOf kind)
+
+abbrev pub roomOf : ℕ → ℕ
+roomOf kind = kindRow kind .room

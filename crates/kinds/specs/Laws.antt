@@ -1,0 +1,97 @@
+-- What is true of the kinds: the table kind by kind, and an event's bytes in a script.
+use Prim.Native.Nat.{ℕ, zero, suc, _+_, _*_, _<_, _≤_, zero-le}
+use mathlib.Core.Bool.{Bool, true, false, cond, _&&_, _||_}
+use mathlib.Core.List.{List}
+use mathlib.Core.Path.{_≡_, refl, sym, ap, subst, _∙_}
+use mathlib.Core.Logic.{_⊎_, inl, inr}
+use native.Mathlib.Nat.{add-zero}
+use native.Mathlib.Omega.{arith}
+use native.Mathlib.Decide.{ℕ-discrete}
+use lib.Dec.{eqb, ltb, leb}
+use lib.ListN.{length, getD, List·getD-eq-default}
+use borrow.Author.Tests.{ne-eqb, lt-ltb, le-leb, leb-true}
+use Rattle.cells.specs.Choice.{cond-yes, and-right}
+use Rattle.kinds.specs.Kinds.{SELECT, EXCHANGE, DESELECT, TICK, TICKS, WP, POWER, LOOSE, Says, KindRow, row, knownIn, kindRowIn, knownKind, kindRow, isSaid, bodyLength, inRange, yields, roomOf}
+use Rattle.kinds.specs.Body.{numberAt, bodyAt, nextAt, stepTo}
+
+-- ---- kind by kind
+
+-- a number that is no kind
+pub record NoKind (kind : ℕ) : Type 0 where
+  pub not-known : knownKind kind ≡ false
+  pub no-row : kindRow kind ≡ row kind 0 0 0 Says.silent 0
+
+-- what holds of each kind, and of what is none, holds of every number
+pub kind-each : (P : ℕ → Type 0) → P SELECT → P EXCHANGE → P DESELECT → P TICK → P TICKS → P WP → P POWER → P LOOSE → ((kind : ℕ) → NoKind kind → P kind) → (kind : ℕ) → P kind
+unfolding knownKind knownIn kindRow kindRowIn
+kind-each P p₁ p₂ p₃ p₄ p₅ p₆ p₇ p₈ other kind =
+    at SELECT p₁ (λ n₁. at EXCHANGE p₂ (λ n₂. at DESELECT p₃ (λ n₃. at TICK p₄ (λ n₄. at TICKS p₅ (λ n₅. at WP p₆ (λ n₆. at POWER p₇ (λ n₇. at LOOSE p₈ (λ n₈.
+    other kind
+    (record {
+      not-known = rw (ne-eqb _ _ n₁, ne-eqb _ _ n₂, ne-eqb _ _ n₃, ne-eqb _ _ n₄, ne-eqb _ _ n₅, ne-eqb _ _ n₆, ne-eqb _ _ n₇, ne-eqb _ _ n₈);
+      no-row = rw (ne-eqb _ _ n₁, ne-eqb _ _ n₂, ne-eqb _ _ n₃, ne-eqb _ _ n₄, ne-eqb _ _ n₅, ne-eqb _ _ n₆, ne-eqb _ _ n₇, ne-eqb _ _ n₈);
+    })))))))))
+  where
+    at : (i : ℕ) → P i → ((kind ≡ i → ⊥) → P kind) → P kind
+    at i p rest = pick (ℕ-discrete kind i)
+      where
+        pick : Dec (kind ≡ i) → P kind
+        pick (yes e) = subst P (sym e) p
+        pick (no n) = rest n
+
+-- the kinds without a body, and that no other number has one
+pub no-body : (kind : ℕ) → (kind ≡ EXCHANGE → ⊥) → (kind ≡ TICKS → ⊥) → (kind ≡ WP → ⊥) → (kind ≡ LOOSE → ⊥) → bodyLength kind ≡ 0
+unfolding kindRow kindRowIn
+no-body =
+    kind-each (λ kind. (kind ≡ EXCHANGE → ⊥) → (kind ≡ TICKS → ⊥) → (kind ≡ WP → ⊥) → (kind ≡ LOOSE → ⊥) → bodyLength kind ≡ 0)
+    (λ _ _ _ _. refl) (λ n _ _ _. absurd (n refl)) (λ _ _ _ _. refl) (λ _ _ _ _. refl) (λ _ n _ _. absurd (n refl)) (λ _ _ n _. absurd (n refl)) (λ _ _ _ _. refl) (λ _ _ _ n. absurd (n refl))
+    (λ kind o _ _ _ _. ap (λ (r : KindRow). r .body) (o .no-row))
+
+-- the kinds that yield a record, and that no other number does
+pub no-record : (kind : ℕ) → (kind ≡ EXCHANGE → ⊥) → (kind ≡ DESELECT → ⊥) → (kind ≡ LOOSE → ⊥) → (yields kind ≡ false) × (roomOf kind ≡ 0)
+unfolding kindRow kindRowIn
+no-record =
+    kind-each (λ kind. (kind ≡ EXCHANGE → ⊥) → (kind ≡ DESELECT → ⊥) → (kind ≡ LOOSE → ⊥) → (yields kind ≡ false) × (roomOf kind ≡ 0))
+    (λ _ _ _. (refl, refl)) (λ n _ _. absurd (n refl)) (λ _ n _. absurd (n refl)) (λ _ _ _. (refl, refl)) (λ _ _ _. (refl, refl)) (λ _ _ _. (refl, refl)) (λ _ _ _. (refl, refl)) (λ _ _ n. absurd (n refl))
+    (λ kind o _ _ _. (ap (λ (r : KindRow). isSaid (r .says)) (o .no-row), ap (λ (r : KindRow). r .room) (o .no-row)))
+
+-- a body in its range fits two bytes
+pub range-small : (kind body : ℕ) → inRange kind body ≡ true → (bodyLength kind ≡ 0) ⊎ (body ≤ 65535)
+unfolding kindRow kindRowIn
+range-small kind body =
+    kind-each (λ kind. inRange kind body ≡ true → (bodyLength kind ≡ 0) ⊎ (body ≤ 65535))
+    (λ _. inl refl) (λ h. inr (upto 255 (leb 0 body) h (omega arith))) (λ _. inl refl) (λ _. inl refl) (λ h. inr (upto 65535 (leb 1 body) h (omega arith)))
+    (λ h. inr (upto 1 (leb 0 body) h (omega arith))) (λ _. inl refl) (λ h. inr (upto 7 (leb 1 body) h (omega arith)))
+    (λ kind o _. inl (ap (λ (r : KindRow). r .body) (o .no-row))) kind
+  where
+    upto : (most : ℕ) (least : Bool) → (least && leb body most) ≡ true → most ≤ 65535 → body ≤ 65535
+    upto most least h l = omega (arith, leb-true body most (and-right least (leb body most) h))
+
+-- the range of an exchange is a byte
+pub exchange-range : (body : ℕ) → inRange EXCHANGE body ≡ leb body 255
+unfolding kindRow kindRowIn
+exchange-range body = rw (le-leb 0 body zero-le)
+
+pub wp-range : (body : ℕ) → inRange WP body ≡ leb body 1
+unfolding kindRow kindRowIn
+wp-range body = rw (le-leb 0 body zero-le)
+
+-- ---- an event's bytes
+
+-- a body of one byte, and one of two
+pub body-one : (s : List ℕ) (at : ℕ) → bodyLength (getD s at 0) ≡ 1 → bodyAt s at ≡ getD s (at + 1) 0
+body-one s at e = ap (numberAt s (at + 1)) e ∙ rw add-zero (omega arith)
+
+pub body-two : (s : List ℕ) (at : ℕ) → bodyLength (getD s at 0) ≡ 2 → bodyAt s at ≡ getD s (at + 1) 0 * 256 + getD s (at + 2) 0
+body-two s at e =
+    let next : at + 1 + 1 ≡ at + 2 = omega arith in
+    ap (numberAt s (at + 1)) e ∙ rw (add-zero, next) (omega arith)
+
+-- inside a script the next event starts behind the body
+pub step-inside : (s : List ℕ) (at : ℕ) → at < length s → stepTo s at ≡ nextAt s at
+step-inside s at h = cond-yes (ltb at (length s)) _ _ (lt-ltb _ _ h)
+
+-- past its end there is no body
+pub body-past : (s : List ℕ) (at : ℕ) → length s ≤ at → bodyAt s at ≡ 0
+unfolding kindRow kindRowIn
+body-past s at h = ap (λ (k : ℕ). numberAt s (at + 1) (bodyLength k)) (List·getD-eq-default s 0 h)
