@@ -1,18 +1,21 @@
 // The bench: the model beside the side that is held to it, compared after each step.
 
 use crate::case::{room, Case, Content, Start, Step, LENGTHS};
-use crate::event::Event;
-use crate::image::{self, Edit};
-use crate::model::{self, Chip, Record};
+use crate::event::{events_of, Event};
+use crate::expected::Expected;
+use crate::image::{edited_image, image_difference};
+use crate::model::{self, Record};
 use crate::rng::Rng;
-use crate::side::{Answer, Side, GUARD, MEMORY_AREA, OUTPUT_AREA};
+use crate::side::{record_bytes, Answer, Side, GUARD, MEMORY_AREA, OUTPUT_AREA};
 
-/// The model's chip and memory beside the side that is held to it.
+/// The chip that is expected, the model's memory and output, and the side that is held to them.
 pub struct Bench<'a> {
-    pub chip: Chip,
+    pub expected: Expected,
     pub length: usize,
     memory: Vec<u8>,
     output: Vec<u8>,
+    /// A memory whose content does not matter.
+    scratch: Vec<u8>,
     /// The memories may differ, for the last step found a difference.
     differs: bool,
     other: &'a mut dyn Side,
@@ -39,15 +42,16 @@ fn area_difference(name: &str, wanted: &[u8], found: &[u8]) -> Option<String> {
 /// An answer in words.
 fn answer_words(answer: &Answer) -> String {
     let Answer { refusal, record, offset, written, ticks } = answer;
-    format!("{refusal}, record {record:?}, offset {offset}, written {written}, ticks {ticks}")
+    let record = format!("{} of the bytes {:02X?}", record.length, record.bytes);
+    format!("{refusal}, record {record}, offset {offset}, written {written}, ticks {ticks}")
 }
 
 impl<'a> Bench<'a> {
     /// A bench with the side to compare.
     pub fn new(other: &'a mut dyn Side) -> Bench<'a> {
         let (memory, output) = (vec![0; MEMORY_AREA], vec![0; OUTPUT_AREA]);
-        let (chip, length) = (Chip::fresh(0), LENGTHS[0]);
-        Bench { chip, length, memory, output, differs: true, other }
+        let (expected, length, scratch) = (Expected::fresh(0), LENGTHS[0], vec![0; LENGTHS[5]]);
+        Bench { expected, length, memory, output, scratch, differs: true, other }
     }
 
     /// Whether the other side has the event through a lent chip record.
@@ -76,23 +80,23 @@ impl<'a> Bench<'a> {
         self.other.memory()[..case.length].copy_from_slice(cells);
         match &case.start {
             Start::Fresh(status) => {
-                self.chip = Chip::fresh(*status);
+                self.expected = Expected::fresh(*status);
                 self.other.fresh(*status)?;
+                self.compare_state()?;
             }
             Start::Lent(chip, edit) => {
-                self.chip = (**chip).clone();
-                self.other.put(chip, edit)?;
+                let image = edited_image(chip, edit);
+                self.expected = Expected::lent(chip, &image);
+                self.other.put(chip, &image)?;
+                as_error(image_difference(&image, &self.other.image()))?;
             }
-        }
-        if let Start::Fresh(_) | Start::Lent(_, Edit::None) = case.start {
-            self.compare_state()?;
         }
         self.compare_legal()
     }
 
     /// Compares what the two sides say about the legality of their chips.
     pub fn compare_legal(&mut self) -> Result<(), String> {
-        let (wanted, found) = (self.chip.legal(self.length), self.other.legal(self.length)?);
+        let (wanted, found) = (self.expected.chip.legal(self.length), self.other.legal(self.length)?);
         if wanted != found {
             return Err(format!("legal: {found} in place of {wanted}"));
         }
@@ -101,7 +105,7 @@ impl<'a> Bench<'a> {
 
     /// Compares the states as far as they can be seen.
     fn compare_state(&mut self) -> Result<(), String> {
-        state_words(image::state_difference(&self.chip, &self.other.image()))
+        as_error(self.expected.difference(&self.other.image()))
     }
 
     /// Does one step on both sides, compares all that came of it and gives the answer.
@@ -130,32 +134,38 @@ impl<'a> Bench<'a> {
         self.compare_areas(length.max(self.length) + GUARD, output_end)?;
         match wanted.refusal {
             0 => self.compare_state()?,
-            _ => state_words(image::image_difference(&before, &self.other.image()))?,
+            _ => as_error(image_difference(&before, &self.other.image()))?,
         }
         self.differs = false;
         Ok(wanted)
     }
 
-    /// Puts the model's chip in the place of the other side's.
+    /// Puts the chip that is expected in the place of the other side's.
     fn hand_over(&mut self) -> Result<Answer, String> {
-        self.other.put(&self.chip, &Edit::None)?;
-        Ok(Answer { refusal: 0, record: Record::None, offset: 0, written: 0, ticks: 0 })
+        self.other.put(&self.expected.chip, &self.expected.image())?;
+        Ok(Answer::to_event(0, record_bytes(Record::None), 0))
     }
 
     /// The model's answer to one event.
-    fn model_event(&mut self, length: usize, (kind, body): Event) -> Answer {
-        let answer = model::event(&mut self.chip, &mut self.memory[..length], kind, body);
-        let model::EventAnswer { refusal, record, ticks } = answer;
-        Answer { refusal, record, offset: 0, written: 0, ticks }
+    fn model_event(&mut self, length: usize, event: Event) -> Answer {
+        let answer = self.expected.event(&mut self.memory[..length], event);
+        Answer::to_event(answer.refusal, record_bytes(answer.record), answer.ticks)
     }
 
-    /// The model's answer to a run.
+    /// The model's answer to a run; the chip that is expected follows a run that is done event by
+    /// event, for the model's run does not say which of them ended a job.
     fn model_run(&mut self, length: usize, script: &[u8], room: usize) -> Answer {
+        let mut chip = self.expected.chip.clone();
         let (memory, output) = (&mut self.memory[..length], &mut self.output[..room]);
-        let answer = model::run(&mut self.chip, memory, script, output);
-        let model::RunAnswer { refusal, offset, written, ticks } = answer;
-        let (offset, written) = (offset as u64, written as u64);
-        Answer { refusal, record: Record::None, offset, written, ticks }
+        let answer = model::run(&mut chip, memory, script, output);
+        if answer.refusal == 0 {
+            for event in events_of(script).0 {
+                self.expected.event(&mut self.scratch[..length], event);
+            }
+            assert!(self.expected.chip == chip, "the model's run is not its events one by one");
+        }
+        let (offset, written) = (answer.offset as u64, answer.written as u64);
+        Answer::to_run(answer.refusal, offset, written, answer.ticks)
     }
 
     /// Compares the memories and the outputs up to the ends given.
@@ -164,7 +174,7 @@ impl<'a> Bench<'a> {
         let different = area_difference("memory", memory, &self.other.memory()[..memory_end]);
         let output = &self.output[..output_end];
         let too = area_difference("output", output, &self.other.output()[..output_end]);
-        state_words(different.or(too))
+        as_error(different.or(too))
     }
 
     /// Does a whole case and gives its first difference and the step that it is at.
@@ -182,6 +192,6 @@ impl<'a> Bench<'a> {
 }
 
 /// A difference as an error.
-fn state_words(difference: Option<String>) -> Result<(), String> {
+fn as_error(difference: Option<String>) -> Result<(), String> {
     difference.map_or(Ok(()), Err)
 }

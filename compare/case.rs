@@ -36,7 +36,7 @@ pub enum Step {
     Event { event: Event, lent: bool, length: Option<usize> },
     /// A run, its room being that of refusal 7 and some bytes more or less.
     Run { script: Vec<u8>, spare: i64, length: Option<usize> },
-    /// The model's chip, converted, takes the place of the other side's.
+    /// The chip that is expected takes the place of the other side's.
     HandOver,
 }
 

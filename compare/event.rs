@@ -5,19 +5,23 @@ use crate::model;
 /// An event as numbers: its kind and its body.
 pub type Event = (u64, u64);
 
-/// A script as its events, each with its offset, and the offset where the first bad event starts.
-pub fn events_of(script: &[u8]) -> (Vec<(usize, Event)>, usize) {
-    let mut events = Vec::new();
-    let mut offset = 0;
-    while offset < script.len() {
-        let kind = script[offset];
-        let Some(length) = model::body_length(kind) else { break };
-        let Some(body) = script.get(offset + 1..offset + 1 + length) else { break };
-        let body = body.iter().fold(0, |value, byte| value << 8 | u64::from(*byte));
-        events.push((offset, (u64::from(kind), body)));
-        offset += 1 + length;
+/// The first event of a script and the bytes after it; none at the end, or where the first event
+/// is bad, being of an unknown kind or without its whole body.
+fn first_event(script: &[u8]) -> Option<(Event, &[u8])> {
+    let (kind, rest) = script.split_first()?;
+    let (body, rest) = rest.split_at_checked(model::body_length(*kind)?)?;
+    let body = body.iter().fold(0, |value, byte| value << 8 | u64::from(*byte));
+    Some(((u64::from(*kind), body), rest))
+}
+
+/// A script as its events, and its bytes from the first bad event on.
+pub fn events_of(script: &[u8]) -> (Vec<Event>, &[u8]) {
+    let (mut events, mut rest) = (Vec::new(), script);
+    while let Some((event, after)) = first_event(rest) {
+        events.push(event);
+        rest = after;
     }
-    (events, offset)
+    (events, rest)
 }
 
 /// The script of a row of events whose kinds are known.
@@ -33,6 +37,10 @@ pub fn script_of(events: &[Event]) -> Vec<u8> {
 
 /// The room that a run of a script asks for: two bytes for each event that yields a record.
 pub fn room_needed(script: &[u8]) -> i64 {
-    let yields = |event: &&(usize, Event)| matches!(event.1 .0, 2 | 3 | 8);
-    2 * events_of(script).0.iter().filter(yields).count() as i64
+    let (mut records, mut rest) = (0, script);
+    while let Some(((kind, _), after)) = first_event(rest) {
+        records += i64::from(matches!(kind, 2 | 3 | 8));
+        rest = after;
+    }
+    2 * records
 }

@@ -1,8 +1,9 @@
 // The library as one side: a process of its own, two pipes and one shared file.
 
-use crate::image::{edited_image, Edit, Image};
-use crate::model::{Chip, Record};
-use crate::side::{Answer, Side, MEMORY_AREA, OUTPUT_AREA};
+use crate::event::Event;
+use crate::image::Image;
+use crate::model::Chip;
+use crate::side::{Answer, RecordBytes, Side, MEMORY_AREA, OUTPUT_AREA};
 use std::ffi::{c_int, c_void};
 use std::fs::File;
 use std::io::{Read, Write};
@@ -104,17 +105,9 @@ impl Library {
     }
 
     /// The answer to the event that was last served.
-    fn event_answer(&self) -> Result<Answer, String> {
-        let value = self.number(2) as u8;
-        let record = match self.number(1) {
-            0 => Record::None,
-            1 => Record::Floating,
-            2 => Record::Driven(value),
-            3 => Record::Verdict(value),
-            tag => return Err(format!("a record with the tag {tag}")),
-        };
-        let (refusal, ticks) = (self.number(0) as u8, self.number(3));
-        Ok(Answer { refusal, record, offset: 0, written: 0, ticks })
+    fn event_answer(&self) -> Answer {
+        let [refusal, length, first, second] = [0, 1, 2, 3].map(|place| self.number(place) as u8);
+        Answer::to_event(refusal, RecordBytes { length, bytes: [first, second] }, self.number(4))
     }
 }
 
@@ -156,14 +149,14 @@ fn start(command: &[String]) -> Result<Process, String> {
 /// Writes an image as the list of fields that the shim reads.
 fn pack(image: &Image) -> Vec<u8> {
     let mut bytes = image.flags.to_vec();
-    bytes.extend([image.level, image.job_kind, image.job_value]);
-    bytes.extend([image.opcode, image.offset, image.count, image.judgement]);
-    for number in [image.job_place, image.job_done, image.address] {
+    bytes.extend([image.level, image.kind, image.value]);
+    bytes.extend([image.opcode, image.slot, image.count, image.judgement]);
+    for number in [image.start, image.done, image.address] {
         bytes.extend(number.to_le_bytes());
     }
     bytes.extend(image.place.to_le_bytes());
     bytes.extend(image.load);
-    bytes.extend(image.page);
+    bytes.extend(image.held);
     bytes
 }
 
@@ -174,18 +167,18 @@ fn unpack(bytes: &[u8; IMAGE_LENGTH]) -> Image {
     Image {
         flags: std::array::from_fn(|i| bytes[i]),
         level: bytes[8],
-        job_kind: bytes[9],
-        job_value: bytes[10],
+        kind: bytes[9],
+        value: bytes[10],
         opcode: bytes[11],
-        offset: bytes[12],
+        slot: bytes[12],
         count: bytes[13],
         judgement: bytes[14],
-        job_place: number(15),
-        job_done: number(19),
+        start: number(15),
+        done: number(19),
         address: number(23),
         place: u64::from(number(27)) | u64::from(number(31)) << 32,
         load: part(35),
-        page: part(291),
+        held: part(291),
     }
 }
 
@@ -194,9 +187,8 @@ impl Side for Library {
         self.call(b'f', [u64::from(status), 0, 0])
     }
 
-    fn put(&mut self, chip: &Chip, edit: &Edit) -> Result<(), String> {
-        let bytes = pack(&edited_image(chip, edit));
-        self.part(IMAGE, IMAGE_LENGTH).copy_from_slice(&bytes);
+    fn put(&mut self, _: &Chip, image: &Image) -> Result<(), String> {
+        self.part(IMAGE, IMAGE_LENGTH).copy_from_slice(&pack(image));
         self.call(b'p', [0; 3])
     }
 
@@ -210,10 +202,10 @@ impl Side for Library {
         Ok(self.number(0) != 0)
     }
 
-    fn event(&mut self, length: usize, event: (u64, u64), lent: bool) -> Result<Answer, String> {
+    fn event(&mut self, length: usize, event: Event, lent: bool) -> Result<Answer, String> {
         let request = if lent { b'b' } else { b'e' };
         self.call(request, [length as u64, event.0, event.1])?;
-        self.event_answer()
+        Ok(self.event_answer())
     }
 
     fn run(&mut self, length: usize, script: &[u8], room: usize) -> Result<Answer, String> {
@@ -222,13 +214,8 @@ impl Side for Library {
         if *self.part(SCRIPT, script.len()) != *script {
             return Err("the script was written to".to_string());
         }
-        Ok(Answer {
-            refusal: self.number(0) as u8,
-            record: Record::None,
-            offset: self.number(1),
-            written: self.number(2),
-            ticks: self.number(3),
-        })
+        let [refusal, offset, written, ticks] = [0, 1, 2, 3].map(|place| self.number(place));
+        Ok(Answer::to_run(refusal as u8, offset, written, ticks))
     }
 
     fn memory(&mut self) -> &mut [u8] {

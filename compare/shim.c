@@ -12,17 +12,17 @@ long read(int file, void *to, u64 length);
 long write(int file, const void *from, u64 length);
 u32 alarm(u32 seconds);
 
-// The chip as the library exports it.
+// The chip as the library exports it. The flags are bytes, so that any number can be tried.
 struct chip {
-    _Bool tb, srwp, wen, suspended, wp, deep, armed, selected;
-    u8 level, job_kind, job_value;
-    u8 opcode, offset, count, judgement;
-    u32 job_place, job_done, address;
+    u8 tb, srwp, wen, suspended, wp, deep, armed, selected;
+    u8 level, kind, value;
+    u8 opcode, slot, count, judgement;
+    u32 start, done, address;
     u64 place;
     u8 load[256];
-    u8 page[256];
+    u8 held[256];
 };
-struct event_answer { struct chip chip; u8 refusal, tag, value; u32 ticks; };
+struct event_answer { struct chip chip; u8 refusal, length; u8 record[2]; u32 ticks; };
 struct run_answer { struct chip chip; u8 refusal; u64 offset, written, ticks; };
 
 struct chip chip_fresh(u8 status);
@@ -58,16 +58,17 @@ static void cross(int out) {
     u8 *at = shared + DESK + IMAGE;
     FIELD(tb); FIELD(srwp); FIELD(wen); FIELD(suspended);
     FIELD(wp); FIELD(deep); FIELD(armed); FIELD(selected);
-    FIELD(level); FIELD(job_kind); FIELD(job_value);
-    FIELD(opcode); FIELD(offset); FIELD(count); FIELD(judgement);
-    FIELD(job_place); FIELD(job_done); FIELD(address); FIELD(place);
-    FIELD(load); FIELD(page);
+    FIELD(level); FIELD(kind); FIELD(value);
+    FIELD(opcode); FIELD(slot); FIELD(count); FIELD(judgement);
+    FIELD(start); FIELD(done); FIELD(address); FIELD(place);
+    FIELD(load); FIELD(held);
 }
 
 // Keeps the chip of an event's answer and puts the rest of it on the desk.
 static void event_done(struct event_answer a, u64 *desk) {
     chip = a.chip;
-    desk[0] = a.refusal; desk[1] = a.tag; desk[2] = a.value; desk[3] = a.ticks;
+    desk[0] = a.refusal; desk[1] = a.length;
+    desk[2] = a.record[0]; desk[3] = a.record[1]; desk[4] = a.ticks;
 }
 
 // Keeps the chip of a run's answer and puts the rest of it on the desk.

@@ -7,20 +7,18 @@ use crate::image::Edit;
 use crate::model::Chip;
 use std::time::{Duration, Instant};
 
-/// The longest time that one case is given.
-const PATIENCE: Duration = Duration::from_secs(20);
-
 /// A failing case on its way to a smaller one.
 struct Shrinker<'a, 'b> {
     bench: &'a mut Bench<'b>,
     case: Case,
-    begun: Instant,
+    /// When no more is tried.
+    end: Instant,
 }
 
-/// The smallest case found that fails as the given one does, and its difference.
-pub fn shrink(bench: &mut Bench, case: Case) -> (Case, Option<String>) {
+/// The smallest case found in some time that fails as the given one does, and its difference.
+pub fn shrink(bench: &mut Bench, case: Case, patience: Duration) -> (Case, Option<String>) {
     let Some((steps, _)) = bench.replay(&case) else { return (case, None) };
-    let mut shrinker = Shrinker { bench, case, begun: Instant::now() };
+    let mut shrinker = Shrinker { bench, case, end: Instant::now() + patience };
     shrinker.case.steps.truncate(steps);
     while shrinker.round() {}
     let Shrinker { bench, case, .. } = shrinker;
@@ -31,7 +29,7 @@ pub fn shrink(bench: &mut Bench, case: Case) -> (Case, Option<String>) {
 impl Shrinker<'_, '_> {
     /// Whether the time is over.
     fn tired(&self) -> bool {
-        self.begun.elapsed() > PATIENCE
+        Instant::now() > self.end
     }
 
     /// Takes a changed case if it still fails, without the steps after its difference.
@@ -108,7 +106,7 @@ impl Shrinker<'_, '_> {
     /// Puts single events in the place of a run.
     fn run_to_events(&mut self, number: usize) -> bool {
         let Step::Run { script, length, .. } = &self.case.steps[number] else { return false };
-        let single = |(_, event)| Step::Event { event, lent: false, length: *length };
+        let single = |event| Step::Event { event, lent: false, length: *length };
         let events: Vec<Step> = events_of(script).0.into_iter().map(single).collect();
         if events.len() > 2_000 {
             return false;
@@ -147,9 +145,9 @@ impl Shrinker<'_, '_> {
         if self.tired() {
             return None;
         }
-        let (events, end) = events_of(script);
-        let mut pieces: Vec<_> = events.iter().map(|(_, event)| script_of(&[*event])).collect();
-        pieces.extend(script[end..].iter().map(|byte| vec![*byte]));
+        let (events, rest) = events_of(script);
+        let mut pieces: Vec<_> = events.iter().map(|event| script_of(&[*event])).collect();
+        pieces.extend(rest.iter().map(|byte| vec![*byte]));
         Some(pieces)
     }
 
@@ -170,7 +168,7 @@ impl Shrinker<'_, '_> {
         let mut smaller = self.try_step(number, Step::Run { script, spare: 0, length });
         let mut at = 0;
         while let Some(pieces) = self.script_pieces(number).filter(|pieces| at < pieces.len()) {
-            let event = events_of(&pieces[at]).0.first().map(|(_, event)| *event);
+            let event = events_of(&pieces[at]).0.first().copied();
             smaller |= event.map_or(Vec::new(), smaller_events).into_iter().any(|event| {
                 let script =
                     [pieces[..at].concat(), script_of(&[event]), pieces[at + 1..].concat()];
@@ -193,10 +191,12 @@ impl Shrinker<'_, '_> {
             }
         }
         // The edits that are not legal go with a model's chip that is not, so they are left alone.
-        if let Start::Lent(chip, Edit::None | Edit::Free(_)) = &self.case.start {
-            for chip in [vec![(**chip).clone()], plainer_chips(chip)].concat() {
-                let start = Start::Lent(Box::new(chip), Edit::None);
-                changes.push(Case { start, ..self.case.clone() });
+        if let Start::Lent(chip, edit @ (Edit::None | Edit::Free(_))) = &self.case.start {
+            for edit in [&Edit::None, edit] {
+                for chip in [vec![(**chip).clone()], plainer_chips(chip)].concat() {
+                    let start = Start::Lent(Box::new(chip), edit.clone());
+                    changes.push(Case { start, ..self.case.clone() });
+                }
             }
         }
         for length in LENGTHS {

@@ -1,6 +1,7 @@
 // The side that is held to the model: what it can be asked, and the areas that it holds.
 
-use crate::image::{Edit, Image};
+use crate::event::Event;
+use crate::image::Image;
 use crate::model::{Chip, Record};
 
 /// Bytes of memory that both sides hold: 64 sectors, and one more that nothing may touch.
@@ -10,28 +11,58 @@ pub const OUTPUT_AREA: usize = 5 * Chip::SECTOR;
 /// Bytes after a lent buffer that are compared as well.
 pub const GUARD: usize = 64;
 
-/// The answer to an event or a run; what only the other one has is none or 0.
+/// A record as bytes: how many it has, and both places for them, 0 where it has none.
+#[derive(Clone, Copy, Debug, PartialEq, Eq)]
+pub struct RecordBytes {
+    pub length: u8,
+    pub bytes: [u8; 2],
+}
+
+/// The bytes of a record, the same in the answer to an event and in the output of a run.
+pub fn record_bytes(record: Record) -> RecordBytes {
+    let (length, bytes) = match record {
+        Record::None => (0, [0, 0]),
+        Record::Floating => (1, [0x80, 0]),
+        Record::Driven(byte) => (2, [0x81, byte]),
+        Record::Verdict(verdict) => (2, [0x82, verdict]),
+    };
+    RecordBytes { length, bytes }
+}
+
+/// The answer to an event or a run; what only the other one has is no record or 0.
 #[derive(Clone, Copy, Debug, PartialEq, Eq)]
 pub struct Answer {
     pub refusal: u8,
-    pub record: Record,
+    pub record: RecordBytes,
     pub offset: u64,
     pub written: u64,
     pub ticks: u64,
+}
+
+impl Answer {
+    /// The answer to an event.
+    pub fn to_event(refusal: u8, record: RecordBytes, ticks: u64) -> Answer {
+        Answer { refusal, record, offset: 0, written: 0, ticks }
+    }
+
+    /// The answer to a run.
+    pub fn to_run(refusal: u8, offset: u64, written: u64, ticks: u64) -> Answer {
+        Answer { refusal, record: record_bytes(Record::None), offset, written, ticks }
+    }
 }
 
 /// One side that is held to the model; an error says that it could not answer.
 pub trait Side {
     /// Makes the chip fresh from a status byte.
     fn fresh(&mut self, status: u8) -> Result<(), String>;
-    /// Puts a chip in the place of the present one.
-    fn put(&mut self, chip: &Chip, edit: &Edit) -> Result<(), String>;
+    /// Puts a chip in the place of the present one: the model's, and the numbers that it is to have.
+    fn put(&mut self, chip: &Chip, image: &Image) -> Result<(), String>;
     /// The chip as numbers.
     fn image(&self) -> Image;
     /// Whether the side says that its chip is legal.
     fn legal(&mut self, length: usize) -> Result<bool, String>;
     /// Applies one event alone, by value or through a lent chip record.
-    fn event(&mut self, length: usize, event: (u64, u64), lent: bool) -> Result<Answer, String>;
+    fn event(&mut self, length: usize, event: Event, lent: bool) -> Result<Answer, String>;
     /// Runs a script with that much room for its output.
     fn run(&mut self, length: usize, script: &[u8], room: usize) -> Result<Answer, String>;
     /// The whole memory area.

@@ -2,7 +2,7 @@
 
 use crate::class::{Class, LONG_JOBS};
 use crate::commands::COMMANDS;
-use crate::image::Edit;
+use crate::image::{flags_of, with_flags, Edit, FLAGS};
 use crate::model::{Chip, Job, JobKind};
 use crate::rng::Rng;
 
@@ -13,8 +13,9 @@ pub type Rule = (&'static str, fn(&Chip, usize) -> bool);
 const CYCLE: u32 = 4;
 
 /// The rules of legality, one by one. That the load place is below 256 is none of them: the library
-/// has no room for another. That a job is one of the five is one: the model has no room for another.
-pub const RULES: [Rule; 14] = [
+/// has no room for another. The last two are rules of the library alone: the model has no room for
+/// another job or flag.
+pub const RULES: [Rule; 15] = [
     ("level at most 7", |chip, _| chip.level <= 7),
     ("job inside memory", |chip, length| job(chip, |job| (job.place as usize) < length)),
     ("job aligned to its size", |chip, _| job(chip, |job| job.place % size(job) == 0)),
@@ -41,6 +42,7 @@ pub const RULES: [Rule; 14] = [
         (chip.selected && chip.frame.byte_count > 0) || chip.frame == Chip::fresh(0).frame
     }),
     ("a job that is one of the five", |_, _| true),
+    ("flags that are 0 or 1", |_, _| true),
 ];
 
 /// Whether a chip has no job, or one that keeps a rule.
@@ -84,7 +86,7 @@ fn legal_job(rng: &mut Rng, class: Class, length: usize) -> Job {
 }
 
 /// A chip without a frame, legal over a memory length, with a job of a class or none.
-fn legal_unselected(rng: &mut Rng, length: usize, class: Option<Class>) -> Chip {
+pub fn legal_unselected(rng: &mut Rng, length: usize, class: Option<Class>) -> Chip {
     let mut chip = Chip::fresh(rng.byte());
     chip.wp_high = rng.once_in(2);
     chip.armed = rng.once_in(3);
@@ -294,6 +296,39 @@ fn broken_empty_frames(rng: &mut Rng, length: usize) -> Vec<Chip> {
     states
 }
 
+/// A legal state that stays legal with a flag 0 and with it 1.
+fn with_free_flag(rng: &mut Rng, length: usize, flag: usize) -> Chip {
+    let class = match FLAGS[flag] {
+        "WEN" | "deep" => None,
+        "suspended" => Some(rng.pick(&LONG_JOBS)),
+        _ => any_class(rng),
+    };
+    let mut chip = legal_unselected(rng, length, class);
+    match FLAGS[flag] {
+        "deep" => chip.armed = false,
+        "armed" => chip.deep = false,
+        _ => {}
+    }
+    if FLAGS[flag] != "selected" && rng.once_in(2) {
+        let opcode = any_opcode(rng);
+        open_frame(rng, &mut chip, opcode, length);
+    }
+    for value in [false, true] {
+        let mut flags = flags_of(&chip);
+        flags[flag] = value;
+        let changed = with_flags(&chip, flags);
+        assert!(changed.legal(length), "{} {value} is not legal: {chip:?}", FLAGS[flag]);
+    }
+    chip
+}
+
+/// A state that is legal but for one flag, a byte above 1; the model's chip has too high a level.
+pub fn with_bad_flag(rng: &mut Rng, length: usize, flag: usize, byte: u8) -> (Chip, Edit) {
+    let mut chip = with_free_flag(rng, length, flag);
+    chip.level += 8;
+    (chip, Edit::Flag(flag, byte))
+}
+
 /// States that are not legal and that the model has no room for; its chip is not legal in a near way.
 fn broken_images(rng: &mut Rng, length: usize) -> Vec<(Chip, Edit)> {
     let mut states = Vec::new();
@@ -308,6 +343,11 @@ fn broken_images(rng: &mut Rng, length: usize) -> Vec<(Chip, Edit)> {
         let opcode = any_opcode(rng);
         let chip = spoilt_frame(rng, length, opcode, |chip| chip.frame.read_place = u32::MAX);
         states.push((chip, Edit::Place(place)));
+    }
+    for flag in 0..FLAGS.len() {
+        for byte in [2, 3, 255, rng.byte().max(2)] {
+            states.push(with_bad_flag(rng, length, flag, byte));
+        }
     }
     states
 }
@@ -326,8 +366,16 @@ pub fn broken(rng: &mut Rng, length: usize) -> Vec<(usize, Chip, Edit)> {
         list.push((broken[0], chip, Edit::None));
     }
     for (chip, edit) in broken_images(rng, length) {
-        let rule = if matches!(edit, Edit::Place(_)) { 9 } else { 13 };
-        list.push((rule, chip, edit));
+        list.push((rule_of(&edit), chip, edit));
     }
     list
+}
+
+/// The number of the rule that an edit breaks.
+pub fn rule_of(edit: &Edit) -> usize {
+    match edit {
+        Edit::Flag(..) => 14,
+        Edit::JobKind(_) => 13,
+        _ => 9,
+    }
 }

@@ -2,6 +2,7 @@
 
 use crate::case::{room, Case, Start, Step};
 use crate::event::{events_of, Event};
+use crate::image::BLANK;
 
 /// One event in words.
 fn event_words((kind, body): Event) -> String {
@@ -23,12 +24,12 @@ fn event_words((kind, body): Event) -> String {
 const SHOWN: usize = 40;
 
 /// Events in words, one line for those that are alike and follow each other.
-fn event_lines(events: impl Iterator<Item = Event>) -> Vec<String> {
+fn event_lines(events: &[Event]) -> Vec<String> {
     let mut alike: Vec<(Event, usize)> = Vec::new();
     for event in events {
         match alike.last_mut() {
-            Some((last, times)) if *last == event => *times += 1,
-            _ => alike.push((event, 1)),
+            Some((last, times)) if last == event => *times += 1,
+            _ => alike.push((*event, 1)),
         }
     }
     let line = |(event, times)| match times {
@@ -44,16 +45,16 @@ fn step_words(step: &Step) -> String {
         length.map_or(String::new(), |length| format!(", memory length {length}"))
     };
     match step {
-        Step::HandOver => "the model's chip is handed over".to_string(),
+        Step::HandOver => "the expected chip is handed over".to_string(),
         Step::Event { event, lent, length } => {
             let way = if *lent { " (lent record)" } else { "" };
             format!("{}{way}{}", event_words(*event), over(length))
         }
         Step::Run { script, spare, length } => {
-            let (events, end) = events_of(script);
+            let (events, rest) = events_of(script);
             let room = room(script, *spare);
             let mut text = format!("run of {} bytes, room {room}{}", script.len(), over(length));
-            let lines = event_lines(events.into_iter().map(|(_, event)| event));
+            let lines = event_lines(&events);
             for (number, line) in lines.iter().enumerate() {
                 if number < SHOWN || number + SHOWN >= lines.len() {
                     text += &format!("\n      {line}");
@@ -61,7 +62,6 @@ fn step_words(step: &Step) -> String {
                     text += &format!("\n      {} lines more", lines.len() - 2 * SHOWN);
                 }
             }
-            let rest = &script[end..];
             if !rest.is_empty() {
                 text += &format!("\n      then the bytes {:02X?}", &rest[..rest.len().min(8)]);
             }
@@ -77,8 +77,7 @@ fn start_words(start: &Start) -> String {
         return format!("fresh from status {status:02X}h");
     };
     let text = format!("lent state {chip:?}, edit {edit:?}");
-    let blank = format!("{:?}", [0xFF_u8; 256]);
-    text.replace(&blank, "blank")
+    text.replace(&format!("{BLANK:?}"), "blank")
 }
 
 /// A case in words.

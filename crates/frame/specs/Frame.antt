@@ -1,20 +1,21 @@
--- A frame: the judgement at the opcode byte, and what each exchange drives, takes and leaves (01, Commands; Verdicts).
+-- A frame: the judgement at the opcode byte, and what each exchange drives, takes and leaves (RULES, Commands; Verdicts).
 use Prim.Native.Nat.{ℕ, _+_, _*_, _%_}
 use mathlib.Core.Bool.{Bool, true, cond, not, _&&_, _||_}
 use mathlib.Core.List.{List}
 use lib.Dec.{eqb, ltb, leb}
-use lib.ListN.{length, getD, set}
-use Rattle.part.specs.Part.{reduced, jedecByte, jedecCycle, deviceByte}
+use lib.ListN.{getD, set}
+use Rattle.part.specs.Part.{Setting, lengthOf, reduced, jedecByte, jedecCycle, deviceByte}
 use Rattle.part.specs.Table.{rowOf, isProgram, readStatus, lowPowerRead, highSpeedRead, jedecId, wake}
 use Rattle.chip.specs.declared.Core.{Core}
 use Rattle.chip.specs.declared.Frame.{Frame}
 use Rattle.chip.specs.declared.Record.{Record}
 use Rattle.chip.specs.declared.Record.the-variants.{Floating, Driven}
+use Rattle.chip.specs.Fields.{withOpcode, withAddress, withPlace, withSlot, withCount, withJudgement}
 use Rattle.chip.specs.Chip.{running, statusByte}
 
 -- ---- the judgement
 
--- "Unknown opcode, deep, running and suspended are judged at the opcode byte": 3, 5, 6, 7, or 0 for none
+-- what stops an opcode before its frame is read: 3 unknown, 5 asleep, 6 running, 7 suspended, 0 nothing (RULES, Verdicts)
 unfoldable pub judge : Core → ℕ → ℕ
 judge k opcode =
     cond (not (rowOf opcode .known)) 3
@@ -24,58 +25,46 @@ judge k opcode =
 
 -- ---- what a byte does to the frame's numbers
 
--- "its byte count at most 6 (6 meaning six or more)"
+-- the byte count goes up to 6, which means six or more
 abbrev pub counted : ℕ → ℕ
 counted n = cond (ltb n 6) (n + 1) 6
 
--- "An address is three bytes, high first": a byte more, below 2^24
+-- the address takes one byte more from below and keeps its low 24 bits, so the first of three ends on top
 abbrev pub shifted : ℕ → ℕ → ℕ
 shifted address b = address % 65536 * 256 + b
 
--- "Reads go up by one; after the last address comes 0", in a row of n places
+-- the next of n read places; the last is followed by 0
 abbrev pub nextPlace : ℕ → ℕ → ℕ
 nextPlace n place = cond (ltb (place + 1) n) (place + 1) 0
 
--- "offset (address + j) mod 256": the offset of the next data byte
-abbrev pub nextOffset : ℕ → ℕ
-nextOffset offset = (offset + 1) % 256
+-- the next of 256 load places, likewise
+abbrev pub nextSlot : ℕ → ℕ
+nextSlot slot = (slot + 1) % 256
 
 -- ---- the frame after a byte
 
--- the opcode byte, with its judgement
-abbrev pub opened : Core → ℕ → Frame → Frame
-opened k b f =
-    record { selected = f .selected; opcode = b; address = f .address; place = f .place; offset = f .offset; count = counted (f .count); judgement = judge k b }
-
 -- a byte that is only counted
 abbrev pub counting : Frame → Frame
-counting f =
-    record { selected = f .selected; opcode = f .opcode; address = f .address; place = f .place; offset = f .offset; count = counted (f .count); judgement = f .judgement }
+counting f = withCount (counted (f .count)) f
+
+-- the opcode byte, with its judgement
+abbrev pub opened : Core → ℕ → Frame → Frame
+opened k b f = withOpcode b (withJudgement (judge k b) (counting f))
 
 -- a byte of a read, from a row of n places
 abbrev pub reading : ℕ → Frame → Frame
-reading n f =
-    record
-    { selected = f .selected; opcode = f .opcode; address = f .address; place = nextPlace n (f .place); offset = f .offset; count = counted (f .count); judgement = f .judgement }
+reading n f = withPlace (nextPlace n (f .place)) (counting f)
 
 -- a data byte of a page program
 abbrev pub loading : Frame → Frame
-loading f =
-    record
-    { selected = f .selected; opcode = f .opcode; address = f .address; place = f .place; offset = nextOffset (f .offset); count = counted (f .count); judgement = f .judgement }
+loading f = withSlot (nextSlot (f .slot)) (counting f)
 
--- bytes 2 to 4 are the address; the last of them sets both places, in a memory of n cells
+-- bytes 2 to 4 are the address; the last of them sets both places, on a part of S sectors
 abbrev pub addressing : ℕ → ℕ → Frame → Frame
-addressing n b f =
-    record {
-      selected = f .selected;
-      opcode = f .opcode;
-      address = cond (ltb (f .count) 4) (shifted (f .address) b) (f .address);
-      place = cond (eqb (f .count) 3) (reduced n (shifted (f .address) b)) (f .place);
-      offset = cond (eqb (f .count) 3) b (f .offset);
-      count = counted (f .count);
-      judgement = f .judgement;
-    }
+addressing S b f =
+    withAddress (cond (ltb (f .count) 4) (shifted (f .address) b) (f .address))
+    (withPlace (cond (eqb (f .count) 3) (reduced S (shifted (f .address) b)) (f .place))
+    (withSlot (cond (eqb (f .count) 3) b (f .slot)) (counting f)))
 
 -- ---- an exchange
 
@@ -88,7 +77,7 @@ pub record Exchange : Type 0 where
 abbrev pub exchange : Record → Frame → List ℕ → Exchange
 exchange said f load = record { said = said; frame = f; load = load }
 
--- whether the next byte of the frame is data of a read of cells: "03h data from byte 5; 0Bh from byte 6"
+-- whether the next byte of the frame is a cell: from byte 5 of 03h, from byte 6 of 0Bh
 abbrev pub readsCell : Frame → Bool
 readsCell f = eqb (f .opcode) lowPowerRead && leb 4 (f .count) || eqb (f .opcode) highSpeedRead && leb 5 (f .count)
 
@@ -96,20 +85,20 @@ readsCell f = eqb (f .opcode) lowPowerRead && leb 4 (f .count) || eqb (f .opcode
 abbrev pub takesData : Frame → Bool
 takesData f = isProgram (f .opcode) && leb 4 (f .count)
 
--- byte 2 and up of a frame with judgement none: "status from byte 2 ..; 03h data from byte 5; 0Bh from byte 6; 9Fh .. from byte 2, repeating in that cycle ..; ABh 88h from byte 5 on. Other bytes float"
-unfoldable pub taken : Core → Frame → List ℕ → List ℕ → ℕ → Exchange
-taken k f load m b =
-    cond (readsCell f) (exchange (Driven (getD m (f .place) 0)) (reading (length m) f) load)
-    (cond (takesData f) (exchange Floating (loading f) (set load (f .offset) b))
+-- byte 2 and up of a frame with judgement none: a cell, a byte for the load, the status, the cycle of 9Fh, the identity of ABh, or a byte that floats
+unfoldable pub taken : Setting → Core → Frame → List ℕ → List ℕ → ℕ → Exchange
+taken T k f load m b =
+    cond (readsCell f) (exchange (Driven (getD m (f .place) 0)) (reading (lengthOf (T .sectors)) f) load)
+    (cond (takesData f) (exchange Floating (loading f) (set load (f .slot) b))
     (cond (eqb (f .opcode) readStatus) (exchange (Driven (statusByte k)) (counting f) load)
     (cond (eqb (f .opcode) jedecId) (exchange (Driven (jedecByte (f .place))) (reading jedecCycle f) load)
     (cond (eqb (f .opcode) wake && leb 4 (f .count)) (exchange (Driven deviceByte) (counting f) load)
-    (exchange Floating (addressing (length m) b f) load)))))
+    (exchange Floating (addressing (T .sectors) b f) load)))))
 
--- an exchange of byte b: "Unselected, an exchange floats"; the opcode byte floats; "a frame so judged floats to its end"
-unfoldable pub exchanged : Core → Frame → List ℕ → List ℕ → ℕ → Exchange
-exchanged k f load m b =
+-- an exchange of byte b: unselected it floats and does no more; the opcode byte floats and is judged; a judged frame floats to its end
+unfoldable pub exchanged : Setting → Core → Frame → List ℕ → List ℕ → ℕ → Exchange
+exchanged T k f load m b =
     cond (not (f .selected)) (exchange Floating f load)
     (cond (eqb (f .count) 0) (exchange Floating (opened k b f) load)
     (cond (not (eqb (f .judgement) 0)) (exchange Floating (counting f) load)
-    (taken k f load m b)))
+    (taken T k f load m b)))

@@ -5,10 +5,10 @@ use mathlib.Core.List.{List}
 use mathlib.Core.Path.{_≡_, refl, sym, ap, _∙_}
 use native.Mathlib.Omega.{arith}
 use lib.Dec.{eqb, leb}
-use lib.ListN.{length, getD, set}
+use lib.ListN.{getD, set}
 use borrow.Author.Tests.{eq-eqb, ne-eqb, eqb-true}
 use Rattle.cells.specs.Choice.{cond-yes, cond-no}
-use Rattle.part.specs.Part.{jedecByte, jedecCycle, deviceByte}
+use Rattle.part.specs.Part.{Setting, lengthOf, jedecByte, jedecCycle, deviceByte}
 use Rattle.part.specs.Table.{rowOf, readStatus, jedecId, wake}
 use Rattle.chip.specs.declared.Core.{Core}
 use Rattle.chip.specs.declared.Frame.{Frame}
@@ -19,54 +19,54 @@ use Rattle.frame.specs.Frame.{judge, Exchange, exchange, opened, countin
 
 -- ---- byte 2 and up, by what the frame is
 
-module _ (k : Core) (f : Frame) (load m : List ℕ) (b : ℕ) where
-  pub taken-cell : readsCell f ≡ true → taken k f load m b ≡ exchange (Driven (getD m (f .place) 0)) (reading (length m) f) load
+module _ (T : Setting) (k : Core) (f : Frame) (load m : List ℕ) (b : ℕ) where
+  pub taken-cell : readsCell f ≡ true → taken T k f load m b ≡ exchange (Driven (getD m (f .place) 0)) (reading (lengthOf (T .sectors)) f) load
   unfolding taken
   taken-cell h = cond-yes _ _ _ h
 
   module _ (no-cell : readsCell f ≡ false) where
-    pub taken-data : takesData f ≡ true → taken k f load m b ≡ exchange Floating (loading f) (set load (f .offset) b)
+    pub taken-data : takesData f ≡ true → taken T k f load m b ≡ exchange Floating (loading f) (set load (f .slot) b)
     unfolding taken
     taken-data h = cond-no _ _ _ no-cell ∙ cond-yes _ _ _ h
 
     module _ (no-data : takesData f ≡ false) where
-      pub taken-status : f .opcode ≡ readStatus → taken k f load m b ≡ exchange (Driven (statusByte k)) (counting f) load
+      pub taken-status : f .opcode ≡ readStatus → taken T k f load m b ≡ exchange (Driven (statusByte k)) (counting f) load
       unfolding taken
       taken-status h = cond-no _ _ _ no-cell ∙ cond-no _ _ _ no-data ∙ cond-yes _ _ _ (eq-eqb _ _ h)
 
       module _ (no-status : f .opcode ≡ readStatus → ⊥) where
-        pub taken-jedec : f .opcode ≡ jedecId → taken k f load m b ≡ exchange (Driven (jedecByte (f .place))) (reading jedecCycle f) load
+        pub taken-jedec : f .opcode ≡ jedecId → taken T k f load m b ≡ exchange (Driven (jedecByte (f .place))) (reading jedecCycle f) load
         unfolding taken
         taken-jedec h = cond-no _ _ _ no-cell ∙ cond-no _ _ _ no-data ∙ cond-no _ _ _ (ne-eqb _ _ no-status) ∙ cond-yes _ _ _ (eq-eqb _ _ h)
 
         module _ (no-jedec : f .opcode ≡ jedecId → ⊥) where
-          pub taken-device : (eqb (f .opcode) wake && leb 4 (f .count)) ≡ true → taken k f load m b ≡ exchange (Driven deviceByte) (counting f) load
+          pub taken-device : (eqb (f .opcode) wake && leb 4 (f .count)) ≡ true → taken T k f load m b ≡ exchange (Driven deviceByte) (counting f) load
           unfolding taken
           taken-device h =
               cond-no _ _ _ no-cell ∙ cond-no _ _ _ no-data ∙ cond-no _ _ _ (ne-eqb _ _ no-status) ∙ cond-no _ _ _ (ne-eqb _ _ no-jedec) ∙ cond-yes _ _ _ h
 
-          pub taken-address : (eqb (f .opcode) wake && leb 4 (f .count)) ≡ false → taken k f load m b ≡ exchange Floating (addressing (length m) b f) load
+          pub taken-address : (eqb (f .opcode) wake && leb 4 (f .count)) ≡ false → taken T k f load m b ≡ exchange Floating (addressing (T .sectors) b f) load
           unfolding taken
           taken-address h =
               cond-no _ _ _ no-cell ∙ cond-no _ _ _ no-data ∙ cond-no _ _ _ (ne-eqb _ _ no-status) ∙ cond-no _ _ _ (ne-eqb _ _ no-jedec) ∙ cond-no _ _ _ h
 
   -- ---- an exchange
 
-  pub exchanged-unselected : f .selected ≡ false → exchanged k f load m b ≡ exchange Floating f load
+  pub exchanged-unselected : f .selected ≡ false → exchanged T k f load m b ≡ exchange Floating f load
   unfolding exchanged
   exchanged-unselected h = cond-yes _ _ _ (ap not h)
 
   module _ (selected : f .selected ≡ true) where
-    pub exchanged-opcode : f .count ≡ 0 → exchanged k f load m b ≡ exchange Floating (opened k b f) load
+    pub exchanged-opcode : f .count ≡ 0 → exchanged T k f load m b ≡ exchange Floating (opened k b f) load
     unfolding exchanged
     exchanged-opcode h = cond-no _ _ _ (ap not selected) ∙ cond-yes _ _ _ (eq-eqb _ _ h)
 
     module _ (begun : f .count ≡ 0 → ⊥) where
-      pub exchanged-judged : (f .judgement ≡ 0 → ⊥) → exchanged k f load m b ≡ exchange Floating (counting f) load
+      pub exchanged-judged : (f .judgement ≡ 0 → ⊥) → exchanged T k f load m b ≡ exchange Floating (counting f) load
       unfolding exchanged
       exchanged-judged h = cond-no _ _ _ (ap not selected) ∙ cond-no _ _ _ (ne-eqb _ _ begun) ∙ cond-yes _ _ _ (ap not (ne-eqb _ _ h))
 
-      pub exchanged-taken : f .judgement ≡ 0 → exchanged k f load m b ≡ taken k f load m b
+      pub exchanged-taken : f .judgement ≡ 0 → exchanged T k f load m b ≡ taken T k f load m b
       unfolding exchanged
       exchanged-taken h = cond-no _ _ _ (ap not selected) ∙ cond-no _ _ _ (ne-eqb _ _ begun) ∙ cond-no _ _ _ (ap not (eq-eqb _ _ h))
 

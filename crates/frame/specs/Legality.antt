@@ -6,17 +6,17 @@ use mathlib.Core.Path.{_≡_, refl, sym, ap, subst, _∙_}
 use native.Mathlib.Nat.{mod-lt}
 use native.Mathlib.Omega.{arith}
 use lib.Dec.{eqb, ltb, leb}
-use lib.ListN.{length, getD, set}
+use lib.ListN.{getD, set}
 use borrow.Author.Tests.{eqb-true, eqb-false, eq-eqb, ne-eqb, not-true, not-false, ltb-true, ltb-false}
 use Rattle.cells.specs.Choice.{cond-either, cond-yes, cond-no, and-left, and-right}
-use Rattle.part.specs.Part.{reduced, jedecByte, jedecCycle, deviceByte}
+use Rattle.part.specs.Part.{Setting, lengthOf, reduced, jedecByte, jedecCycle, deviceByte}
 use Rattle.part.specs.Table.{rowOf, lowPowerRead, highSpeedRead, readStatus, jedecId, wake}
 use Rattle.chip.specs.declared.Core.{Core}
 use Rattle.chip.specs.declared.Frame.{Frame}
 use Rattle.chip.specs.declared.Record.the-variants.{Floating, Driven}
 use Rattle.chip.specs.Chip.{running, statusByte}
-use Rattle.chip.specs.Legal.{judgementKnown, readPlaces, isEmpty, isBlank, begun}
-use Rattle.chip.specs.Legality.{LegalFrame, tidy, unbegun-empty}
+use Rattle.chip.specs.Legal.{judgementKnown, readPlaces, isEmpty, isBlank, begun, tidy}
+use Rattle.chip.specs.Legality.{LegalFrame, unbegun-empty}
 use Rattle.frame.specs.Frame.{judge, counted, shifted, nextPlace, opened, counting, reading, loading, addressing, readsCell, takesData, Exchange, exchange, taken, exchanged}
 
 -- ---- a judgement is none, 3, 5, 6 or 7
@@ -43,11 +43,11 @@ nextPlace-inside n place h = cond-either (λ (q : ℕ). q < n) (ltb (place + 1) 
 shifted-small : (address b : ℕ) → b < 256 → shifted address b < 2 ^ 24
 shifted-small address b h = omega arith
 
-readPlaces-cells : (opcode n : ℕ) → (opcode ≡ jedecId → ⊥) → readPlaces opcode n ≡ n
-readPlaces-cells opcode n h = cond-no (eqb opcode jedecId) _ _ (ne-eqb _ _ h)
+readPlaces-cells : (S opcode : ℕ) → (opcode ≡ jedecId → ⊥) → readPlaces S opcode ≡ lengthOf S
+readPlaces-cells S opcode h = cond-no (eqb opcode jedecId) _ _ (ne-eqb _ _ h)
 
-readPlaces-some : (opcode n : ℕ) → 0 < n → 0 < readPlaces opcode n
-readPlaces-some opcode n h = cond-either (λ (q : ℕ). 0 < q) (eqb opcode jedecId) _ _ (λ _. omega arith) (λ _. h)
+readPlaces-some : (S opcode : ℕ) → 1 ≤ S → 0 < readPlaces S opcode
+readPlaces-some S opcode h = cond-either (λ (q : ℕ). 0 < q) (eqb opcode jedecId) _ _ (λ _. omega arith) (λ _. omega arith)
 
 -- a read of cells is no read of the identity
 cells-no-jedec : (f : Frame) → readsCell f ≡ true → f .opcode ≡ jedecId → ⊥
@@ -58,43 +58,47 @@ cells-no-jedec f h e = go (leb 4 (f .count)) (leb 5 (f .count)) (subst (λ (q : 
 
 -- ---- the frame after a byte
 
-module _ (n : ℕ) (some : 0 < n) (f : Frame) (l : LegalFrame f n) where
-  counting-legal : LegalFrame (counting f) n
+-- a part has cells
+length-some : (S : ℕ) → 1 ≤ S → 0 < lengthOf S
+length-some S h = omega arith
+
+module _ (S : ℕ) (some : 1 ≤ S) (f : Frame) (l : LegalFrame S f) where
+  counting-legal : LegalFrame S (counting f)
   counting-legal =
       record { address-small = l .address-small; place-inside = l .place-inside; count-small = counted-small (f .count); judgement-known = l .judgement-known }
 
-  loading-legal : LegalFrame (loading f) n
+  loading-legal : LegalFrame S (loading f)
   loading-legal =
       record { address-small = l .address-small; place-inside = l .place-inside; count-small = counted-small (f .count); judgement-known = l .judgement-known }
 
-  reading-legal : (places : ℕ) → readPlaces (f .opcode) n ≡ places → LegalFrame (reading places f) n
+  reading-legal : (places : ℕ) → readPlaces S (f .opcode) ≡ places → LegalFrame S (reading places f)
   reading-legal places e =
       record {
         address-small = l .address-small;
         place-inside =
             subst (λ (q : ℕ). nextPlace places (f .place) < q) (sym e)
-            (nextPlace-inside places (f .place) (subst (λ (q : ℕ). 0 < q) e (readPlaces-some (f .opcode) n some)));
+            (nextPlace-inside places (f .place) (subst (λ (q : ℕ). 0 < q) e (readPlaces-some S (f .opcode) some)));
         count-small = counted-small (f .count);
         judgement-known = l .judgement-known;
       }
 
-  addressing-legal : (b : ℕ) → b < 256 → (f .opcode ≡ jedecId → ⊥) → LegalFrame (addressing n b f) n
+  addressing-legal : (b : ℕ) → b < 256 → (f .opcode ≡ jedecId → ⊥) → LegalFrame S (addressing S b f)
   addressing-legal b h other =
       record {
         address-small = cond-either (λ (q : ℕ). q < 2 ^ 24) (ltb (f .count) 4) _ _ (λ _. shifted-small (f .address) b h) (λ _. l .address-small);
         place-inside =
-            cond-either (λ (q : ℕ). q < readPlaces (f .opcode) n) (eqb (f .count) 3) _ _
-            (λ _. subst (λ (q : ℕ). reduced n (shifted (f .address) b) < q) (sym (readPlaces-cells (f .opcode) n other)) (mod-lt (shifted (f .address) b) some))
+            cond-either (λ (q : ℕ). q < readPlaces S (f .opcode)) (eqb (f .count) 3) _ _
+            (λ _. subst (λ (q : ℕ). reduced S (shifted (f .address) b) < q) (sym (readPlaces-cells S (f .opcode) other)) (mod-lt (shifted (f .address) b) (length-some S some)))
             (λ _. l .place-inside);
         count-small = counted-small (f .count);
         judgement-known = l .judgement-known;
       }
 
-  opened-legal : (k : Core) (b : ℕ) → f .place ≡ 0 → LegalFrame (opened k b f) n
+  opened-legal : (k : Core) (b : ℕ) → f .place ≡ 0 → LegalFrame S (opened k b f)
   opened-legal k b z =
       record {
         address-small = l .address-small;
-        place-inside = subst (λ (q : ℕ). q < readPlaces b n) (sym z) (readPlaces-some b n some);
+        place-inside = subst (λ (q : ℕ). q < readPlaces S b) (sym z) (readPlaces-some S b some);
         count-small = counted-small (f .count);
         judgement-known = judge-known k b;
       }
@@ -102,37 +106,37 @@ module _ (n : ℕ) (some : 0 < n) (f : Frame) (l : LegalFrame f n) where
 -- ---- an exchange
 
 -- what holds of each way that an exchange goes holds of the exchange
-pub taken-each : (k : Core) (f : Frame) (load m : List ℕ) (b : ℕ) (P : Exchange → Type 0)
-    → (readsCell f ≡ true → P (exchange (Driven (getD m (f .place) 0)) (reading (length m) f) load))
-    → (takesData f ≡ true → P (exchange Floating (loading f) (set load (f .offset) b)))
+pub taken-each : (T : Setting) (k : Core) (f : Frame) (load m : List ℕ) (b : ℕ) (P : Exchange → Type 0)
+    → (readsCell f ≡ true → P (exchange (Driven (getD m (f .place) 0)) (reading (lengthOf (T .sectors)) f) load))
+    → (takesData f ≡ true → P (exchange Floating (loading f) (set load (f .slot) b)))
     → (f .opcode ≡ readStatus → P (exchange (Driven (statusByte k)) (counting f) load))
     → (f .opcode ≡ jedecId → P (exchange (Driven (jedecByte (f .place))) (reading jedecCycle f) load))
     → P (exchange (Driven deviceByte) (counting f) load)
-    → ((f .opcode ≡ jedecId → ⊥) → P (exchange Floating (addressing (length m) b f) load))
-    → P (taken k f load m b)
+    → ((f .opcode ≡ jedecId → ⊥) → P (exchange Floating (addressing (T .sectors) b f) load))
+    → P (taken T k f load m b)
 unfolding taken
-taken-each k f load m b P p₁ p₂ p₃ p₄ p₅ p₆ =
+taken-each T k f load m b P p₁ p₂ p₃ p₄ p₅ p₆ =
     cond-either P (readsCell f) _ _ p₁
     (λ _. cond-either P (takesData f) _ _ p₂
     (λ _. cond-either P (eqb (f .opcode) readStatus) _ _ (λ e. p₃ (eqb-true _ _ e))
     (λ _. cond-either P (eqb (f .opcode) jedecId) _ _ (λ e. p₄ (eqb-true _ _ e))
     (λ e. cond-either P (eqb (f .opcode) wake && leb 4 (f .count)) _ _ (λ _. p₅) (λ _. p₆ (eqb-false _ _ e))))))
 
-pub exchanged-each : (k : Core) (f : Frame) (load m : List ℕ) (b : ℕ) (P : Exchange → Type 0)
+pub exchanged-each : (T : Setting) (k : Core) (f : Frame) (load m : List ℕ) (b : ℕ) (P : Exchange → Type 0)
     → (f .selected ≡ false → P (exchange Floating f load))
     → (f .selected ≡ true → f .count ≡ 0 → P (exchange Floating (opened k b f) load))
     → (f .selected ≡ true → P (exchange Floating (counting f) load))
-    → (f .selected ≡ true → P (taken k f load m b))
-    → P (exchanged k f load m b)
+    → (f .selected ≡ true → P (taken T k f load m b))
+    → P (exchanged T k f load m b)
 unfolding exchanged
-exchanged-each k f load m b P p₁ p₂ p₃ p₄ =
+exchanged-each T k f load m b P p₁ p₂ p₃ p₄ =
     cond-either P (not (f .selected)) _ _ (λ e. p₁ (not-true _ e))
     (λ s. cond-either P (eqb (f .count) 0) _ _ (λ e. p₂ (not-false _ s) (eqb-true _ _ e))
     (λ _. cond-either P (not (eqb (f .judgement) 0)) _ _ (λ _. p₃ (not-false _ s)) (λ _. p₄ (not-false _ s))))
 
 -- the frame that an exchange leaves is legal, and empty with a blank load where no byte has come
-pub record LegalExchange (n : ℕ) (e : Exchange) : Type 0 where
-  pub frame-part : LegalFrame (e .frame) n
+pub record LegalExchange (S : ℕ) (e : Exchange) : Type 0 where
+  pub frame-part : LegalFrame S (e .frame)
   pub tidy-part : tidy (e .frame) (e .load) ≡ true
 
 -- a selected frame with a byte more is begun
@@ -149,22 +153,22 @@ unfolding isEmpty
 empty-place f h =
     eqb-true (f .place) 0
     (and-right (eqb (f .opcode) 0 && eqb (f .address) 0) (eqb (f .place) 0)
-    (and-left (eqb (f .opcode) 0 && eqb (f .address) 0 && eqb (f .place) 0) (eqb (f .offset) 0)
-    (and-left (eqb (f .opcode) 0 && eqb (f .address) 0 && eqb (f .place) 0 && eqb (f .offset) 0) (eqb (f .count) 0)
-    (and-left (eqb (f .opcode) 0 && eqb (f .address) 0 && eqb (f .place) 0 && eqb (f .offset) 0 && eqb (f .count) 0) (eqb (f .judgement) 0) h))))
+    (and-left (eqb (f .opcode) 0 && eqb (f .address) 0 && eqb (f .place) 0) (eqb (f .slot) 0)
+    (and-left (eqb (f .opcode) 0 && eqb (f .address) 0 && eqb (f .place) 0 && eqb (f .slot) 0) (eqb (f .count) 0)
+    (and-left (eqb (f .opcode) 0 && eqb (f .address) 0 && eqb (f .place) 0 && eqb (f .slot) 0 && eqb (f .count) 0) (eqb (f .judgement) 0) h))))
 
-pub exchange-legal : (k : Core) (f : Frame) (load m : List ℕ) (b : ℕ) → 0 < length m → b < 256 → LegalFrame f (length m) → tidy f load ≡ true
-    → LegalExchange (length m) (exchanged k f load m b)
-exchange-legal k f load m b some byte l t =
-    exchanged-each k f load m b (LegalExchange (length m))
+pub exchange-legal : (T : Setting) (k : Core) (f : Frame) (load m : List ℕ) (b : ℕ) → 1 ≤ T .sectors → b < 256 → LegalFrame (T .sectors) f → tidy f load ≡ true
+    → LegalExchange (T .sectors) (exchanged T k f load m b)
+exchange-legal T k f load m b some byte l t =
+    exchanged-each T k f load m b (LegalExchange (T .sectors))
     (λ _. record { frame-part = l; tidy-part = t })
-    (λ s c. record { frame-part = opened-legal (length m) some f l k b (empty-place f (unbegun-empty f load t c)); tidy-part = begun-tidy (opened k b f) load s (counted-some (f .count)) })
-    (λ s. record { frame-part = counting-legal (length m) some f l; tidy-part = begun-tidy (counting f) load s (counted-some (f .count)) })
+    (λ s c. record { frame-part = opened-legal (T .sectors) some f l k b (empty-place f (unbegun-empty f load t c)); tidy-part = begun-tidy (opened k b f) load s (counted-some (f .count)) })
+    (λ s. record { frame-part = counting-legal (T .sectors) some f l; tidy-part = begun-tidy (counting f) load s (counted-some (f .count)) })
     (λ s.
-    taken-each k f load m b (LegalExchange (length m))
-    (λ e. record { frame-part = reading-legal (length m) some f l (length m) (readPlaces-cells (f .opcode) (length m) (cells-no-jedec f e)); tidy-part = begun-tidy (reading (length m) f) load s (counted-some (f .count)) })
-    (λ _. record { frame-part = loading-legal (length m) some f l; tidy-part = begun-tidy (loading f) _ s (counted-some (f .count)) })
-    (λ _. record { frame-part = counting-legal (length m) some f l; tidy-part = begun-tidy (counting f) load s (counted-some (f .count)) })
-    (λ e. record { frame-part = reading-legal (length m) some f l jedecCycle (cond-yes (eqb (f .opcode) jedecId) _ _ (eq-eqb _ _ e)); tidy-part = begun-tidy (reading jedecCycle f) load s (counted-some (f .count)) })
-    (record { frame-part = counting-legal (length m) some f l; tidy-part = begun-tidy (counting f) load s (counted-some (f .count)) })
-    (λ e. record { frame-part = addressing-legal (length m) some f l b byte e; tidy-part = begun-tidy (addressing (length m) b f) load s (counted-some (f .count)) }))
+    taken-each T k f load m b (LegalExchange (T .sectors))
+    (λ e. record { frame-part = reading-legal (T .sectors) some f l (lengthOf (T .sectors)) (readPlaces-cells (T .sectors) (f .opcode) (cells-no-jedec f e)); tidy-part = begun-tidy (reading (lengthOf (T .sectors)) f) load s (counted-some (f .count)) })
+    (λ _. record { frame-part = loading-legal (T .sectors) some f l; tidy-part = begun-tidy (loading f) _ s (counted-some (f .count)) })
+    (λ _. record { frame-part = counting-legal (T .sectors) some f l; tidy-part = begun-tidy (counting f) load s (counted-some (f .count)) })
+    (λ e. record { frame-part = reading-legal (T .sectors) some f l jedecCycle (cond-yes (eqb (f .opcode) jedecId) _ _ (eq-eqb _ _ e)); tidy-part = begun-tidy (reading jedecCycle f) load s (counted-some (f .count)) })
+    (record { frame-part = counting-legal (T .sectors) some f l; tidy-part = begun-tidy (counting f) load s (counted-some (f .count)) })
+    (λ e. record { frame-part = addressing-legal (T .sectors) some f l b byte e; tidy-part = begun-tidy (addressing (T .sectors) b f) load s (counted-some (f .count)) }))

@@ -1,12 +1,13 @@
--- A data byte of a read of cells or of a page load: it asks nothing of the core, so that a run needs no more than the frame for it.
+-- A data byte of a read of cells or of a page load: it asks nothing of the core, so that a run needs no more than the frame for it (RULES, Commands).
 use Prim.Native.Nat.{ℕ}
 use mathlib.Core.Bool.{Bool, true, false, cond, _&&_, _||_, false≢true}
 use mathlib.Core.List.{List}
 use mathlib.Core.Path.{_≡_, refl, sym, subst, _∙_}
 use lib.Dec.{eqb, leb}
-use lib.ListN.{length, getD, set}
+use lib.ListN.{getD, set}
 use borrow.Author.Tests.{eqb-true}
 use Rattle.cells.specs.Choice.{cond-yes, cond-no, and-left, and-right}
+use Rattle.part.specs.Part.{Setting, lengthOf}
 use Rattle.part.specs.Table.{isProgram, lowPowerRead, highSpeedRead}
 use Rattle.chip.specs.declared.Core.{Core}
 use Rattle.chip.specs.declared.Frame.{Frame}
@@ -22,16 +23,16 @@ abbrev pub streams : Frame → Bool
 streams f = f .selected && eqb (f .judgement) 0 && isData f
 
 -- what it does: a cell is driven, or the byte goes into the load
-unfoldable pub streamed : Frame → List ℕ → List ℕ → ℕ → Exchange
-streamed f load m b =
-    cond (readsCell f) (exchange (Driven (getD m (f .place) 0)) (reading (length m) f) load) (exchange Floating (loading f) (set load (f .offset) b))
+unfoldable pub streamed : Setting → Frame → List ℕ → List ℕ → ℕ → Exchange
+streamed T f load m b =
+    cond (readsCell f) (exchange (Driven (getD m (f .place) 0)) (reading (lengthOf (T .sectors)) f) load) (exchange Floating (loading f) (set load (f .slot) b))
 
-module _ (f : Frame) (load m : List ℕ) (b : ℕ) where
-  pub streamed-cell : readsCell f ≡ true → streamed f load m b ≡ exchange (Driven (getD m (f .place) 0)) (reading (length m) f) load
+module _ (T : Setting) (f : Frame) (load m : List ℕ) (b : ℕ) where
+  pub streamed-cell : readsCell f ≡ true → streamed T f load m b ≡ exchange (Driven (getD m (f .place) 0)) (reading (lengthOf (T .sectors)) f) load
   unfolding streamed
   streamed-cell h = cond-yes _ _ _ h
 
-  pub streamed-load : readsCell f ≡ false → streamed f load m b ≡ exchange Floating (loading f) (set load (f .offset) b)
+  pub streamed-load : readsCell f ≡ false → streamed T f load m b ≡ exchange Floating (loading f) (set load (f .slot) b)
   unfolding streamed
   streamed-load h = cond-no _ _ _ h
 
@@ -48,8 +49,8 @@ no-load f h = neither (readsCell f) (takesData f) h .1
 
 -- ---- it is what the exchange does
 
-module _ (k : Core) (f : Frame) (load m : List ℕ) (b : ℕ) where
-  pub taken-stream : isData f ≡ true → taken k f load m b ≡ streamed f load m b
+module _ (T : Setting) (k : Core) (f : Frame) (load m : List ℕ) (b : ℕ) where
+  pub taken-stream : isData f ≡ true → taken T k f load m b ≡ streamed T f load m b
   unfolding taken streamed
   taken-stream h = go (readsCell f) (takesData f) _ _ _ h
     where
@@ -74,9 +75,9 @@ module _ (k : Core) (f : Frame) (load m : List ℕ) (b : ℕ) where
       go false false true e = false≢true e
       go false false false e = false≢true e
 
-  pub exchanged-stream : streams f ≡ true → exchanged k f load m b ≡ streamed f load m b
+  pub exchanged-stream : streams f ≡ true → exchanged T k f load m b ≡ streamed T f load m b
   exchanged-stream h =
       let is : isData f ≡ true = and-right (f .selected && eqb (f .judgement) 0) (isData f) h in
       let ready : (f .selected && eqb (f .judgement) 0) ≡ true = and-left (f .selected && eqb (f .judgement) 0) (isData f) h in
-      exchanged-taken k f load m b (and-left (f .selected) (eqb (f .judgement) 0) ready) (begun is) (eqb-true _ _ (and-right (f .selected) (eqb (f .judgement) 0) ready))
+      exchanged-taken T k f load m b (and-left (f .selected) (eqb (f .judgement) 0) ready) (begun is) (eqb-true _ _ (and-right (f .selected) (eqb (f .judgement) 0) ready))
       ∙ taken-stream is

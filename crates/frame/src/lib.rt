@@ -2,9 +2,9 @@
 ghost use mathlib.Core.Path.{_≡_};
 ghost use mathlib.Core.Bool.{cond, not, _&&_};
 ghost use Prim.Native.Nat.{_%_, _*_, _+_, _<_, _≤_};
-ghost use Rattle.part.specs.Part.{reduced};
+ghost use Rattle.part.specs.Part.{setting};
 ghost use Rattle.chip.specs.declared.Record.{Record};
-ghost use Rattle.frame.specs.Frame.{judge, counted, shifted, nextPlace, nextOffset, opened, counting, reading, loading, addressing, readsCell, takesData, exchange, taken, exchanged};
+ghost use Rattle.frame.specs.Frame.{judge, counted, shifted, nextPlace, nextSlot, opened, counting, reading, loading, addressing, readsCell, takesData, exchange, taken, exchanged};
 ghost use Rattle.frame.specs.Stream.{isData, streams, streamed};
 use chip::Core;
 use chip::Frame;
@@ -61,12 +61,12 @@ fn place_up(n: usize, place: usize) -> usize
     0
 }
 
-// The offset after `offset` in a page.
-fn offset_up(offset: u8) -> u8
-    ensures { λ r. ⌜ r ≡ nextOffset offset ⌝ }
+// The load place after `slot`.
+fn slot_up(slot: u8) -> u8
+    ensures { λ r. ⌜ r ≡ nextSlot slot ⌝ }
 {
-    if offset < 255 {
-        return offset + 1;
+    if slot < 255 {
+        return slot + 1;
     }
     0
 }
@@ -109,13 +109,13 @@ fn load_up(f: Frame) -> Frame
     ensures { λ r. ⌜ r ≡ loading f ⌝ }
 {
     let mut next = f;
-    next.offset = offset_up(f.offset);
+    next.slot = slot_up(f.slot);
     next.count = count_up(f.count);
     next
 }
 
-fn address(n: usize, b: u8, f: Frame) -> Frame
-    ensures { λ r. ⌜ r ≡ addressing n b f ⌝ }
+fn address(sectors: u8, b: u8, f: Frame) -> Frame
+    ensures { λ r. ⌜ r ≡ addressing sectors b f ⌝ }
 {
     let mut next = f;
     next.count = count_up(f.count);
@@ -125,8 +125,8 @@ fn address(n: usize, b: u8, f: Frame) -> Frame
     let full = shift_in(f.address, b);
     next.address = full;
     if f.count == 3 {
-        next.place = part::cell_of(n, full);
-        next.offset = b;
+        next.place = part::cell_of(sectors, full);
+        next.slot = b;
         return next;
     }
     next
@@ -177,23 +177,33 @@ pub fn streams(f: Frame) -> bool
 }
 
 // A data byte of a read of cells or of a page load: it asks nothing of the core.
-pub fn stream(f: Frame, load: &mut [u8; 256], mem: &[u8], b: u8) -> Exchanged
-    ensures { λ r. ⌜ exchange (r .said) (r .frame) (now (load .exit)) ≡ streamed f (now (load .entry)) (now (mem .entry)) b ⌝ }
+pub fn stream(f: Frame, load: &mut [u8; 256], mem: &[u8], sectors: u8, b: u8) -> Exchanged
+    ensures { λ r. ⌜ exchange (r .said) (r .frame) (now (load .exit)) ≡ streamed (setting sectors) f (now (load .entry)) (now (mem .entry)) b ⌝ }
 {
     if reads_cell(f) {
-        return drives(cells::byte_at(mem, f.place), read(mem.len(), f));
+        return drives(
+            cells::byte_at(mem, f.place),
+            read(part::length_of(sectors), f),
+        );
     }
-    let offset = f.offset as usize;
-    load[offset] = b;
+    let slot = f.slot as usize;
+    load[slot] = b;
     floats(load_up(f))
 }
 
 // Byte 2 and up of a frame with judgement none.
-fn take(core: Core, f: Frame, load: &mut [u8; 256], mem: &[u8], b: u8) -> Exchanged
-    ensures { λ r. ⌜ exchange (r .said) (r .frame) (now (load .exit)) ≡ taken core f (now (load .entry)) (now (mem .entry)) b ⌝ }
+fn take(
+    core: Core,
+    f: Frame,
+    load: &mut [u8; 256],
+    mem: &[u8],
+    sectors: u8,
+    b: u8,
+) -> Exchanged
+    ensures { λ r. ⌜ exchange (r .said) (r .frame) (now (load .exit)) ≡ taken (setting sectors) core f (now (load .entry)) (now (mem .entry)) b ⌝ }
 {
     if is_data(f) {
-        return stream(f, load, mem, b);
+        return stream(f, load, mem, sectors, b);
     }
     if f.opcode == Part::READ_STATUS {
         return drives(chip::status_byte(core), count(f));
@@ -204,12 +214,19 @@ fn take(core: Core, f: Frame, load: &mut [u8; 256], mem: &[u8], b: u8) -> Exchan
     if (f.opcode == Part::WAKE) & (4 <= f.count) {
         return drives(Part::DEVICE, count(f));
     }
-    floats(address(mem.len(), b, f))
+    floats(address(sectors, b, f))
 }
 
 // One exchange of byte b.
-pub fn exchange(core: Core, f: Frame, load: &mut [u8; 256], mem: &[u8], b: u8) -> Exchanged
-    ensures { λ r. ⌜ exchange (r .said) (r .frame) (now (load .exit)) ≡ exchanged core f (now (load .entry)) (now (mem .entry)) b ⌝ }
+pub fn exchange(
+    core: Core,
+    f: Frame,
+    load: &mut [u8; 256],
+    mem: &[u8],
+    sectors: u8,
+    b: u8,
+) -> Exchanged
+    ensures { λ r. ⌜ exchange (r .said) (r .frame) (now (load .exit)) ≡ exchanged (setting sectors) core f (now (load .entry)) (now (mem .entry)) b ⌝ }
 {
     if !f.selected {
         return floats(f);
@@ -220,5 +237,5 @@ pub fn exchange(core: Core, f: Frame, load: &mut [u8; 256], mem: &[u8], b: u8) -
     if f.judgement != 0 {
         return floats(count(f));
     }
-    take(core, f, load, mem, b)
+    take(core, f, load, mem, sectors, b)
 }

@@ -1,68 +1,67 @@
--- A tick, n ticks, and the working ticks among them (01, Jobs).
-use Prim.Native.Nat.{ℕ, zero, suc, _+_, _-_, _/_, _%_, max}
+-- A tick, n ticks, and the working ticks among them (RULES, Jobs).
+use Prim.Native.Nat.{ℕ, zero, suc, _+_, _-_, max}
 use mathlib.Core.Bool.{Bool, false, cond}
 use mathlib.Core.List.{List}
 use mathlib.Core.Path.{_≡_}
-use lib.Dec.{eqb, ltb}
+use lib.Dec.{ltb}
 use Rattle.chip.specs.declared.Core.{Core}
 use Rattle.chip.specs.declared.JobKind.{JobKind}
 use Rattle.chip.specs.declared.JobKind.the-variants.{Idle, WriteStatus, Program, SmallErase, SectorErase, ChipErase}
+use Rattle.chip.specs.Fields.{withWen, withJob, withDone}
 use Rattle.chip.specs.Job.{steps, total, noJob}
-use Rattle.chip.specs.Chip.{running}
+use Rattle.chip.specs.Chip.{withBits, blankLoad, running}
 
--- the core with that many steps of its job done
-abbrev pub withDone : ℕ → Core → Core
-withDone d k =
-    record {
-      level = k .level;
-      tb = k .tb;
-      srwp = k .srwp;
-      wen = k .wen;
-      suspended = k .suspended;
-      wp = k .wp;
-      deep = k .deep;
-      armed = k .armed;
-      job = record { kind = k .job .kind; place = k .job .place; done = d };
-    }
+-- ---- what a step leaves of the core
 
--- the core with d more steps done
+-- the core with that many steps of its job done; and with d more of them
+abbrev pub atStep : ℕ → Core → Core
+atStep d k = withJob (withDone d (k .job)) k
+
 abbrev pub advanced : ℕ → Core → Core
-advanced d k = withDone (k .job .done + d) k
+advanced d k = atStep (k .job .done + d) k
 
--- the job gone and WEN clear, with these bits 2 to 5 and 7
-abbrev pub cleared : ℕ → Bool → Bool → Core → Core
-cleared level tb srwp k =
-    record
-    { level = level; tb = tb; srwp = srwp; wen = false; suspended = k .suspended; wp = k .wp; deep = k .deep; armed = k .armed; job = noJob }
+-- the job gone, and WEN with it
+abbrev pub gone : Core → Core
+gone k = withWen false (withJob noJob k)
 
--- after the last step of a job: "ends the job and clears WEN"; a write status "sets the bits", "bits 2 to 5 and 7"
+-- after the last step the job is gone; that of a write status has set its bits
 abbrev pub endedAs : JobKind → Core → Core
-endedAs (WriteStatus value) k = cleared (value / 4 % 8) (eqb (value / 32 % 2) 1) (eqb (value / 128 % 2) 1) k
-endedAs Idle k = cleared (k .level) (k .tb) (k .srwp) k
-endedAs Program k = cleared (k .level) (k .tb) (k .srwp) k
-endedAs SmallErase k = cleared (k .level) (k .tb) (k .srwp) k
-endedAs SectorErase k = cleared (k .level) (k .tb) (k .srwp) k
-endedAs ChipErase k = cleared (k .level) (k .tb) (k .srwp) k
+endedAs (WriteStatus value) k = withBits value (gone k)
+endedAs Idle k = gone k
+endedAs Program k = gone k
+endedAs SmallErase k = gone k
+endedAs SectorErase k = gone k
+endedAs ChipErase k = gone k
 
 abbrev pub ended : Core → Core
 ended k = endedAs (k .job .kind) k
 
--- "A working tick is one that finds a job running, not suspended; it does one step": the core after a tick, on a part of S sectors
+-- ---- one tick: a working one finds a job running and does its next step, on a part of S sectors
+
 unfoldable pub tickCore : ℕ → Core → Core
 tickCore S k = cond (running k) (cond (ltb (k .job .done + 1) (total (k .job .kind) S)) (advanced 1 k) (ended k)) k
 
--- the memory after a tick: step `done` of the job
-unfoldable pub tickMemory : Core → List ℕ → List ℕ → List ℕ
-tickMemory k page m = cond (running k) (steps (k .job .kind) (k .job .place) page (k .job .done) 1 m) m
+-- the job's load stays as long as the job does
+unfoldable pub tickLoad : ℕ → Core → List ℕ → List ℕ
+tickLoad S k held = cond (running k) (cond (ltb (k .job .done + 1) (total (k .job .kind) S)) held blankLoad) held
 
--- n ticks: the core, the memory, and how many of them worked
+-- the cells of that step
+unfoldable pub tickMemory : Core → List ℕ → List ℕ → List ℕ
+tickMemory k held m = cond (running k) (steps (k .job .kind) (k .job .start) held (k .job .done) 1 m) m
+
+-- ---- n ticks one after the other: the core, the job's load, the memory, and how many of them worked
+
 unfoldable pub ticksCore : ℕ → ℕ → Core → Core
 ticksCore S zero k = k
 ticksCore S (suc n) k = tickCore S (ticksCore S n k)
 
+unfoldable pub ticksLoad : ℕ → ℕ → Core → List ℕ → List ℕ
+ticksLoad S zero k held = held
+ticksLoad S (suc n) k held = tickLoad S (ticksCore S n k) (ticksLoad S n k held)
+
 unfoldable pub ticksMemory : ℕ → ℕ → Core → List ℕ → List ℕ → List ℕ
-ticksMemory S zero k page m = m
-ticksMemory S (suc n) k page m = tickMemory (ticksCore S n k) page (ticksMemory S n k page m)
+ticksMemory S zero k held m = m
+ticksMemory S (suc n) k held m = tickMemory (ticksCore S n k) (ticksLoad S n k held) (ticksMemory S n k held m)
 
 unfoldable pub worked : ℕ → ℕ → Core → ℕ
 worked S zero k = 0
@@ -73,7 +72,8 @@ abbrev pub ticksLeft : ℕ → Core → ℕ
 ticksLeft S k = max (total (k .job .kind) S - k .job .done) 1
 
 -- n ticks together: what they leave, and how many of them worked
-pub record TicksAnswer (S n : ℕ) (k : Core) (page m : List ℕ) (k′ : Core) (w : ℕ) (m′ : List ℕ) : Type 0 where
+pub record TicksAnswer (S n : ℕ) (k : Core) (held m : List ℕ) (k′ : Core) (w : ℕ) (held′ m′ : List ℕ) : Type 0 where
   pub core : k′ ≡ ticksCore S n k
   pub working : w ≡ worked S n k
-  pub memory : m′ ≡ ticksMemory S n k page m
+  pub load : held′ ≡ ticksLoad S n k held
+  pub memory : m′ ≡ ticksMemory S n k held m

@@ -4,7 +4,7 @@ ghost use Prim.Native.Nat.{_+_, _*_, _≤_, _<_, _-_, _^_, max};
 ghost use Rattle.cells.specs.Cells.{sweep, blanked};
 ghost use Rattle.chip.specs.declared.JobKind.{JobKind};
 ghost use Rattle.chip.specs.Job.{steps, total};
-ghost use Rattle.job.specs.Tick.{advanced, cleared, endedAs, TicksAnswer};
+ghost use Rattle.job.specs.Tick.{advanced, gone, endedAs, TicksAnswer};
 use chip::Core;
 use chip::Job;
 use chip::JobKind;
@@ -16,33 +16,33 @@ pub struct Ticked {
 }
 
 // Does k steps of a program from step `done` on: 16 cells each.
-fn program_steps(place: u32, done: u32, k: u32, page: &[u8; 256], mem: &mut [u8])
-    ensures { λ r. ⌜ now (mem .exit) ≡ steps JobKind.Program place (now (page .entry)) done k (now (mem .entry)) ⌝ }
+fn program_steps(start: u32, done: u32, k: u32, held: &[u8; 256], mem: &mut [u8])
+    ensures { λ r. ⌜ now (mem .exit) ≡ steps JobKind.Program start (now (held .entry)) done k (now (mem .entry)) ⌝ }
 {
     let at = (done as usize) * 16;
-    let from = (place as usize) + at;
-    cells::program(mem, page, from, at, (k as usize) * 16);
+    let from = (start as usize) + at;
+    cells::program(mem, held, from, at, (k as usize) * 16);
 }
 
 // Does k steps of an erase from step `done` on: 256 cells each, in one fill.
-fn erase_steps(place: u32, done: u32, k: u32, mem: &mut [u8])
-    ensures { λ r. ⌜ now (mem .exit) ≡ sweep blanked (now (mem .entry)) (place + done * 256) (k * 256) ⌝ }
+fn erase_steps(start: u32, done: u32, k: u32, mem: &mut [u8])
+    ensures { λ r. ⌜ now (mem .exit) ≡ sweep blanked (now (mem .entry)) (start + done * 256) (k * 256) ⌝ }
 {
-    let from = (place as usize) + (done as usize) * 256;
+    let from = (start as usize) + (done as usize) * 256;
     cells::blank(mem, from, (k as usize) * 256);
 }
 
 // Does k steps of a job from step `done` on.
-fn do_steps(kind: JobKind, place: u32, done: u32, k: u32, page: &[u8; 256], mem: &mut [u8])
-    ensures { λ r. ⌜ now (mem .exit) ≡ steps kind place (now (page .entry)) done k (now (mem .entry)) ⌝ }
+fn do_steps(kind: JobKind, start: u32, done: u32, k: u32, held: &[u8; 256], mem: &mut [u8])
+    ensures { λ r. ⌜ now (mem .exit) ≡ steps kind start (now (held .entry)) done k (now (mem .entry)) ⌝ }
 {
     match kind {
         JobKind::Idle => {}
         JobKind::WriteStatus(_) => {}
-        JobKind::Program => program_steps(place, done, k, page, mem),
-        JobKind::SmallErase => erase_steps(place, done, k, mem),
-        JobKind::SectorErase => erase_steps(place, done, k, mem),
-        JobKind::ChipErase => erase_steps(place, done, k, mem),
+        JobKind::Program => program_steps(start, done, k, held, mem),
+        JobKind::SmallErase => erase_steps(start, done, k, mem),
+        JobKind::SectorErase => erase_steps(start, done, k, mem),
+        JobKind::ChipErase => erase_steps(start, done, k, mem),
     }
 }
 
@@ -66,7 +66,7 @@ fn advance(core: Core, k: u32) -> Core
     let kind = job.kind;
     let stepped = Job {
         kind: kind,
-        place: job.place,
+        start: job.start,
         done: job.done + k,
     };
     let mut next = core;
@@ -74,14 +74,11 @@ fn advance(core: Core, k: u32) -> Core
     next
 }
 
-// The core with its job gone and WEN clear, and these bits 2 to 5 and 7.
-fn clear(level: u8, tb: bool, srwp: bool, core: Core) -> Core
-    ensures { λ r. ⌜ r ≡ cleared level tb srwp core ⌝ }
+// The core with its job gone and WEN clear.
+fn clear(core: Core) -> Core
+    ensures { λ r. ⌜ r ≡ gone core ⌝ }
 {
     let mut next = core;
-    next.level = level;
-    next.tb = tb;
-    next.srwp = srwp;
     next.wen = false;
     next.job = chip::no_job();
     next
@@ -91,24 +88,26 @@ fn clear(level: u8, tb: bool, srwp: bool, core: Core) -> Core
 fn end(kind: JobKind, core: Core) -> Core
     ensures { λ r. ⌜ r ≡ endedAs kind core ⌝ }
 {
+    let next = clear(core);
     match kind {
-        JobKind::WriteStatus(value) => clear(
-            value / 4 % 8,
-            value / 32 % 2 == 1,
-            value / 128 % 2 == 1,
-            core,
-        ),
-        JobKind::Idle => clear(core.level, core.tb, core.srwp, core),
-        JobKind::Program => clear(core.level, core.tb, core.srwp, core),
-        JobKind::SmallErase => clear(core.level, core.tb, core.srwp, core),
-        JobKind::SectorErase => clear(core.level, core.tb, core.srwp, core),
-        JobKind::ChipErase => clear(core.level, core.tb, core.srwp, core),
+        JobKind::WriteStatus(value) => chip::set_bits(value, next),
+        JobKind::Idle => next,
+        JobKind::Program => next,
+        JobKind::SmallErase => next,
+        JobKind::SectorErase => next,
+        JobKind::ChipErase => next,
     }
 }
 
-// n ticks: with no job running they do nothing; otherwise they do steps until n are done or the job ends.
-pub fn ticks(core: Core, page: &[u8; 256], mem: &mut [u8], sectors: u8, n: u32) -> Ticked
-    ensures { λ r. ⌜ TicksAnswer sectors n core (now (page .entry)) (now (mem .entry)) (r .core) (r .worked) (now (mem .exit)) ⌝ }
+// n ticks: with no job running they do nothing; otherwise they do steps until n are done or the job ends, and its load with it.
+pub fn ticks(
+    core: Core,
+    held: &mut [u8; 256],
+    mem: &mut [u8],
+    sectors: u8,
+    n: u32,
+) -> Ticked
+    ensures { λ r. ⌜ TicksAnswer sectors n core (now (held .entry)) (now (mem .entry)) (r .core) (r .worked) (now (held .exit)) (now (mem .exit)) ⌝ }
 {
     if !chip::is_running(core) {
         return Ticked {
@@ -120,13 +119,14 @@ pub fn ticks(core: Core, page: &[u8; 256], mem: &mut [u8], sectors: u8, n: u32) 
     let kind = job.kind;
     let left = ticks_left(kind, job.done, sectors);
     if n < left {
-        do_steps(kind, job.place, job.done, n, page, mem);
+        do_steps(kind, job.start, job.done, n, held, mem);
         return Ticked {
             core: advance(core, n),
             worked: n,
         };
     }
-    do_steps(kind, job.place, job.done, left, page, mem);
+    do_steps(kind, job.start, job.done, left, held, mem);
+    *held = [255; 256];
     Ticked {
         core: end(kind, core),
         worked: left,

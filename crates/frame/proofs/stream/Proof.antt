@@ -11,6 +11,9 @@ reads-cell-requires c κs = search needs
 byte-at-requires : tie.Need-byte-at-requires
 byte-at-requires c κs = search needs
 
+length-of-requires : tie.Need-length-of-requires
+length-of-requires c κs = search needs
+
 read-requires : tie.Need-read-requires
 read-requires c κs = search needs
 
@@ -18,10 +21,10 @@ drives-requires : tie.Need-drives-requires
 drives-requires c κs = search needs
 
 returns : tie.Need-returns
-returns c = rw (c .drives .ensures, c .before .read .ensures, c .before .before .byte-at .ensures) (sym (streamed-cell _ _ _ _ (sym (c .before .before .before .before .reads-cell .ensures) ∙ c .before .before .before .if1 .taken)))
+returns c = rw (c .drives .ensures, c .before .read .ensures, c .before .before .length-of .ensures .0, c .before .before .before .byte-at .ensures) (sym (streamed-cell _ _ _ _ _ (sym (c .before .before .before .before .before .reads-cell .ensures) ∙ c .before .before .before .before .if1 .taken)))
 
-cast-offset : tie.Need-cast-offset
-cast-offset c = search needs
+cast-slot : tie.Need-cast-slot
+cast-slot c = search needs
 
 element-write-load : tie.Need-element-write-load
 element-write-load c = search needs
@@ -33,7 +36,7 @@ floats-requires : tie.Need-floats-requires
 floats-requires c κs = search needs
 
 returns-2 : tie.Need-returns-2
-returns-2 c = rw (c .floats .ensures, c .before .load-up .ensures) (sym (streamed-load _ _ _ _ (sym (c .before .before .before .before .reads-cell .ensures) ∙ c .before .before .before .if1 .left)))
+returns-2 c = rw (c .floats .ensures, c .before .load-up .ensures) (sym (streamed-load _ _ _ _ _ (sym (c .before .before .before .before .reads-cell .ensures) ∙ c .before .before .before .if1 .left)))
 
 pub stream-spec : {M : Type 1} → statement M
 stream-spec =
@@ -41,10 +44,11 @@ stream-spec =
     (tie.spec
     reads-cell-requires
     byte-at-requires
+    length-of-requires
     read-requires
     drives-requires
     returns
-    cast-offset
+    cast-slot
     element-write-load
     load-up-requires
     floats-requires

@@ -14,7 +14,7 @@ stream-requires : tie.Need-stream-requires
 stream-requires c κs = search needs
 
 returns : tie.Need-returns
-returns c = c .stream .ensures ∙ sym (taken-stream _ _ _ _ _ (sym (c .before .before .before .is-data .ensures) ∙ c .before .before .if1 .taken))
+returns c = c .stream .ensures ∙ sym (taken-stream _ _ _ _ _ _ (sym (c .before .before .before .is-data .ensures) ∙ c .before .before .if1 .taken))
 
 status-byte-requires : tie.Need-status-byte-requires
 status-byte-requires c κs = search needs
@@ -28,7 +28,7 @@ drives-requires c κs = search needs
 returns-2 : tie.Need-returns-2
 returns-2 c =
     let none : isData (c .before .before .before .before .before .before .before .before .args .f) ≡ false = sym (c .before .before .before .before .before .before .is-data .ensures) ∙ c .before .before .before .before .before .if1 .left in
-    rw (c .drives .ensures, c .before .count .ensures, c .before .before .status-byte .ensures) (sym (taken-status _ _ _ _ _ (no-cell (c .before .before .before .before .before .before .before .before .args .f) none) (no-load (c .before .before .before .before .before .before .before .before .args .f) none) (c .before .before .before .if2 .taken)))
+    rw (c .drives .ensures, c .before .count .ensures, c .before .before .status-byte .ensures) (sym (taken-status _ _ _ _ _ _ (no-cell (c .before .before .before .before .before .before .before .before .args .f) none) (no-load (c .before .before .before .before .before .before .before .before .args .f) none) (c .before .before .before .if2 .taken)))
 
 jedec-byte-requires : tie.Need-jedec-byte-requires
 jedec-byte-requires c κs = search needs
@@ -42,7 +42,7 @@ drives-requires-2 c κs = search needs
 returns-3 : tie.Need-returns-3
 returns-3 c =
     let none : isData (c .before .before .before .before .before .before .before .before .before .before .args .f) ≡ false = sym (c .before .before .before .before .before .before .before .before .is-data .ensures) ∙ c .before .before .before .before .before .before .before .if1 .left in
-    rw (c .drives2 .ensures, c .before .read .ensures, c .before .before .jedec-byte .ensures) (sym (taken-jedec _ _ _ _ _ (no-cell (c .before .before .before .before .before .before .before .before .before .before .args .f) none) (no-load (c .before .before .before .before .before .before .before .before .before .before .args .f) none) (c .before .before .before .before .before .if2 .left) (c .before .before .before .if3 .taken)))
+    rw (c .drives2 .ensures, c .before .read .ensures, c .before .before .jedec-byte .ensures) (sym (taken-jedec _ _ _ _ _ _ (no-cell (c .before .before .before .before .before .before .before .before .before .before .args .f) none) (no-load (c .before .before .before .before .before .before .before .before .before .before .args .f) none) (c .before .before .before .before .before .if2 .left) (c .before .before .before .if3 .taken)))
 
 count-requires-2 : tie.Need-count-requires-2
 count-requires-2 c κs = search needs
@@ -53,7 +53,7 @@ drives-requires-3 c κs = search needs
 returns-4 : tie.Need-returns-4
 returns-4 c =
     let none : isData (c .before .before .before .before .before .before .before .before .before .before .before .before .args .f) ≡ false = sym (c .before .before .before .before .before .before .before .before .before .before .is-data .ensures) ∙ c .before .before .before .before .before .before .before .before .before .if1 .left in
-    rw (c .drives3 .ensures, c .before .count2 .ensures) (sym (taken-device _ _ _ _ _ (no-cell (c .before .before .before .before .before .before .before .before .before .before .before .before .args .f) none) (no-load (c .before .before .before .before .before .before .before .before .before .before .before .before .args .f) none) (c .before .before .before .before .before .before .before .if2 .left) (c .before .before .before .before .before .if3 .left) (c .before .before .if4 .taken)))
+    rw (c .drives3 .ensures, c .before .count2 .ensures) (sym (taken-device _ _ _ _ _ _ (no-cell (c .before .before .before .before .before .before .before .before .before .before .before .before .args .f) none) (no-load (c .before .before .before .before .before .before .before .before .before .before .before .before .args .f) none) (c .before .before .before .before .before .before .before .if2 .left) (c .before .before .before .before .before .if3 .left) (c .before .before .if4 .taken)))
 
 address-requires : tie.Need-address-requires
 address-requires c κs = search needs
@@ -64,7 +64,7 @@ floats-requires c κs = search needs
 returns-5 : tie.Need-returns-5
 returns-5 c =
     let none : isData (c .before .before .before .before .before .before .before .before .before .before .before .before .args .f) ≡ false = sym (c .before .before .before .before .before .before .before .before .before .before .is-data .ensures) ∙ c .before .before .before .before .before .before .before .before .before .if1 .left in
-    rw (c .floats .ensures, c .before .address .ensures) (sym (taken-address _ _ _ _ _ (no-cell (c .before .before .before .before .before .before .before .before .before .before .before .before .args .f) none) (no-load (c .before .before .before .before .before .before .before .before .before .before .before .before .args .f) none) (c .before .before .before .before .before .before .before .if2 .left) (c .before .before .before .before .before .if3 .left) (c .before .before .if4 .left)))
+    rw (c .floats .ensures, c .before .address .ensures) (sym (taken-address _ _ _ _ _ _ (no-cell (c .before .before .before .before .before .before .before .before .before .before .before .before .args .f) none) (no-load (c .before .before .before .before .before .before .before .before .before .before .before .before .args .f) none) (c .before .before .before .before .before .before .before .if2 .left) (c .before .before .before .before .before .if3 .left) (c .before .before .if4 .left)))
 
 pub take-spec : {M : Type 1} → statement M
 take-spec =

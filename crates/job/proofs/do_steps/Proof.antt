@@ -37,10 +37,10 @@ erase-steps-requires-3 : tie.Need-erase-steps-requires-3
 erase-steps-requires-3 c κs = search needs
 
 returns : tie.Need-returns
-returns c = sym (steps-no-cells (c .before .before .before .args .kind) (c .before .before .before .args .place) (c .before .before .before .args .page .now) (c .before .before .before .args .done) (c .before .before .before .args .k) _ (ap unit (c .enum-told .given .1)))
+returns c = sym (steps-no-cells (c .before .before .before .args .kind) (c .before .before .before .args .start) (c .before .before .before .args .held .now) (c .before .before .before .args .done) (c .before .before .before .args .k) _ (ap unit (c .enum-told .given .1)))
 
 returns-2 : tie.Need-returns-2
-returns-2 c = sym (steps-no-cells (c .before .before .before .args .kind) (c .before .before .before .args .place) (c .before .before .before .args .page .now) (c .before .before .before .args .done) (c .before .before .before .args .k) _ (ap unit (c .enum-told2 .given .1)))
+returns-2 c = sym (steps-no-cells (c .before .before .before .args .kind) (c .before .before .before .args .start) (c .before .before .before .args .held .now) (c .before .before .before .args .done) (c .before .before .before .args .k) _ (ap unit (c .enum-told2 .given .1)))
 
 same-length : tie.Need-same-length
 same-length c = search needs
