@@ -1,16 +1,18 @@
 // The engine in this process: the functions that the library exports. A struct goes by its address,
 // the answer's first; the chip that is handed over is the callee's own, so each call gets a copy.
 
-use crate::model::{Chip, Record};
-use crate::side::{edited_image, Answer, Edit, Image, Side, MEMORY_AREA, OUTPUT_AREA};
+use crate::event::Event;
+use crate::image::Image;
+use crate::model::Chip;
+use crate::side::{Answer, RecordBytes, Side, MEMORY_AREA, OUTPUT_AREA};
 use std::mem::MaybeUninit;
 
 #[repr(C)]
 struct EventNumbers {
     chip: Image,
     refusal: u8,
-    tag: u8,
-    value: u8,
+    length: u8,
+    record: [u8; 2],
     ticks: u32,
 }
 
@@ -23,7 +25,7 @@ struct RunNumbers {
     ticks: u64,
 }
 
-type Event = unsafe extern "C" fn(*mut EventNumbers, *mut Image, *mut u8, usize, u64, u64);
+type EventFunction = unsafe extern "C" fn(*mut EventNumbers, *mut Image, *mut u8, usize, u64, u64);
 
 extern "C" {
     fn chip_fresh(answer: *mut Image, status: u8);
@@ -86,8 +88,8 @@ impl Side for Linked {
         Ok(())
     }
 
-    fn put(&mut self, chip: &Chip, edit: &Edit) -> Result<(), String> {
-        self.chip = edited_image(chip, edit);
+    fn put(&mut self, _: &Chip, image: &Image) -> Result<(), String> {
+        self.chip = *image;
         Ok(())
     }
 
@@ -101,8 +103,8 @@ impl Side for Linked {
         Ok(unsafe { chip_legal(&mut chip, length) })
     }
 
-    fn event(&mut self, length: usize, event: (u64, u64), lent: bool) -> Result<Answer, String> {
-        let function: Event = if lent { chip_event_lent } else { chip_event };
+    fn event(&mut self, length: usize, event: Event, lent: bool) -> Result<Answer, String> {
+        let function: EventFunction = if lent { chip_event_lent } else { chip_event };
         let (mut chip, mut answer) = (self.chip, MaybeUninit::uninit());
         let memory = self.memory[..length].as_mut_ptr();
         // The memory is lent for the call alone, which writes the whole answer.
@@ -111,14 +113,8 @@ impl Side for Linked {
             answer.assume_init()
         };
         self.chip = a.chip;
-        let record = match a.tag {
-            0 => Record::None,
-            1 => Record::Floating,
-            2 => Record::Driven(a.value),
-            3 => Record::Verdict(a.value),
-            tag => return Err(format!("a record with the tag {tag}")),
-        };
-        Ok(Answer { refusal: a.refusal, record, offset: 0, written: 0, ticks: u64::from(a.ticks) })
+        let record = RecordBytes { length: a.length, bytes: a.record };
+        Ok(Answer::to_event(a.refusal, record, u64::from(a.ticks)))
     }
 
     fn run(&mut self, length: usize, script: &[u8], room: usize) -> Result<Answer, String> {
@@ -133,8 +129,7 @@ impl Side for Linked {
             answer.assume_init()
         };
         self.chip = a.chip;
-        let (offset, written) = (a.offset as u64, a.written as u64);
-        Ok(Answer { refusal: a.refusal, record: Record::None, offset, written, ticks: a.ticks })
+        Ok(Answer::to_run(a.refusal, a.offset as u64, a.written as u64, a.ticks))
     }
 
     fn memory(&mut self) -> &mut [u8] {

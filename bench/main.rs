@@ -1,31 +1,48 @@
 // The engine against the plain Rust model: the same cases on both, compared, then timed as ratios.
 
 #[allow(dead_code)]
+#[path = "../compare/bench.rs"]
+mod bench;
+#[allow(dead_code)]
 #[path = "../compare/case.rs"]
 mod case;
+#[path = "../compare/class.rs"]
+mod class;
 #[allow(dead_code)]
-#[path = "../compare/coverage.rs"]
-mod coverage;
+#[path = "../compare/commands.rs"]
+mod commands;
+#[path = "../compare/event.rs"]
+mod event;
+#[allow(dead_code)]
+#[path = "../compare/expected.rs"]
+mod expected;
 #[allow(dead_code)]
 #[path = "../compare/generate.rs"]
 mod generate;
+#[allow(dead_code)]
+#[path = "../compare/image.rs"]
+mod image;
 mod linked;
 #[path = "../second/model.rs"]
 mod model;
+#[path = "../compare/rng.rs"]
+mod rng;
+#[allow(dead_code)]
 #[path = "../compare/scenes.rs"]
 mod scenes;
 #[path = "../compare/side.rs"]
 mod side;
-#[allow(dead_code)]
-#[path = "../compare/states.rs"]
-mod states;
 mod timing;
 
-use case::{script_of, Bench, Case, Content, Event, Start, Step};
-use generate::{Rng, Writer};
+use bench::Bench;
+use case::{Case, Content, Start, Step};
+use event::{script_of, Event};
+use generate::Writer;
 use model::Chip;
+use rng::Rng;
 use side::Side;
 use std::process::ExitCode;
+use timing::Row;
 
 /// The longest script.
 const LONGEST: usize = 65_536;
@@ -33,15 +50,6 @@ const LONGEST: usize = 65_536;
 const SINGLE: usize = 20_000;
 /// Events of the cases of idle ticks.
 const IDLE: usize = 20_000;
-
-/// A case with its words, the number of bytes that a plain fill would set in its place, and the
-/// ratio that it is to stay within: to the fill where there is one, otherwise to the plain model.
-pub struct Row {
-    pub words: &'static str,
-    pub case: Case,
-    pub filled: Option<usize>,
-    pub target: Option<f64>,
-}
 
 /// The events of a frame.
 fn frame(bytes: impl IntoIterator<Item = u8>) -> Vec<Event> {

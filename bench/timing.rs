@@ -1,15 +1,24 @@
 // The times of the cases, on the engine and on the plain model in turn, as ratios of medians.
 
-use crate::case::{room_needed, Case, Step};
+use crate::case::{Case, Step};
+use crate::event::room_needed;
 use crate::linked::Linked;
 use crate::model::{self, Chip};
 use crate::side::{Side, OUTPUT_AREA};
-use crate::Row;
 use std::hint::black_box;
 use std::time::{Duration, Instant};
 
 /// Rounds of each case; the middle one counts.
 const ROUNDS: usize = 31;
+
+/// A case with its words, the number of bytes that a plain fill would set in its place, and the
+/// ratio that it is to stay within: to the fill where there is one, otherwise to the plain model.
+pub struct Row {
+    pub words: &'static str,
+    pub case: Case,
+    pub filled: Option<usize>,
+    pub target: Option<f64>,
+}
 
 /// The room that a step's records ask for.
 fn room(step: &Step) -> usize {

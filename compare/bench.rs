@@ -96,7 +96,8 @@ impl<'a> Bench<'a> {
 
     /// Compares what the two sides say about the legality of their chips.
     pub fn compare_legal(&mut self) -> Result<(), String> {
-        let (wanted, found) = (self.expected.chip.legal(self.length), self.other.legal(self.length)?);
+        let (wanted, found) =
+            (self.expected.chip.legal(self.length), self.other.legal(self.length)?);
         if wanted != found {
             return Err(format!("legal: {found} in place of {wanted}"));
         }

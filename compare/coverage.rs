@@ -4,7 +4,9 @@ use crate::case::{Start, Step, LENGTHS};
 use crate::class::Class;
 use crate::commands::{COMMANDS, EMPTY, UNKNOWN, UNSELECTED};
 use crate::event::{events_of, Event};
-use crate::model::{self, Chip, Record};
+use crate::expected::{Expected, NOTHING};
+use crate::image::{Edit, FLAGS};
+use crate::model::{Chip, Record};
 use crate::side::Answer;
 use crate::states::RULES;
 use std::collections::BTreeSet;
@@ -61,7 +63,7 @@ fn wanted(job: usize, fate: usize) -> usize {
 }
 
 /// Situations that have to occur, beside the cells of the tables.
-const SITUATIONS: [&str; 24] = [
+const SITUATIONS: [&str; 32] = [
     "working tick inside a frame",
     "last step inside a frame",
     "frame judged 6, ended without a job",
@@ -86,6 +88,14 @@ const SITUATIONS: [&str; 24] = [
     "lent frame, ended",
     "lent frame, byte driven",
     "lent frame, job begun",
+    "leftovers kept",
+    "leftovers gone by a last step",
+    "leftovers gone by the reset of a job",
+    "leftovers gone by a reset without a job",
+    "leftovers gone by a power cut",
+    "leftovers gone by an erase begun",
+    "leftovers gone by a write status begun",
+    "leftovers replaced by a program begun",
 ];
 
 /// All that has occurred.
@@ -93,10 +103,13 @@ pub struct Coverage {
     verdicts: [[u64; 13]; 23],
     refusals: [[u64; 8]; 3],
     fates: Vec<Vec<BTreeSet<u32>>>,
-    situations: [u64; 24],
+    situations: [u64; SITUATIONS.len()],
     over_top: [[u64; 2]; 6],
-    rules: [u64; 14],
+    rules: [u64; RULES.len()],
+    flags: [[u64; 3]; FLAGS.len()],
     has_lent: bool,
+    /// The flag of the case that is a byte above 1.
+    bad_flag: Option<usize>,
     frame_lent: bool,
     frame_bytes: usize,
     last_status: Option<u8>,
@@ -110,10 +123,12 @@ impl Coverage {
             verdicts: [[0; 13]; 23],
             refusals: [[0; 8]; 3],
             fates: vec![vec![BTreeSet::new(); FATES.len()]; JOBS.len()],
-            situations: [0; 24],
+            situations: [0; SITUATIONS.len()],
             over_top: [[0; 2]; 6],
-            rules: [0; 14],
+            rules: [0; RULES.len()],
+            flags: [[0; 3]; FLAGS.len()],
             has_lent,
+            bad_flag: None,
             frame_lent: false,
             frame_bytes: 0,
             last_status: None,
@@ -131,6 +146,10 @@ impl Coverage {
 
     /// Takes note of the start of a case.
     pub fn note_start(&mut self, start: &Start) {
+        self.bad_flag = match start {
+            Start::Lent(_, Edit::Flag(flag, _)) => Some(*flag),
+            _ => None,
+        };
         self.frame_lent = matches!(start, Start::Lent(chip, _) if chip.frame.byte_count > 0);
         self.frame_bytes = 0;
         self.last_status = None;
@@ -141,21 +160,30 @@ impl Coverage {
         self.rules[rule] += 1;
     }
 
-    /// Takes note of a step that was answered, from the model's chip before it, and gives the
-    /// number of its events; what is refused counts as one.
-    pub fn note_step(&mut self, before: &Chip, step: &Step, answer: &Answer, length: usize) -> u64 {
+    /// Takes note of a step that was answered, from the chip before it, and gives the number of its
+    /// events; what is refused counts as one.
+    pub fn note_step(
+        &mut self,
+        before: &Expected,
+        step: &Step,
+        answer: &Answer,
+        length: usize,
+    ) -> u64 {
         let entry = match step {
             Step::HandOver => return 0,
             Step::Event { lent, .. } => usize::from(*lent),
             Step::Run { .. } => 2,
         };
         self.refusals[entry][usize::from(answer.refusal)] += 1;
+        if let (Some(flag), 2) = (self.bad_flag, answer.refusal) {
+            self.flags[flag][entry] += 1;
+        }
         match step {
             _ if answer.refusal != 0 => 1,
             Step::Run { script, spare, .. } => {
-                let events: Vec<_> = events_of(script).0.into_iter().map(|e| e.1).collect();
+                let events = events_of(script).0;
                 let after = self.replay(before.clone(), &events, length);
-                self.note_run(before, script, *spare, &after);
+                self.note_run(&before.chip, script, *spare, &after.chip);
                 events.len() as u64
             }
             Step::Event { event, .. } => {
@@ -178,23 +206,52 @@ impl Coverage {
         self.saw("empty script done", script.is_empty());
     }
 
-    /// Applies events to the model's chip once more, over a memory whose content does not matter.
-    fn replay(&mut self, mut chip: Chip, events: &[Event], length: usize) -> Chip {
+    /// Applies events to the chip once more, over a memory whose content does not matter.
+    fn replay(&mut self, mut after: Expected, events: &[Event], length: usize) -> Expected {
         for event in events {
-            let before = chip.clone();
-            let memory = &mut self.memory[..length];
-            let answer = model::event(&mut chip, memory, event.0, event.1);
-            self.note_job(&before, *event, answer.record, &chip, length);
+            let before = after.clone();
+            let answer = after.event(&mut self.memory[..length], *event);
+            self.note_leftovers(&before, *event, answer.record, &after);
+            let (before, after) = (&before.chip, &after.chip);
+            self.note_job(before, *event, answer.record, after, length);
             match event.0 {
                 1 => self.saw("select while selected", before.selected),
-                2 => self.note_exchange(&before, answer.record, length),
-                3 | 8 => self.note_deselect(&before, answer.record, length),
-                4 | 5 => self.note_ticks(&before, &chip, answer.ticks),
+                2 => self.note_exchange(before, answer.record, length),
+                3 | 8 => self.note_deselect(before, answer.record, length),
+                4 | 5 => self.note_ticks(before, after, answer.ticks),
                 7 => self.close_frame(),
                 _ => {}
             }
         }
-        chip
+        after
+    }
+
+    /// Takes note of what an event does to leftovers; the load of a program is counted among them,
+    /// for it is what the program might leave.
+    fn note_leftovers(
+        &mut self,
+        before: &Expected,
+        event: Event,
+        record: Record,
+        after: &Expected,
+    ) {
+        self.saw("leftovers kept", before.left != NOTHING && before.left == after.left);
+        let job = after.chip.job.as_ref().map(Class::of);
+        let name = match (event.0, record, before.chip.frame.opcode) {
+            (4 | 5, _, _) if job.is_none() => "leftovers gone by a last step",
+            (3, Record::Verdict(1), 0x99) if before.chip.job.is_none() => {
+                "leftovers gone by a reset without a job"
+            }
+            (3, Record::Verdict(1), 0x99) => "leftovers gone by the reset of a job",
+            (3, Record::Verdict(2), _) => match job {
+                Some(Class::WriteStatus) => "leftovers gone by a write status begun",
+                Some(Class::Program) => "leftovers replaced by a program begun",
+                _ => "leftovers gone by an erase begun",
+            },
+            (7, _, _) => "leftovers gone by a power cut",
+            _ => return,
+        };
+        self.saw(name, before.holds_something() && after.left == NOTHING);
     }
 
     /// Forgets the frame that has ended.
@@ -355,10 +412,22 @@ impl Coverage {
             print!("{name:24}");
             faults += print_cells(counts, |number| numbers.contains(&(number as u8)));
         }
+        faults + self.report_rules()
+    }
+
+    /// Prints the rules of legality that were broken, and the flags above 1 by entry points.
+    fn report_rules(&self) -> usize {
+        let mut faults = 0;
         println!("\nstates that break one rule of legality alone, refused by 2");
         for ((name, _), count) in RULES.iter().zip(&self.rules) {
             println!("  {name:48}{count:>8}{}", mark(*count == 0));
             faults += usize::from(*count == 0);
+        }
+        println!("\nflags that are a byte above 1, refused by 2 at each entry point");
+        println!("{:24}{:>8}{:>8}{:>8}", "", "event", "lent", "run");
+        for (name, counts) in FLAGS.iter().zip(&self.flags) {
+            print!("{name:24}");
+            faults += print_cells(counts, |entry| entry != 1 || self.has_lent);
         }
         faults
     }

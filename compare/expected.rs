@@ -74,6 +74,11 @@ impl Expected {
         answer
     }
 
+    /// Whether its numbers hold what has to go with a job: leftovers, or a program's load.
+    pub fn holds_something(&self) -> bool {
+        self.left != NOTHING || self.image().held != BLANK
+    }
+
     /// The fields, among those that can be seen, in which a side's chip differs.
     pub fn difference(&self, found: &Image) -> Option<String> {
         let (mut wanted, mut found) = (self.image(), *found);

@@ -1,12 +1,13 @@
 // A copy of the model as the other side, with a planted fault or none, to test the harness itself.
 
 use crate::event::{events_of, Event};
-use crate::image::{edited_image, image_of, Edit, Image};
-use crate::model::{self, Chip, Job, JobKind, Record};
-use crate::side::{Answer, Side, MEMORY_AREA, OUTPUT_AREA};
+use crate::expected::Expected;
+use crate::image::{with_flags, Image};
+use crate::model::{self, Chip, EventAnswer, Job, JobKind, Record};
+use crate::side::{record_bytes, Answer, Side, MEMORY_AREA, OUTPUT_AREA};
 
 /// The faults, in words; the first five are errors that look right.
-pub const FAULTS: [&str; 16] = [
+pub const FAULTS: [&str; 21] = [
     "a load is laid down from the page start",
     "a program stores its bytes where cells only lose bits",
     "verdict 9 or 10 clears WEN",
@@ -23,27 +24,45 @@ pub const FAULTS: [&str; 16] = [
     "a loose deselect is taken as a deselect",
     "a power cut raises WP",
     "a script of 65,536 bytes is refused",
+    "a flag of 2 is taken as 1",
+    "the last step leaves the job's load behind",
+    "an erase begun keeps the old load",
+    "a reset without a job keeps a load that is left",
+    "a program blanks the part of its load that is done",
 ];
 
 /// The copy: its chip, memory and output, and the number of its fault.
 pub struct WrongCopy {
-    chip: Chip,
-    edit: Edit,
+    expected: Expected,
+    /// The chip's numbers: those that it was given until something is done.
+    image: Image,
     memory: Vec<u8>,
     output: Vec<u8>,
+    /// A memory whose content does not matter.
+    scratch: Vec<u8>,
     fault: Option<usize>,
 }
 
 impl WrongCopy {
     /// A copy with a fault of the list, or none.
     pub fn new(fault: Option<usize>) -> WrongCopy {
-        let (memory, output) = (vec![0; MEMORY_AREA], vec![0; OUTPUT_AREA]);
-        WrongCopy { chip: Chip::fresh(0), edit: Edit::None, memory, output, fault }
+        let (memory, scratch) = (vec![0; MEMORY_AREA], vec![0; MEMORY_AREA]);
+        let (expected, output) = (Expected::fresh(0), vec![0; OUTPUT_AREA]);
+        WrongCopy { image: expected.image(), expected, memory, output, scratch, fault }
     }
 
     /// Whether a fault is the planted one.
     fn has(&self, fault: usize) -> bool {
         self.fault == Some(fault)
+    }
+
+    /// Takes the numbers of the chip as it now is, with the fault.
+    fn take_numbers(&mut self) {
+        self.image = self.expected.image();
+        if self.has(20) && self.image.kind == 2 {
+            let done = 16 * self.image.done as usize;
+            self.image.held[..done].fill(0xFF);
+        }
     }
 
     /// Applies one event, with the fault.
@@ -54,44 +73,46 @@ impl WrongCopy {
             5 if self.has(6) && body > 2 && body < 65_536 => (5, body - 1),
             _ => (kind, body),
         };
-        let before = self.chip.clone();
-        if self.has(11) && before.frame.address == 1 << 24 {
-            self.chip.frame.address = 0;
+        let before = self.expected.clone();
+        if self.has(11) && before.chip.frame.address == 1 << 24 {
+            self.expected.chip.frame.address = 0;
         }
-        let answer = model::event(&mut self.chip, &mut self.memory[..length], kind, body);
-        let model::EventAnswer { refusal, record, ticks } = answer;
-        let mut answer = Answer { refusal, record, offset: 0, written: 0, ticks };
+        let answer = self.expected.event(&mut self.memory[..length], (kind, body));
+        let EventAnswer { refusal, mut record, ticks } = answer;
         if refusal == 0 {
-            self.spoil_state(&before, kind, record);
-            answer.record = self.spoil_record(&before, record, length);
+            self.spoil_state(&before.chip, kind, record);
+            self.spoil_leftovers(&before, kind, record);
+            record = self.spoil_record(&before.chip, record, length);
         } else if refusal == 6 && self.has(10) {
-            self.chip.armed = false;
+            self.expected.chip.armed = false;
+            self.image.flags[6] = 0;
         }
-        answer
+        Answer::to_event(refusal, record_bytes(record), ticks)
     }
 
     /// Plants the faults that are seen in the state or in memory.
     fn spoil_state(&mut self, before: &Chip, kind: u64, record: Record) {
         let program = matches!(before.frame.opcode, 0x02 | 0x0A);
         let job = before.job.as_ref();
+        let chip = &mut self.expected.chip;
         match (record, self.fault) {
             (Record::Verdict(2), Some(0)) if program => {
                 let offset = before.frame.address as usize % 256;
-                if let Some(Job { kind: JobKind::Program(load), .. }) = &mut self.chip.job {
+                if let Some(Job { kind: JobKind::Program(load), .. }) = &mut chip.job {
                     load.rotate_left(offset);
                 }
             }
-            (Record::Verdict(9 | 10), Some(2)) => self.chip.wen = before.job.is_some(),
+            (Record::Verdict(9 | 10), Some(2)) => chip.wen = before.job.is_some(),
             (Record::Verdict(4), Some(3)) if program && before.suspended => {
-                if let Some(Job { kind: JobKind::Program(load), .. }) = &mut self.chip.job {
+                if let Some(Job { kind: JobKind::Program(load), .. }) = &mut chip.job {
                     *load = before.frame.load;
                 }
             }
             (Record::None, Some(1)) if matches!(kind, 4 | 5) => self.store(job),
             (Record::None, Some(5)) => {
-                self.chip.wen |= job.is_some() && matches!(kind, 4 | 5);
+                chip.wen |= job.is_some() && matches!(kind, 4 | 5);
             }
-            (Record::None, Some(14)) if kind == 7 => self.chip.wp_high = true,
+            (Record::None, Some(14)) if kind == 7 => chip.wp_high = true,
             _ => {}
         }
     }
@@ -99,10 +120,26 @@ impl WrongCopy {
     /// Stores a load that had steps to do, up to the step that was done last.
     fn store(&mut self, job: Option<&Job>) {
         let Some(Job { kind: JobKind::Program(load), place, steps_done }) = job else { return };
-        let end = self.chip.job.as_ref().map_or(16, |job| job.steps_done);
+        let end = self.expected.chip.job.as_ref().map_or(16, |job| job.steps_done);
         let part = 16 * *steps_done as usize..16 * end as usize;
         let page = &mut self.memory[*place as usize..][..256];
         page[part.clone()].copy_from_slice(&load[part]);
+    }
+
+    /// Plants the faults that are seen in what a gone job leaves.
+    fn spoil_leftovers(&mut self, before: &Expected, kind: u64, record: Record) {
+        let Chip { job, frame, .. } = &before.chip;
+        let kept = match (record, self.fault) {
+            (Record::None, Some(17)) => matches!(kind, 4 | 5) && self.expected.chip.job.is_none(),
+            (Record::Verdict(2), Some(18)) => {
+                matches!(frame.opcode, 0x20 | 0xD7 | 0xD8 | 0x60 | 0xC7)
+            }
+            (Record::Verdict(1), Some(19)) => frame.opcode == 0x99 && job.is_none(),
+            _ => false,
+        };
+        if kept {
+            self.expected.left.held = before.image().held;
+        }
     }
 
     /// Plants the faults that are seen in a record.
@@ -115,62 +152,66 @@ impl WrongCopy {
         }
         let top = length as u32 - 1;
         if self.has(7) && read && frame.read_place == top && matches!(record, Record::Driven(_)) {
-            self.chip.frame.read_place = top;
+            self.expected.chip.frame.read_place = top;
         }
         record
     }
 
     /// Runs the events of a script that the model takes, one by one, with the fault.
     fn run_events(&mut self, length: usize, script: &[u8]) -> Answer {
-        let mut answer =
-            Answer { refusal: 0, record: Record::None, offset: 0, written: 0, ticks: 0 };
-        let mut at = 0;
-        for (_, event) in events_of(script).0 {
+        let (mut written, mut ticks) = (0, 0);
+        for event in events_of(script).0 {
             let done = self.apply(length, event);
-            answer.ticks += done.ticks;
-            let bytes = match done.record {
-                Record::None => vec![],
-                Record::Floating => vec![0x80],
-                Record::Driven(byte) => vec![0x81, byte],
-                Record::Verdict(verdict) => vec![0x82, verdict],
-            };
-            self.output[at..at + bytes.len()].copy_from_slice(&bytes);
-            at += bytes.len();
+            let record = &done.record.bytes[..usize::from(done.record.length)];
+            self.output[written..written + record.len()].copy_from_slice(record);
+            written += record.len();
+            ticks += done.ticks;
         }
-        answer.written = at as u64;
-        answer
+        Answer::to_run(0, 0, written as u64, ticks)
     }
+}
+
+/// The chip that numbers would mean if a flag of 2 were 1.
+fn lenient_chip(chip: &Chip, image: &Image) -> Chip {
+    let flags = image.flags.map(|flag| matches!(flag, 1 | 2));
+    Chip { level: image.level, ..with_flags(chip, flags) }
 }
 
 impl Side for WrongCopy {
     fn fresh(&mut self, status: u8) -> Result<(), String> {
-        self.put(&Chip::fresh(status), &Edit::None)
+        self.expected = Expected::fresh(status);
+        self.take_numbers();
+        Ok(())
     }
 
-    fn put(&mut self, chip: &Chip, edit: &Edit) -> Result<(), String> {
-        (self.chip, self.edit) = (chip.clone(), edit.clone());
+    fn put(&mut self, chip: &Chip, image: &Image) -> Result<(), String> {
+        self.expected = Expected::lent(chip, image);
+        if self.has(16) && image.flags.contains(&2) {
+            self.expected.chip = lenient_chip(chip, image);
+        }
+        self.image = *image;
         Ok(())
     }
 
     fn image(&self) -> Image {
-        match self.edit {
-            Edit::Free(_) => image_of(&self.chip),
-            _ => edited_image(&self.chip, &self.edit),
-        }
+        self.image
     }
 
     fn legal(&mut self, length: usize) -> Result<bool, String> {
-        Ok(self.chip.legal(length))
+        Ok(self.expected.chip.legal(length))
     }
 
     fn event(&mut self, length: usize, event: Event, _: bool) -> Result<Answer, String> {
-        Ok(self.apply(length, event))
+        let answer = self.apply(length, event);
+        if answer.refusal == 0 {
+            self.take_numbers();
+        }
+        Ok(answer)
     }
 
     fn run(&mut self, length: usize, script: &[u8], room: usize) -> Result<Answer, String> {
-        let (mut chip, mut memory) = (self.chip.clone(), self.memory[..length].to_vec());
-        let mut output = vec![0; room];
-        let answer = model::run(&mut chip, &mut memory, script, &mut output);
+        let (mut chip, mut output) = (self.expected.chip.clone(), vec![0; room]);
+        let answer = model::run(&mut chip, &mut self.scratch[..length], script, &mut output);
         let mut refusal = answer.refusal;
         if self.has(15) && script.len() == 65_536 && refusal == 0 {
             refusal = 3;
@@ -179,13 +220,13 @@ impl Side for WrongCopy {
             if self.has(8) && refusal >= 4 && room > 0 {
                 self.output[room - 1] = 0;
             }
-            let offset = answer.offset as u64;
-            return Ok(Answer { refusal, record: Record::None, offset, written: 0, ticks: 0 });
+            return Ok(Answer::to_run(refusal, answer.offset as u64, 0, 0));
         }
         let answer = self.run_events(length, script);
         if self.has(9) && (answer.written as usize) < room {
             self.output[answer.written as usize] = 0;
         }
+        self.take_numbers();
         Ok(answer)
     }
 

@@ -9,6 +9,7 @@ mod class;
 mod commands;
 mod coverage;
 mod event;
+mod expected;
 mod faults;
 mod generate;
 mod image;
@@ -25,20 +26,26 @@ use bench::Bench;
 use plan::Session;
 use side::Side;
 use std::process::ExitCode;
+use std::time::Duration;
 use words::case_words;
 
 /// Random events of the quick run, after those that are planned.
 const QUICK: u64 = 600_000;
 /// Random events that a planted fault is given to show itself.
 const SELF_TEST: u64 = 200_000;
+/// The time that a case with a difference is given to get small.
+const PATIENCE: Duration = Duration::from_secs(20);
+/// The time that a case with a planted fault is given: what is wrong is known.
+const SELF_PATIENCE: Duration = Duration::from_millis(500);
 
 /// Runs the plan and a number of random events; prints the tables, or the difference made small.
-fn compare(other: &mut dyn Side, seed: u64, events: u64, quiet: bool) -> bool {
+/// A planted fault needs no tables and less patience.
+fn compare(other: &mut dyn Side, seed: u64, events: u64, planted: bool) -> bool {
     let mut session = Session::new(Bench::new(other), seed);
     let failed = session.planned().and_then(|()| session.random(events)).err();
     let Some(failure) = failed else {
         println!("seed {seed}: {} cases, {} events, no difference", session.cases, session.events);
-        let faults = if quiet { 0 } else { session.coverage.report() };
+        let faults = if planted { 0 } else { session.coverage.report() };
         if faults > 0 {
             println!("\n{faults} cells marked ! are empty, or filled and listed as impossible");
         }
@@ -47,7 +54,8 @@ fn compare(other: &mut dyn Side, seed: u64, events: u64, quiet: bool) -> bool {
     let number = session.cases;
     println!("seed {seed}: a difference in case {number}, after {} events", session.events);
     println!("{}", failure.difference);
-    let (small, difference) = shrink::shrink(&mut session.bench, failure.case);
+    let patience = if planted { SELF_PATIENCE } else { PATIENCE };
+    let (small, difference) = shrink::shrink(&mut session.bench, failure.case, patience);
     println!("made smaller:\n{}", case_words(&small));
     println!("{}", difference.unwrap_or("it does not come again".to_string()));
     false

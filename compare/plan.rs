@@ -7,7 +7,7 @@ use crate::commands::COMMANDS;
 use crate::coverage::Coverage;
 use crate::event::{room_needed, script_of, Event};
 use crate::generate::Writer;
-use crate::image::Edit;
+use crate::image::{Edit, FLAGS};
 use crate::model::Chip;
 use crate::rng::Rng;
 use crate::scenes::SCENES;
@@ -15,10 +15,6 @@ use crate::states;
 
 /// The longest script that a run takes.
 const LONGEST: usize = 65_536;
-
-/// Whether what a legal state leaves free is filled with noise in some lent states: it has to be
-/// accepted and to influence nothing.
-const FREE_FIELDS: bool = true;
 
 /// Memory lengths that are none of the six.
 const WRONG_LENGTHS: [usize; 11] = [
@@ -86,7 +82,7 @@ impl<'a> Session<'a> {
 
     /// Does a step on both sides.
     fn step(&mut self, step: Step) -> Result<u8, Failure> {
-        let before = self.bench.chip.clone();
+        let before = self.bench.expected.clone();
         let answer = self.bench.perform(&step);
         if let Ok(answer) = &answer {
             self.events += self.coverage.note_step(&before, &step, answer, self.case.length);
@@ -104,9 +100,20 @@ impl<'a> Session<'a> {
     /// Lets a writer write events for the chip as it is.
     fn write(&mut self, scene: impl FnOnce(&mut Writer)) -> Vec<Event> {
         let memory = &mut self.scratch[..self.case.length];
-        let mut writer = Writer::new(&mut self.rng, self.bench.chip.clone(), memory);
+        let mut writer = Writer::new(&mut self.rng, self.bench.expected.chip.clone(), memory);
         scene(&mut writer);
         writer.events
+    }
+
+    /// No edit, or what a legal state leaves free filled with noise: it has to be accepted, to be
+    /// kept and to influence nothing.
+    fn any_edit(&mut self) -> Edit {
+        let seed = self.rng.next();
+        if self.rng.once_in(2) {
+            Edit::Free(seed)
+        } else {
+            Edit::None
+        }
     }
 
     /// Whether the next single event goes through a lent chip record.
@@ -155,12 +162,12 @@ impl<'a> Session<'a> {
         Ok(())
     }
 
-    /// Does what is planned.
+    /// Does what is planned; what takes long comes last, so that most faults are found early.
     pub fn planned(&mut self) -> Outcome {
         self.fresh_states()?;
-        for length in LENGTHS {
-            self.broken_states(length)?;
-        }
+        self.leftovers()?;
+        self.broken_states(LENGTHS[0])?;
+        self.all_refusals()?;
         self.all_cells()?;
         self.lent_frames()?;
         self.all_fates()?;
@@ -168,9 +175,11 @@ impl<'a> Session<'a> {
             self.some_fates(length)?;
             self.erase_walk(length)?;
         }
+        for length in &LENGTHS[1..] {
+            self.broken_states(*length)?;
+        }
         self.limits(LENGTHS[0])?;
-        self.limits(LENGTHS[5])?;
-        self.all_refusals()
+        self.limits(LENGTHS[5])
     }
 
     /// Fresh states from every status byte, read back.
@@ -183,32 +192,60 @@ impl<'a> Session<'a> {
         Ok(())
     }
 
-    /// States that break one rule alone: refused by 2 at every entry point and before 3 to 7, and
-    /// not before 1.
-    fn broken_states(&mut self, length: usize) -> Outcome {
-        for (rule, chip, edit) in states::broken(&mut self.rng, length) {
-            self.open(length, Start::Lent(Box::new(chip), edit), Content::Blank)?;
-            let events = [(1, 0), (2, 0x05), (4, 0), (7, 0), (0, 0), (6, 2)];
-            let (first, second) = (self.rng.pick(&events), self.rng.pick(&events));
-            let mut steps = vec![Step::Event { event: first, lent: false, length: None }];
-            if self.bench.has_lent() {
-                steps.push(Step::Event { event: second, lent: true, length: None });
+    /// States with a job of each class or none, in whose numbers stands what no job is there for:
+    /// kept by what leaves jobs alone, and gone by each event that has to clear it.
+    fn leftovers(&mut self) -> Outcome {
+        let classes = [LONG_JOBS.as_slice(), &[Class::WriteStatus]].concat();
+        for class in classes.into_iter().map(Some).chain([None]) {
+            for end in ENDS.repeat(if class.is_none() { 16 } else { 4 }) {
+                let length = self.rng.pick(&LENGTHS[..2]);
+                let mut chip = states::legal_unselected(&mut self.rng, length, class);
+                (chip.deep, chip.srwp, chip.level) = (false, false, 0);
+                let (edit, content) = (Edit::Free(self.rng.next()), Content::Blank);
+                self.open(length, Start::Lent(Box::new(chip), edit), content)?;
+                let events = self.write(|writer| {
+                    writer.calm = true;
+                    writer.leave_alone();
+                    end(writer);
+                    writer.leave_alone();
+                });
+                self.deliver(&events)?;
+                self.close()?;
             }
-            let scripts =
-                [vec![], vec![1, 2, 5, 2, 0, 3], vec![1, 9], vec![2], vec![4; LONGEST + 1]];
-            for script in scripts {
-                let spare = self.rng.pick(&[0, -1, 3]);
-                steps.push(Step::Run { script, spare, length: None });
-            }
-            for step in steps {
-                let refusal = self.step(step)?;
-                assert_eq!(refusal, 2);
-            }
-            self.coverage.note_rule(rule);
-            self.wrong_length()?;
-            self.close()?;
         }
         Ok(())
+    }
+
+    /// States that break one rule alone, every rule in every way.
+    fn broken_states(&mut self, length: usize) -> Outcome {
+        for (rule, chip, edit) in states::broken(&mut self.rng, length) {
+            self.broken_state(length, chip, edit)?;
+            self.coverage.note_rule(rule);
+        }
+        Ok(())
+    }
+
+    /// A state that is not legal: refused by 2 at every entry point and before 3 to 7, and not
+    /// before 1.
+    fn broken_state(&mut self, length: usize, chip: Chip, edit: Edit) -> Outcome {
+        self.open(length, Start::Lent(Box::new(chip), edit), Content::Blank)?;
+        let events = [(1, 0), (2, 0x05), (4, 0), (7, 0), (0, 0), (6, 2)];
+        let (first, second) = (self.rng.pick(&events), self.rng.pick(&events));
+        let mut steps = vec![Step::Event { event: first, lent: false, length: None }];
+        if self.bench.has_lent() {
+            steps.push(Step::Event { event: second, lent: true, length: None });
+        }
+        let scripts = [vec![], vec![1, 2, 5, 2, 0, 3], vec![1, 9], vec![2], vec![4; LONGEST + 1]];
+        for script in scripts {
+            let spare = self.rng.pick(&[0, -1, 3]);
+            steps.push(Step::Run { script, spare, length: None });
+        }
+        for step in steps {
+            let refusal = self.step(step)?;
+            assert_eq!(refusal, 2);
+        }
+        self.wrong_length()?;
+        self.close()
     }
 
     /// Any step over a memory length that is none of the six.
@@ -254,8 +291,8 @@ impl<'a> Session<'a> {
                 let length = self.rng.pick(&[LENGTHS[0], LENGTHS[0], LENGTHS[1], LENGTHS[3]]);
                 let opcode = command.opcode.unwrap_or(self.rng.byte());
                 let chip = states::with_frame(&mut self.rng, length, opcode, count);
-                let content = Content::Noise(self.rng.next());
-                self.open(length, Start::Lent(Box::new(chip), Edit::None), content)?;
+                let (edit, content) = (self.any_edit(), Content::Noise(self.rng.next()));
+                self.open(length, Start::Lent(Box::new(chip), edit), content)?;
                 let events = self.write(|writer| writer.go_on());
                 self.deliver(&events)?;
                 self.close()?;
@@ -310,7 +347,7 @@ impl<'a> Session<'a> {
             [vec![(1, 0)], exchanges.collect(), vec![(3, 0)]].concat()
         };
         let one_step = [frame(&[0xB0]), frame(&[0x05, 0]), frame(&[0x30]), vec![(4, 0)]].concat();
-        while self.bench.chip.job.is_some() {
+        while self.bench.expected.chip.job.is_some() {
             self.one_run(&one_step.repeat(64))?;
         }
         self.close()
@@ -355,10 +392,14 @@ impl<'a> Session<'a> {
         script
     }
 
-    /// Every sort of refusal, many times, between the scenes of one case.
+    /// Every sort of refusal, many times, on an armed chip too, between the scenes of one case.
     fn all_refusals(&mut self) -> Outcome {
         self.open_fresh(LENGTHS[0], 0x08)?;
         for _ in 0..400 {
+            if self.rng.once_in(4) {
+                let events = self.write(|writer| writer.frame(&[0x66]));
+                self.one_run(&events)?;
+            }
             self.refusal()?;
             if self.rng.once_in(4) {
                 self.scene()?;
@@ -367,32 +408,37 @@ impl<'a> Session<'a> {
         self.close()
     }
 
-    /// Random cases until so many events more are done.
+    /// Random cases until so many events more are done, some of them from a state with a bad flag.
     pub fn random(&mut self, events: u64) -> Outcome {
         let end = self.events + events;
         while self.events < end {
-            self.random_case()?;
+            let sectors = self.rng.pick(&[1, 1, 1, 1, 1, 1, 1, 2, 2, 4, 4, 8, 16, 32]);
+            let length = sectors * Chip::SECTOR;
+            if self.rng.once_in(10) {
+                let (flag, byte) = (self.rng.below(FLAGS.len()), self.rng.byte().max(2));
+                let (chip, edit) = states::with_bad_flag(&mut self.rng, length, flag, byte);
+                self.broken_state(length, chip, edit)?;
+            } else {
+                self.random_case(length)?;
+            }
         }
         Ok(())
     }
 
     /// One random case: a start and scenes, with refusals and hand-overs between them.
-    fn random_case(&mut self) -> Outcome {
-        let sectors = self.rng.pick(&[1, 1, 1, 1, 1, 1, 1, 2, 2, 4, 4, 8, 16, 32]);
-        let length = sectors * Chip::SECTOR;
+    fn random_case(&mut self, length: usize) -> Outcome {
         let (seed, status) = (self.rng.next(), self.rng.byte());
         let content = self.rng.pick(&[Content::Blank, Content::Noise(seed), Content::Noise(seed)]);
         let start = match self.rng.below(6) {
             0 | 1 => Start::Fresh(status),
             2 => Start::Fresh(0),
-            number => {
-                let free = number == 3 && FREE_FIELDS;
-                let edit = if free { Edit::Free(seed) } else { Edit::None };
+            _ => {
+                let edit = self.any_edit();
                 Start::Lent(Box::new(states::legal(&mut self.rng, length)), edit)
             }
         };
         self.open(length, start, content)?;
-        if self.bench.chip.selected && self.rng.once_in(2) {
+        if self.bench.expected.chip.selected && self.rng.once_in(2) {
             let events = self.write(|writer| writer.go_on());
             self.deliver(&events)?;
         }
@@ -491,6 +537,34 @@ impl<'a> Session<'a> {
         let any = self.rng.byte();
         let last = [vec![2], vec![5], vec![5, 0], vec![5, any], vec![6], vec![8], vec![any]];
         last[self.rng.below(last.len())].clone()
+    }
+}
+
+/// What may become of leftovers: nothing, or that they go by the job's last step, by a reset, by a
+/// power cut, or by a job that begins, in the place of a suspended one if there is one.
+const ENDS: [fn(&mut Writer); 9] = [
+    |_| {},
+    |writer| {
+        if writer.chip.suspended {
+            writer.frame(&[0x30]);
+        }
+        writer.ticks(writer.steps_left());
+    },
+    |writer| writer.reset(),
+    |writer| writer.put(7, 0),
+    |writer| begin_here(writer, Class::WriteStatus),
+    |writer| begin_here(writer, Class::Program),
+    |writer| begin_here(writer, Class::SmallSector),
+    |writer| begin_here(writer, Class::Sector),
+    |writer| begin_here(writer, Class::Chip),
+];
+
+/// Begins a job of a class, in the place of the suspended one if there is one.
+fn begin_here(writer: &mut Writer, class: Class) {
+    if writer.chip.suspended {
+        writer.drop_by(class);
+    } else {
+        writer.begin(class);
     }
 }
 

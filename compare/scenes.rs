@@ -202,6 +202,30 @@ pub const SCENES: [fn(&mut Writer); 14] = [
 ];
 
 impl Writer<'_> {
+    /// Some events that end no job and begin none.
+    pub fn leave_alone(&mut self) {
+        for _ in 0..2 + self.rng.below(4) {
+            match self.rng.below(10) {
+                0 => self.frame(&[0x05, 0, 0]),
+                1 => self.frame(&[0x03, 0, 0, 0, 0, 0]),
+                2 => self.reach_spoiled_here(0x02),
+                3 => self.wp(),
+                4 if self.chip.job.is_none() => {
+                    self.frame(&[0xB9]);
+                    self.frame(&[0xAB]);
+                }
+                4 if self.chip.suspended => self.frame(&[0x30]),
+                4 => self.frame(&[0xB0]),
+                5 if !self.chip.armed => self.frame(&[0x99]),
+                6 if !self.chip.wen => self.frame(&[0x20, 0, 0, 0]),
+                7 => self.frame(&[0x66]),
+                _ if !self.running() => self.some_ticks(),
+                _ if self.steps_left() > 1 => self.ticks(1),
+                _ => self.put(2, 0x99),
+            }
+        }
+    }
+
     /// More of the frame that is open, its end, and time for the job that it may have begun.
     pub fn go_on(&mut self) {
         let mut bytes = vec![0; self.rng.pick(&[0, 1, 1, 2, 3, 4, 5, 8])];

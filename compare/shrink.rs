@@ -4,7 +4,7 @@ use crate::bench::Bench;
 use crate::case::{Case, Content, Start, Step, LENGTHS};
 use crate::event::{events_of, script_of, Event};
 use crate::image::Edit;
-use crate::model::Chip;
+use crate::model::{Chip, Job, JobKind};
 use std::time::{Duration, Instant};
 
 /// A failing case on its way to a smaller one.
@@ -217,10 +217,10 @@ fn smaller_events((kind, body): Event) -> Vec<Event> {
     bodies.into_iter().map(|body| (kind, body)).collect()
 }
 
-/// Chips with one part of a lent chip made as in a fresh state.
+/// Chips with one part of a lent chip made as in a fresh state, or plain.
 fn plainer_chips(chip: &Chip) -> Vec<Chip> {
     let fresh = Chip::fresh(0);
-    let changes: [fn(&mut Chip, &Chip); 9] = [
+    let changes: [fn(&mut Chip, &Chip); 11] = [
         |chip, fresh| chip.frame = fresh.frame.clone(),
         |chip, fresh| chip.frame.load = fresh.frame.load,
         |chip, _| chip.frame.address = 0,
@@ -230,6 +230,16 @@ fn plainer_chips(chip: &Chip) -> Vec<Chip> {
         |chip, _| chip.wp_high = true,
         |chip, _| chip.armed = false,
         |chip, _| chip.job = None,
+        |chip, _| {
+            if let Some(Job { kind: JobKind::Program(load), .. }) = &mut chip.job {
+                *load = [0; 256];
+            }
+        },
+        |chip, _| {
+            if let Some(job) = &mut chip.job {
+                job.place = 0;
+            }
+        },
     ];
     let mut plainer = Vec::new();
     for change in changes {

@@ -70,14 +70,14 @@ fn step_words(step: &Step) -> String {
     }
 }
 
-/// A start in words, the frame's and the job's load only where they are not blank.
+/// A start in words, the frame's and the job's load only where they are not plain.
 fn start_words(start: &Start) -> String {
     let Start::Lent(chip, edit) = start else {
         let Start::Fresh(status) = start else { return String::new() };
         return format!("fresh from status {status:02X}h");
     };
     let text = format!("lent state {chip:?}, edit {edit:?}");
-    text.replace(&format!("{BLANK:?}"), "blank")
+    text.replace(&format!("{BLANK:?}"), "blank").replace(&format!("{:?}", [0; 256]), "zeros")
 }
 
 /// A case in words.

@@ -1,55 +1,45 @@
--- What a verdict does to the core: a job begun, something done at once, arming and disarming (01, Commands; Verdicts; Jobs).
+-- What a verdict does: a job begun, something done at once, arming and disarming, and what becomes of the job's load (RULES, Verdicts; Jobs).
 use Prim.Native.Nat.{ℕ}
 use mathlib.Core.Bool.{Bool, true, false, cond, _&&_}
+use mathlib.Core.List.{List}
 use lib.Dec.{eqb}
 use Rattle.part.specs.Table.{isProgram, writeEnable, writeDisable, suspend, resume, wake, deepPowerDown, resetEnable, reset}
 use Rattle.chip.specs.declared.Core.{Core}
 use Rattle.chip.specs.declared.Frame.{Frame}
-use Rattle.chip.specs.declared.Job.{Job}
+use Rattle.chip.specs.Fields.{withWen, withSuspended, withDeep, withArmed, withJob}
 use Rattle.chip.specs.Job.{noJob}
-use Rattle.verdict.specs.Verdict.{jobOf, placeOf}
+use Rattle.chip.specs.Chip.{blankLoad}
+use Rattle.verdict.specs.Verdict.{jobAsked}
 
--- the core with this WEN, SUS, deep power-down and job; bits 2 to 5 and 7, WP and arming as they are
-abbrev pub changed : Bool → Bool → Bool → Job → Core → Core
-changed wen suspended deep job k =
-    record
-    { level = k .level; tb = k .tb; srwp = k .srwp; wen = wen; suspended = suspended; wp = k .wp; deep = deep; armed = k .armed; job = job }
+-- verdict 2: the frame's job begins, on a part of S sectors; a suspended one is dropped for it
+abbrev pub begins : ℕ → Core → Frame → Core
+begins S k f = withSuspended false (withJob (jobAsked S f) k)
 
-abbrev pub armedAs : Bool → Core → Core
-armedAs armed k =
-    record
-    { level = k .level; tb = k .tb; srwp = k .srwp; wen = k .wen; suspended = k .suspended; wp = k .wp; deep = k .deep; armed = armed; job = k .job }
-
--- verdict 2: the frame's job begins; "A job begun while suspended drops the old job where it stands"
-abbrev pub begins : Core → Frame → ℕ → Core
-begins k f n =
-    changed (k .wen) false (k .deep)
-    (record { kind = jobOf (f .opcode) (f .address); place = placeOf (jobOf (f .opcode) (f .address)) n (f .address); done = 0 })
-    k
-
--- "Reset drops the job, clears WEN and SUS, and keeps the other bits"
+-- a reset drops the job and clears WEN and SUS
 abbrev pub resets : Core → Core
-resets k = changed false false (k .deep) noJob k
+resets k = withWen false (withSuspended false (withJob noJob k))
 
--- verdict 1: write enable and disable, suspend ("takes effect at once"), resume ("clears SUS"), wake, deep power-down, reset; reset enable only arms
+-- verdict 1: write enable and disable, suspend and resume, wake and deep power-down, reset; reset enable does nothing but arm
 unfoldable pub instantly : Core → ℕ → Core
 instantly k opcode =
-    cond (eqb opcode writeEnable) (changed true (k .suspended) (k .deep) (k .job) k)
-    (cond (eqb opcode writeDisable) (changed false (k .suspended) (k .deep) (k .job) k)
-    (cond (eqb opcode suspend) (changed (k .wen) true (k .deep) (k .job) k)
-    (cond (eqb opcode resume) (changed (k .wen) false (k .deep) (k .job) k)
-    (cond (eqb opcode wake) (changed (k .wen) (k .suspended) false (k .job) k)
-    (cond (eqb opcode deepPowerDown) (changed (k .wen) (k .suspended) true (k .job) k)
+    cond (eqb opcode writeEnable) (withWen true k)
+    (cond (eqb opcode writeDisable) (withWen false k)
+    (cond (eqb opcode suspend) (withSuspended true k)
+    (cond (eqb opcode resume) (withSuspended false k)
+    (cond (eqb opcode wake) (withDeep false k)
+    (cond (eqb opcode deepPowerDown) (withDeep true k)
     (cond (eqb opcode reset) (resets k) k))))))
 
--- what a verdict does: 2 begins, 1 is done at once, and "Verdicts 3 to 12 change no cell, no job and no status bit"
-unfoldable pub acted : Core → Frame → ℕ → ℕ → Core
-acted k f v n = cond (eqb v 2) (begins k f n) (cond (eqb v 1) (instantly k (f .opcode)) k)
+-- 2 begins, 1 acts, and every other verdict leaves all as it was
+unfoldable pub acted : ℕ → Core → Frame → ℕ → Core
+acted S k f v = cond (eqb v 2) (begins S k f) (cond (eqb v 1) (instantly k (f .opcode)) k)
 
--- "66h accepted arms; any other frame of at least one whole byte disarms .. A frame without a whole byte leaves arming as it was"
-unfoldable pub settled : Core → Frame → ℕ → ℕ → Core
-settled k f v n = cond (eqb (f .count) 0) k (armedAs (eqb (f .opcode) resetEnable && eqb v 1) (acted k f v n))
+-- a 66h that is done arms, any other frame with a whole byte disarms, and one without leaves arming alone
+unfoldable pub settled : ℕ → Core → Frame → ℕ → Core
+settled S k f v = cond (eqb (f .count) 0) k (withArmed (eqb (f .opcode) resetEnable && eqb v 1) (acted S k f v))
 
--- whether the frame's load becomes the job's: a program begun
-abbrev pub handsOver : Frame → ℕ → Bool
-handsOver f v = isProgram (f .opcode) && eqb v 2
+-- the job's load: a program begun takes the frame's; any other job begun, and a reset, leave a blank one
+unfoldable pub heldAfter : Frame → ℕ → List ℕ → List ℕ → List ℕ
+heldAfter f v load held =
+    cond (eqb v 2) (cond (isProgram (f .opcode)) load blankLoad)
+    (cond (eqb v 1 && eqb (f .opcode) reset) blankLoad held)

@@ -1,21 +1,25 @@
 -- What is true of verdicts: what 1 and 2 say of the frame and the state, and that the others change no job and no status bit.
 use Prim.Native.Nat.{ℕ}
 use mathlib.Core.Bool.{Bool, true, false, cond, not, _&&_, _||_, false≢true}
+use mathlib.Core.List.{List}
 use mathlib.Core.Path.{_≡_, refl, sym, ap, subst, _∙_}
 use native.Mathlib.Omega.{arith}
 use lib.Dec.{eqb}
 use borrow.Author.Tests.{eq-eqb, ne-eqb, eqb-true, eqb-false}
-use Rattle.cells.specs.Choice.{cond-yes, cond-no, cond-either, and-left, and-right}
-use Rattle.part.specs.Table.{rowOf, fitsRule, isRead, writeEnable, writeDisable, suspend, resume, wake, deepPowerDown, reset}
+use Rattle.cells.specs.Choice.{cond-yes, cond-no, cond-either, and-left, and-right, and-both, not-so}
+use Rattle.part.specs.Table.{rowOf, fitsRule, isRead, isProgram, writeEnable, writeDisable, suspend, resume, wake, deepPowerDown, reset}
 use Rattle.chip.specs.declared.Core.{Core}
 use Rattle.chip.specs.declared.Frame.{Frame}
+use Rattle.chip.specs.declared.Job.{Job}
 use Rattle.chip.specs.declared.JobKind.{JobKind}
+use Rattle.chip.specs.Fields.{withWen, withSuspended, withDeep}
 use Rattle.chip.specs.Job.{isJob, hasCells}
+use Rattle.chip.specs.Chip.{blankLoad}
 use Rattle.chip.specs.Legal.{judgementKnown}
 use Rattle.frame.specs.Frame.{judge}
 use Rattle.frame.specs.Legality.{judge-known}
-use Rattle.verdict.specs.Verdict.{jobOf, placeOf, targetProtected, pointless, jobVerdict, commandVerdict, listed, verdict}
-use Rattle.verdict.specs.Effect.{changed, armedAs, begins, resets, instantly, acted, settled}
+use Rattle.verdict.specs.Verdict.{jobOf, jobAsked, targetProtected, pointless, jobVerdict, commandVerdict, listed, verdict}
+use Rattle.verdict.specs.Effect.{resets, instantly, acted, heldAfter}
 
 -- a judgement is neither 1 nor 2
 known-not-one : (v : ℕ) → judgementKnown v ≡ true → v ≡ 1 → ⊥
@@ -25,11 +29,11 @@ known-not-two : (v : ℕ) → judgementKnown v ≡ true → v ≡ 2 → ⊥
 known-not-two v h e = false≢true (subst (λ (q : ℕ). judgementKnown q ≡ true) e h)
 
 -- what verdict 2 says: the frame begins a job, WEN is 1 and the target is free
-pub record Begins (k : Core) (f : Frame) (S n : ℕ) : Type 0 where
+pub record Begins (S : ℕ) (k : Core) (f : Frame) : Type 0 where
   pub judged-none : judge k (f .opcode) ≡ 0
   pub begins-job : isJob (jobOf (f .opcode) (f .address)) ≡ true
   pub enabled : k .wen ≡ true
-  pub target-free : targetProtected k (jobOf (f .opcode) (f .address)) S (placeOf (jobOf (f .opcode) (f .address)) n (f .address)) ≡ false
+  pub target-free : targetProtected S k (jobAsked S f .kind) (jobAsked S f .start) ≡ false
 
 -- what verdict 1 says: the frame begins no job, and has something to act on
 pub record ActsAtOnce (k : Core) (f : Frame) : Type 0 where
@@ -37,16 +41,16 @@ pub record ActsAtOnce (k : Core) (f : Frame) : Type 0 where
   pub begins-none : isJob (jobOf (f .opcode) (f .address)) ≡ false
   pub acts : pointless k (f .opcode) ≡ false
 
-module _ (k : Core) (f : Frame) (loose : Bool) (S n : ℕ) (known : judgementKnown (f .judgement) ≡ true) where
+module _ (S : ℕ) (k : Core) (f : Frame) (loose : Bool) (known : judgementKnown (f .judgement) ≡ true) where
   abbrev kind : JobKind
   kind = jobOf (f .opcode) (f .address)
 
-  abbrev place : ℕ
-  place = placeOf kind n (f .address)
+  abbrev start : ℕ
+  start = jobAsked S f .start
 
   -- a verdict of 1 or 2 comes from the end of the list
-  listed-command : (v : ℕ) → (judgementKnown v ≡ true → ⊥) → (v ≡ 4 → ⊥) → verdict k f loose S n ≡ v
-      → (judge k (f .opcode) ≡ 0) × (commandVerdict k f S n ≡ v)
+  listed-command : (v : ℕ) → (judgementKnown v ≡ true → ⊥) → (v ≡ 4 → ⊥) → verdict S k f loose ≡ v
+      → (judge k (f .opcode) ≡ 0) × (commandVerdict S k f ≡ v)
   unfolding verdict listed
   listed-command v not-judged not-four =
       go (eqb (f .count) 0) (eqb (f .judgement) 0) (eqb (judge k (f .opcode)) 0) (isRead (f .opcode)) (loose || not (fitsRule (rowOf (f .opcode) .rule) (f .count))) refl
@@ -55,8 +59,8 @@ module _ (k : Core) (f : Frame) (loose : Bool) (S n : ℕ) (known : judgementKno
       zero-known e = not-judged (ap judgementKnown e)
 
       go : (c j g r b : Bool) → eqb (judge k (f .opcode)) 0 ≡ g
-          → cond c 0 (cond (not j) (f .judgement) (cond (not g) (judge k (f .opcode)) (cond r 0 (cond b 4 (commandVerdict k f S n))))) ≡ v
-          → (judge k (f .opcode) ≡ 0) × (commandVerdict k f S n ≡ v)
+          → cond c 0 (cond (not j) (f .judgement) (cond (not g) (judge k (f .opcode)) (cond r 0 (cond b 4 (commandVerdict S k f))))) ≡ v
+          → (judge k (f .opcode) ≡ 0) × (commandVerdict S k f ≡ v)
       go true j g r b p h = absurd (zero-known (sym h))
       go false false g r b p h = absurd (not-judged (ap judgementKnown (sym h) ∙ known))
       go false true false r b p h = absurd (not-judged (ap judgementKnown (sym h) ∙ judge-known k (f .opcode)))
@@ -64,15 +68,15 @@ module _ (k : Core) (f : Frame) (loose : Bool) (S n : ℕ) (known : judgementKno
       go false true true false true p h = absurd (not-four (sym h))
       go false true true false false p h = (eqb-true _ _ p, h)
 
-  pub verdict-two : verdict k f loose S n ≡ 2 → Begins k f S n
+  pub verdict-two : verdict S k f loose ≡ 2 → Begins S k f
   unfolding commandVerdict jobVerdict
   verdict-two h =
       let c = listed-command 2 (λ e. known-not-two 2 e refl) (λ e. omega arith) h in
-      go (c .0) (pointless k (f .opcode)) (isJob kind) (hasCells kind && k .suspended && not (k .wen)) (k .wen) (not (hasCells kind) && k .srwp && not (k .wp)) (targetProtected k kind S place) refl refl refl (c .1)
+      go (c .0) (pointless k (f .opcode)) (isJob kind) (hasCells kind && k .suspended && not (k .wen)) (k .wen) (not (hasCells kind) && k .srwp && not (k .wp)) (targetProtected S k kind start) refl refl refl (c .1)
     where
-      go : judge k (f .opcode) ≡ 0 → (p j a w t q : Bool) → isJob kind ≡ j → k .wen ≡ w → targetProtected k kind S place ≡ q
+      go : judge k (f .opcode) ≡ 0 → (p j a w t q : Bool) → isJob kind ≡ j → k .wen ≡ w → targetProtected S k kind start ≡ q
           → _≡_ {A = ℕ} (cond p 11 (cond j (cond a 12 (cond (not w) 8 (cond t 10 (cond q 9 2)))) 1)) 2
-          → Begins k f S n
+          → Begins S k f
       go z false true false true false false je we qe e = record { judged-none = z; begins-job = je; enabled = we; target-free = qe }
       go z false true false true false true je we qe e = absurd (omega arith)
       go z false true false true true q je we qe e = absurd (omega arith)
@@ -81,11 +85,11 @@ module _ (k : Core) (f : Frame) (loose : Bool) (S n : ℕ) (known : judgementKno
       go z false false a w t q je we qe e = absurd (omega arith)
       go z true j a w t q je we qe e = absurd (omega arith)
 
-  pub verdict-one : verdict k f loose S n ≡ 1 → ActsAtOnce k f
+  pub verdict-one : verdict S k f loose ≡ 1 → ActsAtOnce k f
   unfolding commandVerdict jobVerdict
   verdict-one h =
       let c = listed-command 1 (λ e. known-not-one 1 e refl) (λ e. omega arith) h in
-      go (c .0) (pointless k (f .opcode)) (isJob kind) (hasCells kind && k .suspended && not (k .wen)) (k .wen) (not (hasCells kind) && k .srwp && not (k .wp)) (targetProtected k kind S place) refl refl (c .1)
+      go (c .0) (pointless k (f .opcode)) (isJob kind) (hasCells kind && k .suspended && not (k .wen)) (k .wen) (not (hasCells kind) && k .srwp && not (k .wp)) (targetProtected S k kind start) refl refl (c .1)
     where
       go : judge k (f .opcode) ≡ 0 → (p j a w t q : Bool) → pointless k (f .opcode) ≡ p → isJob kind ≡ j
           → _≡_ {A = ℕ} (cond p 11 (cond j (cond a 12 (cond (not w) 8 (cond t 10 (cond q 9 2)))) 1)) 1
@@ -98,19 +102,24 @@ module _ (k : Core) (f : Frame) (loose : Bool) (S n : ℕ) (known : judgementKno
       go z false true false true false false pe je e = absurd (omega arith)
       go z true j a w t q pe je e = absurd (omega arith)
 
+-- the verdict on a command with something to act on, by the job that it asks for
+pub command-as : (S : ℕ) (k : Core) (f : Frame) (j : Job) → pointless k (f .opcode) ≡ false → j ≡ jobAsked S f → commandVerdict S k f ≡ cond (isJob (j .kind)) (jobVerdict S k j) 1
+unfolding commandVerdict
+command-as S k f j h e = cond-no (pointless k (f .opcode)) _ _ h ∙ ap (λ (j : Job). cond (isJob (j .kind)) (jobVerdict S k j) 1) (sym e)
+
 -- every verdict but 1 and 2 changes no job and no status bit: only arming may go
-pub acted-nothing : (k : Core) (f : Frame) (v n : ℕ) → (v ≡ 1 → ⊥) → (v ≡ 2 → ⊥) → acted k f v n ≡ k
+pub acted-nothing : (S : ℕ) (k : Core) (f : Frame) (v : ℕ) → (v ≡ 1 → ⊥) → (v ≡ 2 → ⊥) → acted S k f v ≡ k
 unfolding acted
-acted-nothing k f v n not-one not-two = cond-no (eqb v 2) _ _ (ne-eqb _ _ not-two) ∙ cond-no (eqb v 1) _ _ (ne-eqb _ _ not-one)
+acted-nothing S k f v not-one not-two = cond-no (eqb v 2) _ _ (ne-eqb _ _ not-two) ∙ cond-no (eqb v 1) _ _ (ne-eqb _ _ not-one)
 
 -- what holds of each thing done at once holds of what an opcode does
 pub instantly-each : (k : Core) (opcode : ℕ) (P : Core → Type 0)
-    → (opcode ≡ writeEnable → P (changed true (k .suspended) (k .deep) (k .job) k))
-    → (opcode ≡ writeDisable → P (changed false (k .suspended) (k .deep) (k .job) k))
-    → (opcode ≡ suspend → P (changed (k .wen) true (k .deep) (k .job) k))
-    → (opcode ≡ resume → P (changed (k .wen) false (k .deep) (k .job) k))
-    → (opcode ≡ wake → P (changed (k .wen) (k .suspended) false (k .job) k))
-    → (opcode ≡ deepPowerDown → P (changed (k .wen) (k .suspended) true (k .job) k))
+    → (opcode ≡ writeEnable → P (withWen true k))
+    → (opcode ≡ writeDisable → P (withWen false k))
+    → (opcode ≡ suspend → P (withSuspended true k))
+    → (opcode ≡ resume → P (withSuspended false k))
+    → (opcode ≡ wake → P (withDeep false k))
+    → (opcode ≡ deepPowerDown → P (withDeep true k))
     → (opcode ≡ reset → P (resets k))
     → P k
     → P (instantly k opcode)
@@ -123,3 +132,22 @@ instantly-each k opcode P p₁ p₂ p₃ p₄ p₅ p₆ p₇ p₈ =
     (λ _. cond-either P (eqb opcode wake) _ _ (λ e. p₅ (eqb-true _ _ e))
     (λ _. cond-either P (eqb opcode deepPowerDown) _ _ (λ e. p₆ (eqb-true _ _ e))
     (λ _. cond-either P (eqb opcode reset) _ _ (λ e. p₇ (eqb-true _ _ e)) (λ _. p₈)))))))
+
+-- ---- the job's load
+
+module _ (f : Frame) (v : ℕ) (load held : List ℕ) where
+  pub held-begun : v ≡ 2 → heldAfter f v load held ≡ cond (isProgram (f .opcode)) load blankLoad
+  unfolding heldAfter
+  held-begun two = cond-yes (eqb v 2) _ _ (eq-eqb _ _ two)
+
+  pub held-reset : v ≡ 1 → f .opcode ≡ reset → heldAfter f v load held ≡ blankLoad
+  unfolding heldAfter
+  held-reset one r =
+      cond-no (eqb v 2) _ _ (ne-eqb v 2 (λ two. omega arith)) ∙ cond-yes (eqb v 1 && eqb (f .opcode) reset) _ _ (and-both (eqb v 1) (eqb (f .opcode) reset) (eq-eqb _ _ one) (eq-eqb _ _ r))
+
+  pub held-stays : (v ≡ 2 → ⊥) → (v ≡ 1 → f .opcode ≡ reset → ⊥) → heldAfter f v load held ≡ held
+  unfolding heldAfter
+  held-stays not-begun not-reset =
+      cond-no (eqb v 2) _ _ (ne-eqb _ _ not-begun)
+      ∙ cond-no (eqb v 1 && eqb (f .opcode) reset) _ _
+      (not-so (eqb v 1 && eqb (f .opcode) reset) (λ h. not-reset (eqb-true _ _ (and-left (eqb v 1) (eqb (f .opcode) reset) h)) (eqb-true _ _ (and-right (eqb v 1) (eqb (f .opcode) reset) h))))

@@ -8,50 +8,51 @@ use native.Mathlib.Decide.{ℕ-discrete}
 use lib.Dec.{eqb, leb}
 use borrow.Author.Tests.{eq-eqb, ne-eqb, eqb-true, eqb-false, le-leb, not-true}
 use Rattle.cells.specs.Choice.{cond-either, cond-yes, cond-no, and-left, and-right, and-both, not-so}
-use Rattle.part.specs.Part.{page, smallSector, sector, reduced, roundedDown}
+use Rattle.part.specs.Part.{lengthOf, page, smallSector, sector, reduced, roundedDown}
 use Rattle.part.specs.Table.{rowOf, rowIn, isProgram, writeEnable, writeDisable, suspend, resume, wake, deepPowerDown, resetEnable, reset}
 use Rattle.chip.specs.declared.Core.{Core}
 use Rattle.chip.specs.declared.Frame.{Frame}
 use Rattle.chip.specs.declared.Job.{Job}
 use Rattle.chip.specs.declared.JobKind.{JobKind}
 use Rattle.chip.specs.declared.JobKind.the-variants.{Idle, WriteStatus, Program, SmallErase, SectorErase, ChipErase}
-use Rattle.chip.specs.Job.{isJob, hasCells, total, noJob}
+use Rattle.chip.specs.Fields.{withWen, withSuspended, withDeep, withArmed}
+use Rattle.chip.specs.Job.{isJob, hasCells, total}
 use Rattle.chip.specs.Chip.{running}
 use Rattle.chip.specs.Legal.{placed, alignedTo, judgementKnown}
 use Rattle.chip.specs.Legality.{LegalCore}
 use Rattle.frame.specs.Frame.{judge}
 use Rattle.frame.specs.Laws.{Allowed, allowed}
-use Rattle.verdict.specs.Verdict.{jobOf, placeOf, pointless, verdict}
-use Rattle.verdict.specs.Effect.{changed, armedAs, begins, resets, instantly, acted, settled}
+use Rattle.verdict.specs.Verdict.{jobOf, startOf, pointless, verdict}
+use Rattle.verdict.specs.Effect.{begins, resets, instantly, acted, settled}
 use Rattle.verdict.specs.Laws.{Begins, ActsAtOnce, verdict-one, verdict-two, acted-nothing, instantly-each}
 
 -- ---- a job that begins
 
-aligned-at : (size p n : ℕ) → p % size ≡ 0 → p + size ≤ n → alignedTo size p n ≡ true
-aligned-at size p n a i = and-both (eqb (p % size) 0) (leb (p + size) n) (eq-eqb _ _ a) (le-leb _ _ i)
+aligned-at : (S size p : ℕ) → p % size ≡ 0 → p + size ≤ lengthOf S → alignedTo S size p ≡ true
+aligned-at S size p a i = and-both (eqb (p % size) 0) (leb (p + size) (lengthOf S)) (eq-eqb _ _ a) (le-leb _ _ i)
 
--- its place is inside and aligned, on a whole number of sectors
-pub begun-placed : (kind : JobKind) (S n address : ℕ) → 1 ≤ S → S * sector ≡ n → placed kind (placeOf kind n address) n ≡ true
-begun-placed Idle S n address s e = refl
-begun-placed (WriteStatus value) S n address s e = refl
-begun-placed Program S n address s e =
-    let r : address % n < n = mod-lt address (omega arith) in
-    aligned-at page (roundedDown page (reduced n address)) n (omega arith) (omega arith)
-begun-placed SmallErase S n address s e =
-    let r : address % n < n = mod-lt address (omega arith) in
-    aligned-at smallSector (roundedDown smallSector (reduced n address)) n (omega arith) (omega arith)
-begun-placed SectorErase S n address s e =
-    let r : address % n < n = mod-lt address (omega arith) in
-    aligned-at sector (roundedDown sector (reduced n address)) n (omega arith) (omega arith)
-begun-placed ChipErase S n address s e = refl
+-- it is on the part and aligned
+pub begun-placed : (S : ℕ) (kind : JobKind) (address : ℕ) → 1 ≤ S → placed S kind (startOf S kind address) ≡ true
+begun-placed S Idle address s = refl
+begun-placed S (WriteStatus value) address s = refl
+begun-placed S Program address s =
+    let r : address % lengthOf S < lengthOf S = mod-lt address (omega arith) in
+    aligned-at S page (roundedDown page (reduced S address)) (omega arith) (omega arith)
+begun-placed S SmallErase address s =
+    let r : address % lengthOf S < lengthOf S = mod-lt address (omega arith) in
+    aligned-at S smallSector (roundedDown smallSector (reduced S address)) (omega arith) (omega arith)
+begun-placed S SectorErase address s =
+    let r : address % lengthOf S < lengthOf S = mod-lt address (omega arith) in
+    aligned-at S sector (roundedDown sector (reduced S address)) (omega arith) (omega arith)
+begun-placed S ChipErase address s = refl
 
-begun-unfinished : (kind : JobKind) (S : ℕ) → 1 ≤ S → isJob kind ≡ true → 0 < total kind S
-begun-unfinished Idle S s e = absurd (false≢true e)
-begun-unfinished (WriteStatus value) S s e = omega arith
-begun-unfinished Program S s e = omega arith
-begun-unfinished SmallErase S s e = omega arith
-begun-unfinished SectorErase S s e = omega arith
-begun-unfinished ChipErase S s e = omega arith
+begun-unfinished : (S : ℕ) (kind : JobKind) → 1 ≤ S → isJob kind ≡ true → 0 < total kind S
+begun-unfinished S Idle s e = absurd (false≢true e)
+begun-unfinished S (WriteStatus value) s e = omega arith
+begun-unfinished S Program s e = omega arith
+begun-unfinished S SmallErase s e = omega arith
+begun-unfinished S SectorErase s e = omega arith
+begun-unfinished S ChipErase s e = omega arith
 
 -- the waking command begins none
 wake-begins-none : (opcode address : ℕ) → opcode ≡ wake → isJob (jobOf opcode address) ≡ false
@@ -75,9 +76,9 @@ has true true e = refl
 has true false e = sym e
 has false h e = absurd (false≢true (sym e))
 
-module _ (S n : ℕ) (k : Core) (l : LegalCore k S n) where
+module _ (S : ℕ) (k : Core) (l : LegalCore S k) where
   -- arming or disarming keeps a core legal that is not both asleep and armed
-  armed-legal : (a : Bool) → (k .deep ≡ true → a ≡ false) → LegalCore (armedAs a k) S n
+  armed-legal : (a : Bool) → (k .deep ≡ true → a ≡ false) → LegalCore S (withArmed a k)
   armed-legal a h =
       record {
         level-small = l .level-small;
@@ -91,7 +92,7 @@ module _ (S n : ℕ) (k : Core) (l : LegalCore k S n) where
 
   -- other flags keep it legal where they agree with the job
   flags-legal : (wen sus deep a : Bool) → (isJob (k .job .kind) ≡ true → wen ≡ true) → (sus ≡ true → hasCells (k .job .kind) ≡ true)
-      → (deep ≡ true → isJob (k .job .kind) ≡ false) → (deep ≡ true → a ≡ false) → LegalCore (armedAs a (changed wen sus deep (k .job) k)) S n
+      → (deep ≡ true → isJob (k .job .kind) ≡ false) → (deep ≡ true → a ≡ false) → LegalCore S (withArmed a (withWen wen (withSuspended sus (withDeep deep k))))
   flags-legal wen sus deep a w s d u =
       record {
         level-small = l .level-small;
@@ -104,7 +105,7 @@ module _ (S n : ℕ) (k : Core) (l : LegalCore k S n) where
       }
 
   -- a reset core is legal
-  resets-legal : (a : Bool) → (k .deep ≡ true → a ≡ false) → LegalCore (armedAs a (resets k)) S n
+  resets-legal : (a : Bool) → (k .deep ≡ true → a ≡ false) → LegalCore S (withArmed a (resets k))
   resets-legal a u =
       record {
         level-small = l .level-small;
@@ -117,12 +118,12 @@ module _ (S n : ℕ) (k : Core) (l : LegalCore k S n) where
       }
 
   -- a begun job is legal
-  begins-legal : (f : Frame) (a : Bool) → 1 ≤ S → S * sector ≡ n → Begins k f S n → LegalCore (armedAs a (begins k f n)) S n
-  begins-legal f a s e b =
+  begins-legal : (f : Frame) (a : Bool) → 1 ≤ S → Begins S k f → LegalCore S (withArmed a (begins S k f))
+  begins-legal f a s b =
       record {
         level-small = l .level-small;
-        job-placed = begun-placed (jobOf (f .opcode) (f .address)) S n (f .address) s e;
-        job-unfinished = begun-unfinished (jobOf (f .opcode) (f .address)) S s;
+        job-placed = begun-placed S (jobOf (f .opcode) (f .address)) (f .address) s;
+        job-unfinished = begun-unfinished S (jobOf (f .opcode) (f .address)) s;
         job-enabled = λ _. b .enabled;
         suspended-cells = λ h. absurd (false≢true h);
         deep-idle = λ h. absurd (false≢true (sym (awake h) ∙ b .begins-job));
@@ -156,10 +157,10 @@ module _ (S n : ℕ) (k : Core) (l : LegalCore k S n) where
     can-suspend : f .opcode ≡ suspend → hasCells (k .job .kind) ≡ true
     can-suspend e = has (running k) (hasCells (k .job .kind)) (subst (λ (q : ℕ). pointless k q ≡ false) e (acts-now .acts))
 
-    instantly-legal : LegalCore (armedAs a (instantly k (f .opcode))) S n
+    instantly-legal : LegalCore S (withArmed a (instantly k (f .opcode)))
     unfolding rowOf rowIn
     instantly-legal =
-        instantly-each k (f .opcode) (λ (q : Core). LegalCore (armedAs a q) S n)
+        instantly-each k (f .opcode) (λ (q : Core). LegalCore S (withArmed a q))
         (λ _. flags-legal true (k .suspended) (k .deep) a (λ _. refl) (l .suspended-cells) (l .deep-idle) asleep-unarmed)
         (λ e. flags-legal false (k .suspended) (k .deep) a (λ j. absurd (false≢true (sym (idle-at writeDisable refl refl e) ∙ j))) (l .suspended-cells) (l .deep-idle) asleep-unarmed)
         (λ e. flags-legal (k .wen) true (k .deep) a (l .job-enabled) (λ _. can-suspend e) (l .deep-idle) asleep-unarmed)
@@ -171,25 +172,25 @@ module _ (S n : ℕ) (k : Core) (l : LegalCore k S n) where
 
   -- ---- a verdict
 
-  module _ (f : Frame) (loose : Bool) (s : 1 ≤ S) (e : S * sector ≡ n) (known : judgementKnown (f .judgement) ≡ true) where
+  module _ (f : Frame) (loose : Bool) (s : 1 ≤ S) (known : judgementKnown (f .judgement) ≡ true) where
     abbrev v : ℕ
-    v = verdict k f loose S n
+    v = verdict S k f loose
 
     abbrev arms : Bool
     arms = eqb (f .opcode) resetEnable && eqb v 1
 
-    acted-legal : Dec (v ≡ 2) → Dec (v ≡ 1) → LegalCore (armedAs arms (acted k f v n)) S n
+    acted-legal : Dec (v ≡ 2) → Dec (v ≡ 1) → LegalCore S (withArmed arms (acted S k f v))
     unfolding acted
     acted-legal (yes two) o =
-        subst (λ (q : Core). LegalCore (armedAs arms q) S n) (sym (cond-yes (eqb v 2) _ _ (eq-eqb _ _ two)))
-        (begins-legal f arms s e (verdict-two k f loose S n known two))
+        subst (λ (q : Core). LegalCore S (withArmed arms q)) (sym (cond-yes (eqb v 2) _ _ (eq-eqb _ _ two)))
+        (begins-legal f arms s (verdict-two S k f loose known two))
     acted-legal (no two) (yes one) =
-        subst (λ (q : Core). LegalCore (armedAs arms q) S n) (sym (cond-no (eqb v 2) _ _ (ne-eqb _ _ two) ∙ cond-yes (eqb v 1) _ _ (eq-eqb _ _ one)))
-        (instantly-legal f (verdict-one k f loose S n known one) arms (λ h. eqb-true _ _ (and-left (eqb (f .opcode) resetEnable) (eqb v 1) h)))
+        subst (λ (q : Core). LegalCore S (withArmed arms q)) (sym (cond-no (eqb v 2) _ _ (ne-eqb _ _ two) ∙ cond-yes (eqb v 1) _ _ (eq-eqb _ _ one)))
+        (instantly-legal f (verdict-one S k f loose known one) arms (λ h. eqb-true _ _ (and-left (eqb (f .opcode) resetEnable) (eqb v 1) h)))
     acted-legal (no two) (no one) =
-        subst (λ (q : Core). LegalCore (armedAs arms q) S n) (sym (acted-nothing k f v n one two))
+        subst (λ (q : Core). LegalCore S (withArmed arms q)) (sym (acted-nothing S k f v one two))
         (armed-legal arms (λ _. not-so arms (λ h. one (eqb-true _ _ (and-right (eqb (f .opcode) resetEnable) (eqb v 1) h)))))
 
-    pub settled-legal : LegalCore (settled k f v n) S n
+    pub settled-legal : LegalCore S (settled S k f v)
     unfolding settled
-    settled-legal = cond-either (λ (q : Core). LegalCore q S n) (eqb (f .count) 0) _ _ (λ _. l) (λ _. acted-legal (ℕ-discrete v 2) (ℕ-discrete v 1))
+    settled-legal = cond-either (λ (q : Core). LegalCore S q) (eqb (f .count) 0) _ _ (λ _. l) (λ _. acted-legal (ℕ-discrete v 2) (ℕ-discrete v 1))

@@ -1,4 +1,4 @@
--- The verdict at a deselect: the list, in 01's order (01, Verdicts).
+-- The verdict at a deselect: the list, in its order (RULES, Verdicts).
 use Prim.Native.Nat.{ℕ, _/_, _%_}
 use mathlib.Core.Bool.{Bool, true, false, cond, not, _&&_, _||_}
 use lib.Dec.{eqb}
@@ -7,6 +7,7 @@ use Rattle.part.specs.Table.{rowOf, fitsRule, isRead, isProgram, writeStatus, s
 use Rattle.part.specs.Protection.{protectedSector}
 use Rattle.chip.specs.declared.Core.{Core}
 use Rattle.chip.specs.declared.Frame.{Frame}
+use Rattle.chip.specs.declared.Job.{Job}
 use Rattle.chip.specs.declared.JobKind.{JobKind}
 use Rattle.chip.specs.declared.JobKind.the-variants.{Idle, WriteStatus, Program, SmallErase, SectorErase, ChipErase}
 use Rattle.chip.specs.Job.{isJob, hasCells}
@@ -15,7 +16,7 @@ use Rattle.frame.specs.Frame.{judge}
 
 -- ---- the job that a frame asks for
 
--- its kind, Idle for a command that begins none; a write status takes "the frame's second byte", the low byte of the address
+-- its kind, Idle for a command that begins none; the byte of a write status is the last that was shifted into the address
 unfoldable pub jobOf : ℕ → ℕ → JobKind
 jobOf opcode address =
     cond (eqb opcode writeStatus) (WriteStatus (address % 256))
@@ -24,55 +25,57 @@ jobOf opcode address =
     (cond (eqb opcode sectorErase) SectorErase
     (cond (eqb opcode chipErase || eqb opcode chipErase′) ChipErase Idle))))
 
--- "A job's place is the address rounded down to its size", in a memory of n cells; write status and chip erase at 0
-abbrev pub placeOf : JobKind → ℕ → ℕ → ℕ
-placeOf Idle n address = 0
-placeOf (WriteStatus value) n address = 0
-placeOf Program n address = roundedDown page (reduced n address)
-placeOf SmallErase n address = roundedDown smallSector (reduced n address)
-placeOf SectorErase n address = roundedDown sector (reduced n address)
-placeOf ChipErase n address = 0
+-- its place on a part of S sectors: down from the address to the next multiple of its size (RULES, Jobs)
+abbrev pub startOf : ℕ → JobKind → ℕ → ℕ
+startOf S Idle address = 0
+startOf S (WriteStatus value) address = 0
+startOf S Program address = roundedDown page (reduced S address)
+startOf S SmallErase address = roundedDown smallSector (reduced S address)
+startOf S SectorErase address = roundedDown sector (reduced S address)
+startOf S ChipErase address = 0
 
--- "target protected", on a part of S sectors; "Chip erase needs L = 0"
-abbrev pub targetProtected : Core → JobKind → ℕ → ℕ → Bool
-targetProtected k Idle S place = false
-targetProtected k (WriteStatus value) S place = false
-targetProtected k Program S place = protectedSector (k .level) (k .tb) S (place / sector)
-targetProtected k SmallErase S place = protectedSector (k .level) (k .tb) S (place / sector)
-targetProtected k SectorErase S place = protectedSector (k .level) (k .tb) S (place / sector)
-targetProtected k ChipErase S place = not (eqb (k .level) 0)
+-- the job that a frame asks for
+abbrev pub jobAsked : ℕ → Frame → Job
+jobAsked S f = record { kind = jobOf (f .opcode) (f .address); start = startOf S (jobOf (f .opcode) (f .address)) (f .address); done = 0 }
+
+-- whether protection keeps a job off: a job in one sector by that sector, a chip erase by any level at all (RULES, Protection)
+abbrev pub targetProtected : ℕ → Core → JobKind → ℕ → Bool
+targetProtected S k Idle start = false
+targetProtected S k (WriteStatus value) start = false
+targetProtected S k Program start = protectedSector (k .level) (k .tb) S (start / sector)
+targetProtected S k SmallErase start = protectedSector (k .level) (k .tb) S (start / sector)
+targetProtected S k SectorErase start = protectedSector (k .level) (k .tb) S (start / sector)
+targetProtected S k ChipErase start = not (eqb (k .level) 0)
 
 -- ---- the list
 
--- 11: "suspend with no running program or erase, resume with nothing suspended, reset unarmed"
+-- 11: nothing for a suspend, a resume or a reset to act on
 abbrev pub pointless : Core → ℕ → Bool
 pointless k opcode =
     eqb opcode suspend && not (running k && hasCells (k .job .kind)) || eqb opcode resume && not (k .suspended) || eqb opcode reset && not (k .armed)
 
--- "12 program or erase while suspended with WEN 0; 8 program, erase or write status with WEN 0; 10 write status with SRWP 1 and WP low; 9 target protected; 2 job begun"
-unfoldable pub jobVerdict : Core → JobKind → ℕ → ℕ → ℕ
-jobVerdict k kind S place =
-    cond (hasCells kind && k .suspended && not (k .wen)) 12
+-- 12 and 8: WEN is missing, in suspension and out of it; 10: the status is locked; 9: the target is protected; 2: the job begins
+unfoldable pub jobVerdict : ℕ → Core → Job → ℕ
+jobVerdict S k j =
+    cond (hasCells (j .kind) && k .suspended && not (k .wen)) 12
     (cond (not (k .wen)) 8
-    (cond (not (hasCells kind) && k .srwp && not (k .wp)) 10
-    (cond (targetProtected k kind S place) 9 2)))
+    (cond (not (hasCells (j .kind)) && k .srwp && not (k .wp)) 10
+    (cond (targetProtected S k (j .kind) (j .start)) 9 2)))
 
--- 11; a job's verdict; "1 done at once"
-unfoldable pub commandVerdict : Core → Frame → ℕ → ℕ → ℕ
-commandVerdict k f S n =
+-- 11; a job's verdict; 1 for what is done at once
+unfoldable pub commandVerdict : ℕ → Core → Frame → ℕ
+commandVerdict S k f =
     cond (pointless k (f .opcode)) 11
-    (cond (isJob (jobOf (f .opcode) (f .address)))
-    (jobVerdict k (jobOf (f .opcode) (f .address)) S (placeOf (jobOf (f .opcode) (f .address)) n (f .address)))
-    1)
+    (cond (isJob (jobOf (f .opcode) (f .address))) (jobVerdict S k (jobAsked S f)) 1)
 
--- from 3 on, "on the state as it then is": 3, 5, 6, 7; "0 a read, loose or not"; "4 loose, or wrong length"; then the command's own
-unfoldable pub listed : Core → Frame → Bool → ℕ → ℕ → ℕ
-listed k f loose S n =
+-- from 3 on, on the state as the deselect finds it: the opcode judged anew; 0 for a read; 4 for a loose end or a wrong length; then the command's own
+unfoldable pub listed : ℕ → Core → Frame → Bool → ℕ
+listed S k f loose =
     cond (not (eqb (judge k (f .opcode)) 0)) (judge k (f .opcode))
     (cond (isRead (f .opcode)) 0
     (cond (loose || not (fitsRule (rowOf (f .opcode) .rule) (f .count))) 4
-    (commandVerdict k f S n)))
+    (commandVerdict S k f)))
 
--- the verdict of a selected frame: "0 empty frame"; a judgement "stands"; otherwise the list
-unfoldable pub verdict : Core → Frame → Bool → ℕ → ℕ → ℕ
-verdict k f loose S n = cond (eqb (f .count) 0) 0 (cond (not (eqb (f .judgement) 0)) (f .judgement) (listed k f loose S n))
+-- the verdict of a selected frame: 0 without a whole byte; its judgement, if it has one; otherwise the list
+unfoldable pub verdict : ℕ → Core → Frame → Bool → ℕ
+verdict S k f loose = cond (eqb (f .count) 0) 0 (cond (not (eqb (f .judgement) 0)) (f .judgement) (listed S k f loose))

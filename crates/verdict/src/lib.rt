@@ -3,8 +3,9 @@ ghost use mathlib.Core.Path.{_≡_};
 ghost use Prim.Native.Nat.{_-_, _%_, _≤_, _<_};
 ghost use Rattle.part.specs.Part.{roundedDown, reduced};
 ghost use Rattle.chip.specs.declared.JobKind.{JobKind};
-ghost use Rattle.verdict.specs.Verdict.{jobOf, placeOf, targetProtected, pointless, jobVerdict, commandVerdict, listed, verdict};
-ghost use Rattle.verdict.specs.Effect.{changed, armedAs, begins, resets, instantly, acted, settled, handsOver};
+ghost use Rattle.chip.specs.Fields.{withWen, withSuspended, withDeep};
+ghost use Rattle.verdict.specs.Verdict.{jobOf, startOf, jobAsked, targetProtected, pointless, jobVerdict, commandVerdict, listed, verdict};
+ghost use Rattle.verdict.specs.Effect.{begins, resets, instantly, acted, settled, heldAfter};
 use chip::Core;
 use chip::Frame;
 use chip::Job;
@@ -28,51 +29,64 @@ fn job_of(opcode: u8, address: u32) -> JobKind
     }
 }
 
-// An address's cell in a memory of n cells, rounded down to a size.
-fn rounded(size: usize, n: usize, address: u32) -> u32
+// An address's cell on a part of `sectors` sectors, rounded down to a size.
+fn rounded(sectors: u8, size: usize, address: u32) -> u32
     requires { ⌜ 0 < size ⌝ }
-    ensures { λ r. ⌜ r ≡ roundedDown size (reduced n address) ⌝ }
+    ensures { λ r. ⌜ r ≡ roundedDown size (reduced sectors address) ⌝ }
 {
-    let cell = part::cell_of(n, address);
+    let cell = part::cell_of(sectors, address);
     (cell - cell % size) as u32
 }
 
 // The place of a job.
-fn place_of(kind: JobKind, n: usize, address: u32) -> u32
-    ensures { λ r. ⌜ r ≡ placeOf kind n address ⌝ }
+fn start_of(sectors: u8, kind: JobKind, address: u32) -> u32
+    ensures { λ r. ⌜ r ≡ startOf sectors kind address ⌝ }
 {
     match kind {
         JobKind::Idle => 0,
         JobKind::WriteStatus(_) => 0,
-        JobKind::Program => rounded(Part::PAGE, n, address),
-        JobKind::SmallErase => rounded(Part::SMALL_SECTOR, n, address),
-        JobKind::SectorErase => rounded(Part::SECTOR, n, address),
+        JobKind::Program => rounded(sectors, Part::PAGE, address),
+        JobKind::SmallErase => rounded(sectors, Part::SMALL_SECTOR, address),
+        JobKind::SectorErase => rounded(sectors, Part::SECTOR, address),
         JobKind::ChipErase => 0,
     }
 }
 
+// The job that a frame asks for, with no steps done.
+fn job_asked(sectors: u8, f: Frame) -> Job
+    ensures { λ r. ⌜ r ≡ jobAsked sectors f ⌝ }
+{
+    let kind = job_of(f.opcode, f.address);
+    let start = start_of(sectors, kind, f.address);
+    Job {
+        kind: kind,
+        start: start,
+        done: 0,
+    }
+}
+
 // Whether the sector of a place is protected.
-fn place_protected(core: Core, sectors: u8, place: u32) -> bool
-    ensures { λ r. ⌜ r ≡ targetProtected core JobKind.Program sectors place ⌝ }
+fn place_protected(sectors: u8, core: Core, start: u32) -> bool
+    ensures { λ r. ⌜ r ≡ targetProtected sectors core JobKind.Program start ⌝ }
 {
     part::protected_sector(
         core.level,
         core.tb,
         sectors,
-        (place as usize) / Part::SECTOR,
+        (start as usize) / Part::SECTOR,
     )
 }
 
 // Whether a job's target is protected.
-fn target_protected(core: Core, kind: JobKind, sectors: u8, place: u32) -> bool
-    ensures { λ r. ⌜ r ≡ targetProtected core kind sectors place ⌝ }
+fn target_protected(sectors: u8, core: Core, kind: JobKind, start: u32) -> bool
+    ensures { λ r. ⌜ r ≡ targetProtected sectors core kind start ⌝ }
 {
     match kind {
         JobKind::Idle => false,
         JobKind::WriteStatus(_) => false,
-        JobKind::Program => place_protected(core, sectors, place),
-        JobKind::SmallErase => place_protected(core, sectors, place),
-        JobKind::SectorErase => place_protected(core, sectors, place),
+        JobKind::Program => place_protected(sectors, core, start),
+        JobKind::SmallErase => place_protected(sectors, core, start),
+        JobKind::SectorErase => place_protected(sectors, core, start),
         JobKind::ChipErase => !(core.level == 0),
     }
 }
@@ -90,9 +104,10 @@ fn is_pointless(core: Core, opcode: u8) -> bool
 }
 
 // The verdict on a command that asks for a job.
-fn job_verdict(core: Core, kind: JobKind, sectors: u8, place: u32) -> u8
-    ensures { λ r. ⌜ r ≡ jobVerdict core kind sectors place ⌝ }
+fn job_verdict(sectors: u8, core: Core, job: Job) -> u8
+    ensures { λ r. ⌜ r ≡ jobVerdict sectors core job ⌝ }
 {
+    let kind = job.kind;
     let cells = chip::has_cells(kind);
     if cells & core.suspended & !core.wen {
         return 12;
@@ -103,29 +118,30 @@ fn job_verdict(core: Core, kind: JobKind, sectors: u8, place: u32) -> u8
     if !cells & core.srwp & !core.wp {
         return 10;
     }
-    if target_protected(core, kind, sectors, place) {
+    if target_protected(sectors, core, kind, job.start) {
         return 9;
     }
     2
 }
 
 // The verdict on a command of the right length, allowed where it stands.
-fn command_verdict(core: Core, f: Frame, sectors: u8, n: usize) -> u8
-    ensures { λ r. ⌜ r ≡ commandVerdict core f sectors n ⌝ }
+fn command_verdict(sectors: u8, core: Core, f: Frame) -> u8
+    ensures { λ r. ⌜ r ≡ commandVerdict sectors core f ⌝ }
 {
     if is_pointless(core, f.opcode) {
         return 11;
     }
-    let kind = job_of(f.opcode, f.address);
+    let job = job_asked(sectors, f);
+    let kind = job.kind;
     if chip::is_job(kind) {
-        return job_verdict(core, kind, sectors, place_of(kind, n, f.address));
+        return job_verdict(sectors, core, job);
     }
     1
 }
 
 // The list from 3 on, on the state as it then is.
-fn list(core: Core, f: Frame, loose: bool, sectors: u8, n: usize) -> u8
-    ensures { λ r. ⌜ r ≡ listed core f loose sectors n ⌝ }
+fn list(sectors: u8, core: Core, f: Frame, loose: bool) -> u8
+    ensures { λ r. ⌜ r ≡ listed sectors core f loose ⌝ }
 {
     let judged = frame::judge(core, f.opcode);
     if judged != 0 {
@@ -139,12 +155,12 @@ fn list(core: Core, f: Frame, loose: bool, sectors: u8, n: usize) -> u8
     if loose | !fits {
         return 4;
     }
-    command_verdict(core, f, sectors, n)
+    command_verdict(sectors, core, f)
 }
 
 // The verdict of a selected frame at its deselect.
-pub fn verdict(core: Core, f: Frame, loose: bool, sectors: u8, n: usize) -> u8
-    ensures { λ r. ⌜ r ≡ verdict core f loose sectors n ⌝ }
+pub fn verdict(sectors: u8, core: Core, f: Frame, loose: bool) -> u8
+    ensures { λ r. ⌜ r ≡ verdict sectors core f loose ⌝ }
 {
     if f.count == 0 {
         return 0;
@@ -152,63 +168,75 @@ pub fn verdict(core: Core, f: Frame, loose: bool, sectors: u8, n: usize) -> u8
     if f.judgement != 0 {
         return f.judgement;
     }
-    list(core, f, loose, sectors, n)
-}
-
-fn change(wen: bool, suspended: bool, deep: bool, job: Job, core: Core) -> Core
-    ensures { λ r. ⌜ r ≡ changed wen suspended deep job core ⌝ }
-{
-    let mut next = core;
-    next.wen = wen;
-    next.suspended = suspended;
-    next.deep = deep;
-    next.job = job;
-    next
+    list(sectors, core, f, loose)
 }
 
 // The core with the frame's job begun.
-fn begin(core: Core, f: Frame, n: usize) -> Core
-    ensures { λ r. ⌜ r ≡ begins core f n ⌝ }
+fn begin(sectors: u8, core: Core, f: Frame) -> Core
+    ensures { λ r. ⌜ r ≡ begins sectors core f ⌝ }
 {
-    let kind = job_of(f.opcode, f.address);
-    let place = place_of(kind, n, f.address);
-    let job = Job {
-        kind: kind,
-        place: place,
-        done: 0,
-    };
-    change(core.wen, false, core.deep, job, core)
+    let mut next = core;
+    next.suspended = false;
+    next.job = job_asked(sectors, f);
+    next
 }
 
 // The core with its job dropped, WEN and SUS clear.
 pub fn reset(core: Core) -> Core
     ensures { λ r. ⌜ r ≡ resets core ⌝ }
 {
-    change(false, false, core.deep, chip::no_job(), core)
+    let mut next = core;
+    next.wen = false;
+    next.suspended = false;
+    next.job = chip::no_job();
+    next
+}
+
+fn set_wen(wen: bool, core: Core) -> Core
+    ensures { λ r. ⌜ r ≡ withWen wen core ⌝ }
+{
+    let mut next = core;
+    next.wen = wen;
+    next
+}
+
+fn set_suspended(suspended: bool, core: Core) -> Core
+    ensures { λ r. ⌜ r ≡ withSuspended suspended core ⌝ }
+{
+    let mut next = core;
+    next.suspended = suspended;
+    next
+}
+
+fn set_deep(deep: bool, core: Core) -> Core
+    ensures { λ r. ⌜ r ≡ withDeep deep core ⌝ }
+{
+    let mut next = core;
+    next.deep = deep;
+    next
 }
 
 // What is done at once.
 fn act_at_once(core: Core, opcode: u8) -> Core
     ensures { λ r. ⌜ r ≡ instantly core opcode ⌝ }
 {
-    let job = core.job;
     match opcode {
-        Part::WRITE_ENABLE => change(true, core.suspended, core.deep, job, core),
-        Part::WRITE_DISABLE => change(false, core.suspended, core.deep, job, core),
-        Part::SUSPEND => change(core.wen, true, core.deep, job, core),
-        Part::RESUME => change(core.wen, false, core.deep, job, core),
-        Part::WAKE => change(core.wen, core.suspended, false, job, core),
-        Part::DEEP_POWER_DOWN => change(core.wen, core.suspended, true, job, core),
+        Part::WRITE_ENABLE => set_wen(true, core),
+        Part::WRITE_DISABLE => set_wen(false, core),
+        Part::SUSPEND => set_suspended(true, core),
+        Part::RESUME => set_suspended(false, core),
+        Part::WAKE => set_deep(false, core),
+        Part::DEEP_POWER_DOWN => set_deep(true, core),
         Part::RESET => reset(core),
         _ => core,
     }
 }
 
-fn act(core: Core, f: Frame, v: u8, n: usize) -> Core
-    ensures { λ r. ⌜ r ≡ acted core f v n ⌝ }
+fn act(sectors: u8, core: Core, f: Frame, v: u8) -> Core
+    ensures { λ r. ⌜ r ≡ acted sectors core f v ⌝ }
 {
     if v == 2 {
-        return begin(core, f, n);
+        return begin(sectors, core, f);
     }
     if v == 1 {
         return act_at_once(core, f.opcode);
@@ -217,20 +245,30 @@ fn act(core: Core, f: Frame, v: u8, n: usize) -> Core
 }
 
 // The core after a frame's verdict.
-pub fn settle(core: Core, f: Frame, v: u8, n: usize) -> Core
-    ensures { λ r. ⌜ r ≡ settled core f v n ⌝ }
+pub fn settle(sectors: u8, core: Core, f: Frame, v: u8) -> Core
+    ensures { λ r. ⌜ r ≡ settled sectors core f v ⌝ }
 {
     if f.count == 0 {
         return core;
     }
-    let mut next = act(core, f, v, n);
+    let mut next = act(sectors, core, f, v);
     next.armed = (f.opcode == Part::RESET_ENABLE) & (v == 1);
     next
 }
 
-// Whether the frame's load becomes the job's.
-pub fn hands_over(f: Frame, v: u8) -> bool
-    ensures { λ r. ⌜ r ≡ handsOver f v ⌝ }
+// The job's load after a frame's verdict: handed over, blank, or as it was.
+pub fn hand_over(f: Frame, v: u8, load: &[u8; 256], held: &mut [u8; 256])
+    ensures { λ r. ⌜ now (held .exit) ≡ heldAfter f v (now (load .entry)) (now (held .entry)) ⌝ }
 {
-    part::is_program(f.opcode) & (v == 2)
+    if v == 2 {
+        if part::is_program(f.opcode) {
+            *held = *load;
+            return;
+        }
+        *held = [255; 256];
+        return;
+    }
+    if (v == 1) & (f.opcode == Part::RESET) {
+        *held = [255; 256];
+    }
 }
