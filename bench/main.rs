@@ -36,7 +36,7 @@ mod timing;
 
 use bench::Bench;
 use case::{Case, Content, Start, Step};
-use event::{script_of, Event};
+use event::{script_of, Event, LONGEST};
 use generate::Writer;
 use model::Chip;
 use rng::Rng;
@@ -44,8 +44,6 @@ use side::Side;
 use std::process::ExitCode;
 use timing::Row;
 
-/// The longest script.
-const LONGEST: usize = 65_536;
 /// Events of the case of single events.
 const SINGLE: usize = 20_000;
 /// Events of the cases of idle ticks.

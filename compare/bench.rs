@@ -42,7 +42,7 @@ fn area_difference(name: &str, wanted: &[u8], found: &[u8]) -> Option<String> {
 /// An answer in words.
 fn answer_words(answer: &Answer) -> String {
     let Answer { refusal, record, offset, written, ticks } = answer;
-    let record = format!("{} of the bytes {:02X?}", record.length, record.bytes);
+    let record = format!("{:02X?} of length {}", record.bytes, record.length);
     format!("{refusal}, record {record}, offset {offset}, written {written}, ticks {ticks}")
 }
 

@@ -3,7 +3,7 @@
 use crate::case::{Start, Step, LENGTHS};
 use crate::class::Class;
 use crate::commands::{COMMANDS, EMPTY, UNKNOWN, UNSELECTED};
-use crate::event::{events_of, Event};
+use crate::event::{events_of, Event, LONGEST};
 use crate::expected::{Expected, NOTHING};
 use crate::image::{Edit, FLAGS};
 use crate::model::{Chip, Record};
@@ -202,7 +202,7 @@ impl Coverage {
         );
         self.saw("run that ends inside a frame", after.frame.byte_count > 0 && !script.is_empty());
         self.saw("run with the exact room", spare == 0 && !script.is_empty());
-        self.saw("script of 65,536 bytes done", script.len() == 65_536);
+        self.saw("script of 65,536 bytes done", script.len() == LONGEST);
         self.saw("empty script done", script.is_empty());
     }
 

@@ -2,6 +2,9 @@
 
 use crate::model;
 
+/// The longest script that a run takes.
+pub const LONGEST: usize = 65_536;
+
 /// An event as numbers: its kind and its body.
 pub type Event = (u64, u64);
 

@@ -19,7 +19,7 @@ pub struct Leftovers {
 /// What a gone job leaves.
 pub const NOTHING: Leftovers = Leftovers { held: BLANK, start: 0, done: 0 };
 
-/// The model's chip and the leftovers beside it, which are nothing where the chip has a job for them.
+/// The model's chip, and the leftovers beside it: nothing where the chip has a job for them.
 #[derive(Clone)]
 pub struct Expected {
     pub chip: Chip,

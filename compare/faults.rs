@@ -1,6 +1,6 @@
 // A copy of the model as the other side, with a planted fault or none, to test the harness itself.
 
-use crate::event::{events_of, Event};
+use crate::event::{events_of, Event, LONGEST};
 use crate::expected::Expected;
 use crate::image::{with_flags, Image};
 use crate::model::{self, Chip, EventAnswer, Job, JobKind, Record};
@@ -85,7 +85,7 @@ impl WrongCopy {
             record = self.spoil_record(&before.chip, record, length);
         } else if refusal == 6 && self.has(10) {
             self.expected.chip.armed = false;
-            self.image.flags[6] = 0;
+            self.image.flags[6] = 0; // armed
         }
         Answer::to_event(refusal, record_bytes(record), ticks)
     }
@@ -213,7 +213,7 @@ impl Side for WrongCopy {
         let (mut chip, mut output) = (self.expected.chip.clone(), vec![0; room]);
         let answer = model::run(&mut chip, &mut self.scratch[..length], script, &mut output);
         let mut refusal = answer.refusal;
-        if self.has(15) && script.len() == 65_536 && refusal == 0 {
+        if self.has(15) && script.len() == LONGEST && refusal == 0 {
             refusal = 3;
         }
         if refusal != 0 {

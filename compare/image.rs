@@ -3,8 +3,8 @@
 use crate::model::{Chip, JobKind};
 use crate::rng::Rng;
 
-/// The numbers of a chip, laid out as the library has them on a 64-bit machine: `kind`, `value`,
-/// `start`, `done` and `held` are its job, `place` is its frame's read place, `slot` the load place.
+/// The numbers of a chip, laid out as the library has them on a 64-bit machine. Its job is `kind`,
+/// `value`, `start`, `done` and `held`; `place` is its frame's read place and `slot` the load place.
 #[repr(C)]
 #[derive(Clone, Copy, PartialEq, Eq)]
 pub struct Image {

@@ -1,167 +1,16 @@
-// What is done: first the cases that are planned, then random ones, each step on both sides.
+// The cases that are planned, so that whatever can occur does, at any seed.
 
-use crate::bench::Bench;
-use crate::case::{Case, Content, Start, Step, LENGTHS};
+use crate::case::{Content, Start, Step, LENGTHS};
 use crate::class::{Class, LONG_JOBS};
 use crate::commands::COMMANDS;
-use crate::coverage::Coverage;
-use crate::event::{room_needed, script_of, Event};
+use crate::event::{script_of, LONGEST};
 use crate::generate::Writer;
-use crate::image::{Edit, FLAGS};
-use crate::model::Chip;
-use crate::rng::Rng;
+use crate::image::Edit;
 use crate::scenes::SCENES;
+use crate::session::{Outcome, Session};
 use crate::states;
 
-/// The longest script that a run takes.
-const LONGEST: usize = 65_536;
-
-/// Memory lengths that are none of the six.
-const WRONG_LENGTHS: [usize; 11] = [
-    0,
-    1,
-    256,
-    Chip::SECTOR - 1,
-    Chip::SECTOR + 1,
-    3 * Chip::SECTOR,
-    5 * Chip::SECTOR,
-    31 * Chip::SECTOR,
-    33 * Chip::SECTOR,
-    32 * Chip::SECTOR - 1,
-    64 * Chip::SECTOR,
-];
-
-/// A case with a difference at its last step.
-pub struct Failure {
-    pub case: Case,
-    pub difference: String,
-}
-
-/// What came of a step or a case.
-type Outcome = Result<(), Failure>;
-
-/// The bench, the case that is on it, and all that has occurred.
-pub struct Session<'a> {
-    pub bench: Bench<'a>,
-    pub coverage: Coverage,
-    pub cases: u64,
-    pub events: u64,
-    case: Case,
-    rng: Rng,
-    scratch: Vec<u8>,
-}
-
-impl<'a> Session<'a> {
-    /// A session with nothing done.
-    pub fn new(bench: Bench<'a>, seed: u64) -> Session<'a> {
-        let coverage = Coverage::new(bench.has_lent());
-        let (start, content) = (Start::Fresh(0), Content::Blank);
-        let case = Case { length: LENGTHS[0], start, content, steps: Vec::new() };
-        let (rng, scratch) = (Rng::new(seed), vec![0; LENGTHS[5]]);
-        Session { bench, coverage, cases: 0, events: 0, case, rng, scratch }
-    }
-
-    /// The failure of the case as it stands.
-    fn failure(&self, difference: String) -> Failure {
-        Failure { case: self.case.clone(), difference }
-    }
-
-    /// Starts a case.
-    fn open(&mut self, length: usize, start: Start, content: Content) -> Outcome {
-        self.cases += 1;
-        self.case = Case { length, start, content, steps: Vec::new() };
-        self.coverage.note_start(&self.case.start);
-        self.bench.start(&self.case).map_err(|difference| self.failure(difference))
-    }
-
-    /// Starts a case from a fresh state over noise.
-    fn open_fresh(&mut self, length: usize, status: u8) -> Outcome {
-        let content = Content::Noise(self.rng.next());
-        self.open(length, Start::Fresh(status), content)
-    }
-
-    /// Does a step on both sides.
-    fn step(&mut self, step: Step) -> Result<u8, Failure> {
-        let before = self.bench.expected.clone();
-        let answer = self.bench.perform(&step);
-        if let Ok(answer) = &answer {
-            self.events += self.coverage.note_step(&before, &step, answer, self.case.length);
-        }
-        self.case.steps.push(step);
-        let answer = answer.map_err(|difference| self.failure(difference))?;
-        Ok(answer.refusal)
-    }
-
-    /// Ends a case: its last state has to be legal, or not, on both sides.
-    fn close(&mut self) -> Outcome {
-        self.bench.compare_legal().map_err(|difference| self.failure(difference))
-    }
-
-    /// Lets a writer write events for the chip as it is.
-    fn write(&mut self, scene: impl FnOnce(&mut Writer)) -> Vec<Event> {
-        let memory = &mut self.scratch[..self.case.length];
-        let mut writer = Writer::new(&mut self.rng, self.bench.expected.chip.clone(), memory);
-        scene(&mut writer);
-        writer.events
-    }
-
-    /// No edit, or what a legal state leaves free filled with noise: it has to be accepted, to be
-    /// kept and to influence nothing.
-    fn any_edit(&mut self) -> Edit {
-        let seed = self.rng.next();
-        if self.rng.once_in(2) {
-            Edit::Free(seed)
-        } else {
-            Edit::None
-        }
-    }
-
-    /// Whether the next single event goes through a lent chip record.
-    fn lent(&mut self) -> bool {
-        self.bench.has_lent() && self.rng.once_in(3)
-    }
-
-    /// Applies events one by one; a body that an event has not may be any number.
-    fn one_by_one(&mut self, events: &[Event]) -> Outcome {
-        for (kind, body) in events {
-            let any = self.rng.next();
-            let body = match kind {
-                1 | 3 | 4 | 7 => self.rng.pick(&[0, 0, 1, any]),
-                _ => *body,
-            };
-            let lent = self.lent();
-            self.step(Step::Event { event: (*kind, body), lent, length: None })?;
-        }
-        Ok(())
-    }
-
-    /// Runs events as one script.
-    fn one_run(&mut self, events: &[Event]) -> Outcome {
-        let spare = self.rng.pick(&[0, 0, 0, 1, 2, 7, 100]);
-        let script = script_of(events);
-        self.step(Step::Run { script, spare, length: None }).map(|_| ())
-    }
-
-    /// Delivers events: one by one, as one run, or as runs one after another. Many events, and
-    /// those over a large memory, which takes long to compare, go more often as runs.
-    fn deliver(&mut self, events: &[Event]) -> Outcome {
-        let heavy = events.len() * self.case.length / Chip::SECTOR;
-        let alone = if heavy > 300 { 12 } else { 2 };
-        if self.rng.once_in(alone) {
-            return self.one_by_one(events);
-        }
-        if self.rng.once_in(2) {
-            return self.one_run(events);
-        }
-        let mut rest = events;
-        while !rest.is_empty() {
-            let (part, after) = rest.split_at(1 + self.rng.below(rest.len().min(40)));
-            self.one_run(part)?;
-            rest = after;
-        }
-        Ok(())
-    }
-
+impl Session<'_> {
     /// Does what is planned; what takes long comes last, so that most faults are found early.
     pub fn planned(&mut self) -> Outcome {
         self.fresh_states()?;
@@ -192,8 +41,8 @@ impl<'a> Session<'a> {
         Ok(())
     }
 
-    /// States with a job of each class or none, in whose numbers stands what no job is there for:
-    /// kept by what leaves jobs alone, and gone by each event that has to clear it.
+    /// States with a job of each class or none that are lent with leftovers: whatever leaves jobs
+    /// alone keeps them, and each event that has to clear them does.
     fn leftovers(&mut self) -> Outcome {
         let classes = [LONG_JOBS.as_slice(), &[Class::WriteStatus]].concat();
         for class in classes.into_iter().map(Some).chain([None]) {
@@ -223,40 +72,6 @@ impl<'a> Session<'a> {
             self.coverage.note_rule(rule);
         }
         Ok(())
-    }
-
-    /// A state that is not legal: refused by 2 at every entry point and before 3 to 7, and not
-    /// before 1.
-    fn broken_state(&mut self, length: usize, chip: Chip, edit: Edit) -> Outcome {
-        self.open(length, Start::Lent(Box::new(chip), edit), Content::Blank)?;
-        let events = [(1, 0), (2, 0x05), (4, 0), (7, 0), (0, 0), (6, 2)];
-        let (first, second) = (self.rng.pick(&events), self.rng.pick(&events));
-        let mut steps = vec![Step::Event { event: first, lent: false, length: None }];
-        if self.bench.has_lent() {
-            steps.push(Step::Event { event: second, lent: true, length: None });
-        }
-        let scripts = [vec![], vec![1, 2, 5, 2, 0, 3], vec![1, 9], vec![2], vec![4; LONGEST + 1]];
-        for script in scripts {
-            let spare = self.rng.pick(&[0, -1, 3]);
-            steps.push(Step::Run { script, spare, length: None });
-        }
-        for step in steps {
-            let refusal = self.step(step)?;
-            assert_eq!(refusal, 2);
-        }
-        self.wrong_length()?;
-        self.close()
-    }
-
-    /// Any step over a memory length that is none of the six.
-    fn wrong_length(&mut self) -> Outcome {
-        let length = Some(self.rng.pick(&WRONG_LENGTHS));
-        let lent = self.lent();
-        let event = self.rng.pick(&[(1, 0), (4, 0), (0, 0), (6, 2), (7, 0)]);
-        self.step(Step::Event { event, lent, length })?;
-        let script =
-            self.rng.pick(&[&[][..], &[1, 2, 5, 3], &[9], &[5, 0], &[4; LONGEST + 1]]).to_vec();
-        self.step(Step::Run { script, spare: -1, length }).map(|_| ())
     }
 
     /// Every opcode with every verdict that it can get, by events and by runs, on all lengths.
@@ -406,137 +221,6 @@ impl<'a> Session<'a> {
             }
         }
         self.close()
-    }
-
-    /// Random cases until so many events more are done, some of them from a state with a bad flag.
-    pub fn random(&mut self, events: u64) -> Outcome {
-        let end = self.events + events;
-        while self.events < end {
-            let sectors = self.rng.pick(&[1, 1, 1, 1, 1, 1, 1, 2, 2, 4, 4, 8, 16, 32]);
-            let length = sectors * Chip::SECTOR;
-            if self.rng.once_in(10) {
-                let (flag, byte) = (self.rng.below(FLAGS.len()), self.rng.byte().max(2));
-                let (chip, edit) = states::with_bad_flag(&mut self.rng, length, flag, byte);
-                self.broken_state(length, chip, edit)?;
-            } else {
-                self.random_case(length)?;
-            }
-        }
-        Ok(())
-    }
-
-    /// One random case: a start and scenes, with refusals and hand-overs between them.
-    fn random_case(&mut self, length: usize) -> Outcome {
-        let (seed, status) = (self.rng.next(), self.rng.byte());
-        let content = self.rng.pick(&[Content::Blank, Content::Noise(seed), Content::Noise(seed)]);
-        let start = match self.rng.below(6) {
-            0 | 1 => Start::Fresh(status),
-            2 => Start::Fresh(0),
-            _ => {
-                let edit = self.any_edit();
-                Start::Lent(Box::new(states::legal(&mut self.rng, length)), edit)
-            }
-        };
-        self.open(length, start, content)?;
-        if self.bench.expected.chip.selected && self.rng.once_in(2) {
-            let events = self.write(|writer| writer.go_on());
-            self.deliver(&events)?;
-        }
-        for _ in 0..4 + self.rng.below(20) {
-            match self.rng.below(12) {
-                0 => self.step(Step::HandOver).map(|_| ())?,
-                1..=3 => self.refusal()?,
-                _ => self.scene()?,
-            }
-        }
-        self.close()
-    }
-
-    /// One to three scenes, at times cut off inside a frame.
-    fn scene(&mut self) -> Outcome {
-        let mut events = self.write(|writer| {
-            for _ in 0..1 + writer.rng.below(3) {
-                let scene = writer.rng.pick(&SCENES);
-                scene(writer);
-            }
-        });
-        if self.rng.once_in(4) {
-            let kept = self.rng.below(events.len() + 1);
-            events.truncate(kept);
-        }
-        self.deliver(&events)
-    }
-
-    /// A step that is refused, or at least asks to be.
-    fn refusal(&mut self) -> Outcome {
-        match self.rng.below(12) {
-            0..=4 => self.any_event(),
-            5 => self.wrong_length(),
-            6 => self.too_long(),
-            _ => self.bad_run(),
-        }
-    }
-
-    /// One event with any numbers for its kind and its body.
-    fn any_event(&mut self) -> Outcome {
-        let (any, other) = (self.rng.next(), self.rng.next());
-        let near = self.rng.below(12) as u64;
-        let huge = [1 << 16, 1 << 32, 1 << 63, u64::MAX - 11][self.rng.below(4)];
-        let kind = self.rng.pick(&[near, near, near, near, near + 250, near + huge, any]);
-        let small = self.rng.below(12) as u64;
-        let round = [250, 65_530, 1 << 16, 1 << 32, 1 << 63, u64::MAX - 11][self.rng.below(6)];
-        let body = self.rng.pick(&[small, small, small + round, other]);
-        let lent = self.lent();
-        self.step(Step::Event { event: (kind, body), lent, length: None }).map(|_| ())
-    }
-
-    /// A run of a script that is too long, with or without a bad event in it.
-    fn too_long(&mut self) -> Outcome {
-        let bytes = LONGEST + self.rng.pick(&[1, 1, 2, 4_000, LONGEST]);
-        let kind = self.rng.pick(&[4, 4, 3, 9, 0]);
-        let spare = self.rng.pick(&[0, -1]);
-        self.step(Step::Run { script: vec![kind; bytes], spare, length: None }).map(|_| ())
-    }
-
-    /// A run with bad events, or with too little room, or both.
-    fn bad_run(&mut self) -> Outcome {
-        let scene = self.rng.pick(&SCENES);
-        let events = self.write(scene);
-        let mut script = Vec::new();
-        let bad = self.rng.below(3 * (events.len() + 1));
-        for (number, event) in events.iter().enumerate() {
-            if number == bad || number == 0 && self.rng.once_in(8) || self.rng.once_in(200) {
-                script.extend(self.bad_bytes());
-            }
-            script.extend(script_of(&[*event]));
-        }
-        if self.rng.once_in(2) {
-            script.extend(self.unfinished());
-        }
-        let needed = room_needed(&script);
-        let spare = self.rng.pick(&[-1, -1, -2, -needed, 0, 1, 50]);
-        self.step(Step::Run { script, spare, length: None }).map(|_| ())
-    }
-
-    /// The bytes of an event with an unknown kind or with a body outside its range.
-    fn bad_bytes(&mut self) -> Vec<u8> {
-        let high = self.rng.byte();
-        match self.rng.below(7) {
-            0 => vec![0],
-            1 => vec![9],
-            2 => vec![high.max(9)],
-            3 => vec![5, 0, 0],
-            4 => vec![6, high.max(2)],
-            5 => vec![8, 0],
-            _ => vec![8, high.max(8)],
-        }
-    }
-
-    /// The bytes of an event whose body, or a part of it, is not there, or of an unknown kind.
-    fn unfinished(&mut self) -> Vec<u8> {
-        let any = self.rng.byte();
-        let last = [vec![2], vec![5], vec![5, 0], vec![5, any], vec![6], vec![8], vec![any]];
-        last[self.rng.below(last.len())].clone()
     }
 }
 

@@ -55,7 +55,7 @@ impl Answer {
 pub trait Side {
     /// Makes the chip fresh from a status byte.
     fn fresh(&mut self, status: u8) -> Result<(), String>;
-    /// Puts a chip in the place of the present one: the model's, and the numbers that it is to have.
+    /// Puts a chip in the place of the present one: the model's, with the numbers that it gets.
     fn put(&mut self, chip: &Chip, image: &Image) -> Result<(), String>;
     /// The chip as numbers.
     fn image(&self) -> Image;

@@ -345,7 +345,7 @@ fn broken_images(rng: &mut Rng, length: usize) -> Vec<(Chip, Edit)> {
         states.push((chip, Edit::Place(place)));
     }
     for flag in 0..FLAGS.len() {
-        for byte in [2, 3, 255, rng.byte().max(2)] {
+        for byte in [2, 3, 255, 2 << rng.below(7), rng.byte().max(2)] {
             states.push(with_bad_flag(rng, length, flag, byte));
         }
     }
@@ -372,7 +372,7 @@ pub fn broken(rng: &mut Rng, length: usize) -> Vec<(usize, Chip, Edit)> {
 }
 
 /// The number of the rule that an edit breaks.
-pub fn rule_of(edit: &Edit) -> usize {
+fn rule_of(edit: &Edit) -> usize {
     match edit {
         Edit::Flag(..) => 14,
         Edit::JobKind(_) => 13,

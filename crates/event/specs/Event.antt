@@ -1,24 +1,21 @@
--- One event of a legal state: what it says, and the state and memory that it leaves (01, Events; Jobs).
+-- One event of a legal state: what it says, and the state and memory that it leaves (RULES, Events; Jobs).
 use Prim.Native.Nat.{ℕ, _%_}
 use mathlib.Core.Bool.{Bool, true, false, cond}
 use mathlib.Core.List.{List}
 use lib.Dec.{eqb}
-use lib.ListN.{length}
+use Rattle.part.specs.Part.{Setting}
+use Rattle.kinds.specs.Kinds.{SELECT, EXCHANGE, DESELECT, TICK, TICKS, WP, POWER}
 use Rattle.chip.specs.declared.Chip.{Chip}
 use Rattle.chip.specs.declared.Core.{Core}
 use Rattle.chip.specs.declared.Frame.{Frame}
 use Rattle.chip.specs.declared.Record.{Record}
 use Rattle.chip.specs.declared.Record.the-variants.{Nothing, Verdict}
-use Rattle.chip.specs.Job.{noJob}
-use Rattle.chip.specs.Chip.{emptyFrame, blankLoad}
-use Rattle.job.specs.Tick.{ticksCore, ticksMemory, worked}
+use Rattle.chip.specs.Fields.{withWp, withDeep, withArmed, withSelected}
+use Rattle.chip.specs.Chip.{whole, emptyFrame, blankLoad}
+use Rattle.job.specs.Tick.{ticksCore, ticksLoad, ticksMemory, worked}
 use Rattle.frame.specs.Frame.{Exchange, exchanged}
 use Rattle.verdict.specs.Verdict.{verdict}
-use Rattle.verdict.specs.Effect.{settled, handsOver}
-
--- the chip of four parts
-abbrev pub whole : Core → Frame → List ℕ → List ℕ → Chip
-whole k f load page = record { core = k; frame = f; load = load; page = page }
+use Rattle.verdict.specs.Effect.{resets, settled, heldAfter}
 
 -- what an event leaves, says and works
 pub record Outcome : Type 0 where
@@ -28,62 +25,54 @@ pub record Outcome : Type 0 where
   pub ticks : ℕ
 
 abbrev pub outcome : Core → Frame → List ℕ → List ℕ → List ℕ → Record → ℕ → Outcome
-outcome k f load page m said ticks = record { chip = whole k f load page; memory = m; said = said; ticks = ticks }
+outcome k f load held m said ticks = record { chip = whole k f load held; memory = m; said = said; ticks = ticks }
 
--- 01h: "Select while selected does nothing"; unselected the frame is empty
-abbrev pub selectedFrame : Frame → Frame
-selectedFrame f =
-    record { selected = true; opcode = f .opcode; address = f .address; place = f .place; offset = f .offset; count = f .count; judgement = f .judgement }
-
+-- a select; one more in an open frame changes nothing
 abbrev pub select : Chip → List ℕ → Outcome
-select c m = outcome (c .core) (selectedFrame (c .frame)) (c .load) (c .page) m Nothing 0
+select c m = outcome (c .core) (withSelected true (c .frame)) (c .load) (c .held) m Nothing 0
 
--- 02h: an exchange changes the frame and its load alone
+-- an exchange changes the frame and its load alone
 abbrev pub settleExchange : Chip → List ℕ → Exchange → Outcome
-settleExchange c m e = outcome (c .core) (e .frame) (e .load) (c .page) m (e .said) 0
+settleExchange c m e = outcome (c .core) (e .frame) (e .load) (c .held) m (e .said) 0
 
-abbrev pub exchangeByte : Chip → List ℕ → ℕ → Outcome
-exchangeByte c m b = settleExchange c m (exchanged (c .core) (c .frame) (c .load) m b)
+abbrev pub exchangeByte : Setting → Chip → List ℕ → ℕ → Outcome
+exchangeByte T c m b = settleExchange c m (exchanged T (c .core) (c .frame) (c .load) m b)
 
--- 03h and 08h: "Unselected .. a deselect gives verdict 0"; otherwise the verdict and its effect, and "A deselect .. leaves that frame", the empty one
-abbrev pub closes : ℕ → Chip → List ℕ → ℕ → Outcome
-closes S c m v =
-    outcome (settled (c .core) (c .frame) v (length m)) (emptyFrame false) blankLoad (cond (handsOver (c .frame) v) (c .load) (c .page)) m (Verdict v) 0
+-- a deselect, clean or loose: the verdict and what it does, and the empty frame; with no frame open verdict 0 and no more
+abbrev pub closes : Setting → Chip → List ℕ → ℕ → Outcome
+closes T c m v =
+    outcome (settled (T .sectors) (c .core) (c .frame) v) (emptyFrame false) blankLoad (heldAfter (c .frame) v (c .load) (c .held)) m (Verdict v) 0
 
-abbrev pub deselect : ℕ → Chip → List ℕ → Bool → Outcome
-deselect S c m loose =
-    cond (c .frame .selected) (closes S c m (verdict (c .core) (c .frame) loose S (length m)))
-    (outcome (c .core) (c .frame) (c .load) (c .page) m (Verdict 0) 0)
+abbrev pub deselect : Setting → Chip → List ℕ → Bool → Outcome
+deselect T c m loose =
+    cond (c .frame .selected) (closes T c m (verdict (T .sectors) (c .core) (c .frame) loose))
+    (outcome (c .core) (c .frame) (c .load) (c .held) m (Verdict 0) 0)
 
--- 04h and 05h: n ticks
-abbrev pub tick : ℕ → Chip → List ℕ → ℕ → Outcome
-tick S c m n =
-    outcome (ticksCore S n (c .core)) (c .frame) (c .load) (c .page) (ticksMemory S n (c .core) (c .page) m) Nothing (worked S n (c .core))
+-- n ticks
+abbrev pub tick : Setting → Chip → List ℕ → ℕ → Outcome
+tick T c m n =
+    outcome (ticksCore (T .sectors) n (c .core)) (c .frame) (c .load) (ticksLoad (T .sectors) n (c .core) (c .held)) (ticksMemory (T .sectors) n (c .core) (c .held) m) Nothing
+    (worked (T .sectors) n (c .core))
 
--- 06h: "WP level, 0 low or 1 high"
-abbrev pub wpAs : Bool → Core → Core
-wpAs wp k =
-    record { level = k .level; tb = k .tb; srwp = k .srwp; wen = k .wen; suspended = k .suspended; wp = wp; deep = k .deep; armed = k .armed; job = k .job }
-
+-- the WP pin, low at 0 and high at 1
 abbrev pub setWp : Chip → List ℕ → ℕ → Outcome
-setWp c m body = outcome (wpAs (eqb body 1) (c .core)) (c .frame) (c .load) (c .page) m Nothing 0
+setWp c m body = outcome (withWp (eqb body 1) (c .core)) (c .frame) (c .load) (c .held) m Nothing 0
 
--- 07h: "A power cut does the same" as a reset, "and also wakes, disarms and deselects; WP stays"
+-- a power cut does what a reset does; besides it wakes, disarms and deselects
 abbrev pub poweredUp : Core → Core
-poweredUp k =
-    record { level = k .level; tb = k .tb; srwp = k .srwp; wen = false; suspended = false; wp = k .wp; deep = false; armed = false; job = noJob }
+poweredUp k = withDeep false (withArmed false (resets k))
 
 abbrev pub cutPower : Chip → List ℕ → Outcome
-cutPower c m = outcome (poweredUp (c .core)) (emptyFrame false) blankLoad (c .page) m Nothing 0
+cutPower c m = outcome (poweredUp (c .core)) (emptyFrame false) blankLoad blankLoad m Nothing 0
 
--- one event by its kind, 1 to 8, on a part of S sectors
-unfoldable pub applied : ℕ → Chip → List ℕ → ℕ → ℕ → Outcome
-applied S c m kind body =
-    cond (eqb kind 1) (select c m)
-    (cond (eqb kind 2) (exchangeByte c m (body % 256))
-    (cond (eqb kind 3) (deselect S c m false)
-    (cond (eqb kind 4) (tick S c m 1)
-    (cond (eqb kind 5) (tick S c m body)
-    (cond (eqb kind 6) (setWp c m body)
-    (cond (eqb kind 7) (cutPower c m)
-    (deselect S c m true)))))))
+-- one event by its kind; the one known kind that is left is the loose deselect
+unfoldable pub applied : Setting → Chip → List ℕ → ℕ → ℕ → Outcome
+applied T c m kind body =
+    cond (eqb kind SELECT) (select c m)
+    (cond (eqb kind EXCHANGE) (exchangeByte T c m (body % 256))
+    (cond (eqb kind DESELECT) (deselect T c m false)
+    (cond (eqb kind TICK) (tick T c m 1)
+    (cond (eqb kind TICKS) (tick T c m body)
+    (cond (eqb kind WP) (setWp c m body)
+    (cond (eqb kind POWER) (cutPower c m)
+    (deselect T c m true)))))))

@@ -6,62 +6,63 @@ use mathlib.Core.Path.{_≡_, refl, sym, ap, _∙_}
 use lib.Dec.{eqb}
 use lib.ListN.{length}
 use Rattle.cells.specs.Choice.{cond-either}
+use Rattle.part.specs.Part.{Setting}
+use Rattle.kinds.specs.Kinds.{TICK, TICKS}
 use Rattle.chip.specs.declared.Chip.{Chip}
 use Rattle.chip.specs.declared.Core.{Core}
 use Rattle.chip.specs.declared.Frame.{Frame}
-use Rattle.chip.specs.declared.Record.{Record}
 use Rattle.chip.specs.Chip.{statusByte}
 use Rattle.job.specs.Laws.{length-ticks}
 use Rattle.verdict.specs.Verdict.{verdict}
-use Rattle.verdict.specs.Effect.{settled, acted, armedAs}
+use Rattle.verdict.specs.Effect.{settled}
 use Rattle.verdict.specs.Laws.{acted-nothing}
 use Rattle.event.specs.Event.{Outcome, deselect, tick, applied}
 use Rattle.event.specs.Laws.{applied-each}
 
 -- the outcome of a deselect has the memory as it was, and no working tick
-pub deselect-memory : (S : ℕ) (c : Chip) (m : List ℕ) (loose : Bool) → deselect S c m loose .memory ≡ m
-deselect-memory S c m loose = cond-either (λ (o : Outcome). o .memory ≡ m) (c .frame .selected) _ _ (λ _. refl) (λ _. refl)
+pub deselect-memory : (T : Setting) (c : Chip) (m : List ℕ) (loose : Bool) → deselect T c m loose .memory ≡ m
+deselect-memory T c m loose = cond-either (λ (o : Outcome). o .memory ≡ m) (c .frame .selected) _ _ (λ _. refl) (λ _. refl)
 
-pub deselect-works-none : (S : ℕ) (c : Chip) (m : List ℕ) (loose : Bool) → deselect S c m loose .ticks ≡ 0
-deselect-works-none S c m loose = cond-either (λ (o : Outcome). o .ticks ≡ 0) (c .frame .selected) _ _ (λ _. refl) (λ _. refl)
+pub deselect-works-none : (T : Setting) (c : Chip) (m : List ℕ) (loose : Bool) → deselect T c m loose .ticks ≡ 0
+deselect-works-none T c m loose = cond-either (λ (o : Outcome). o .ticks ≡ 0) (c .frame .selected) _ _ (λ _. refl) (λ _. refl)
 
 -- Memory keeps its length.
-pub length-applied : (S : ℕ) (c : Chip) (m : List ℕ) (kind body : ℕ) → length (applied S c m kind body .memory) ≡ length m
-length-applied S c m kind body =
-    applied-each S c m kind body (λ (o : Outcome). length (o .memory) ≡ length m)
+pub length-applied : (T : Setting) (c : Chip) (m : List ℕ) (kind body : ℕ) → length (applied T c m kind body .memory) ≡ length m
+length-applied T c m kind body =
+    applied-each T c m kind body (λ (o : Outcome). length (o .memory) ≡ length m)
     (λ _. refl)
     (λ _. refl)
-    (λ _. ap length (deselect-memory S c m false))
-    (λ _. length-ticks S 1 (c .core) (c .page) m)
-    (λ _. length-ticks S body (c .core) (c .page) m)
+    (λ _. ap length (deselect-memory T c m false))
+    (λ _. length-ticks (T .sectors) 1 (c .core) (c .held) m)
+    (λ _. length-ticks (T .sectors) body (c .core) (c .held) m)
     (λ _. refl)
     (λ _. refl)
-    (λ _. ap length (deselect-memory S c m true))
+    (λ _. ap length (deselect-memory T c m true))
 
 -- An event of a kind other than ticks works no tick and changes no cell.
-pub works-none : (S : ℕ) (c : Chip) (m : List ℕ) (kind body : ℕ) → (kind ≡ 4 → ⊥) → (kind ≡ 5 → ⊥) → applied S c m kind body .ticks ≡ 0
-works-none S c m kind body not-tick not-ticks =
-    applied-each S c m kind body (λ (o : Outcome). o .ticks ≡ 0)
+pub works-none : (T : Setting) (c : Chip) (m : List ℕ) (kind body : ℕ) → (kind ≡ TICK → ⊥) → (kind ≡ TICKS → ⊥) → applied T c m kind body .ticks ≡ 0
+works-none T c m kind body not-tick not-ticks =
+    applied-each T c m kind body (λ (o : Outcome). o .ticks ≡ 0)
     (λ _. refl)
     (λ _. refl)
-    (λ _. deselect-works-none S c m false)
+    (λ _. deselect-works-none T c m false)
     (λ e. absurd (not-tick e))
     (λ e. absurd (not-ticks e))
     (λ _. refl)
     (λ _. refl)
-    (λ _. deselect-works-none S c m true)
+    (λ _. deselect-works-none T c m true)
 
-pub cells-stay : (S : ℕ) (c : Chip) (m : List ℕ) (kind body : ℕ) → (kind ≡ 4 → ⊥) → (kind ≡ 5 → ⊥) → applied S c m kind body .memory ≡ m
-cells-stay S c m kind body not-tick not-ticks =
-    applied-each S c m kind body (λ (o : Outcome). o .memory ≡ m)
+pub cells-stay : (T : Setting) (c : Chip) (m : List ℕ) (kind body : ℕ) → (kind ≡ TICK → ⊥) → (kind ≡ TICKS → ⊥) → applied T c m kind body .memory ≡ m
+cells-stay T c m kind body not-tick not-ticks =
+    applied-each T c m kind body (λ (o : Outcome). o .memory ≡ m)
     (λ _. refl)
     (λ _. refl)
-    (λ _. deselect-memory S c m false)
+    (λ _. deselect-memory T c m false)
     (λ e. absurd (not-tick e))
     (λ e. absurd (not-ticks e))
     (λ _. refl)
     (λ _. refl)
-    (λ _. deselect-memory S c m true)
+    (λ _. deselect-memory T c m true)
 
 -- Verdicts 3 to 12 change no job and no status bit, and WEN stays; so do all verdicts but 1 and 2.
 pub record Untouched (k k′ : Core) : Type 0 where
@@ -69,16 +70,16 @@ pub record Untouched (k k′ : Core) : Type 0 where
   pub status-stays : statusByte k′ ≡ statusByte k
   pub wen-stays : k′ .wen ≡ k .wen
 
-pub settled-untouched : (k : Core) (f : Frame) (v n : ℕ) → (v ≡ 1 → ⊥) → (v ≡ 2 → ⊥) → Untouched k (settled k f v n)
+pub settled-untouched : (S : ℕ) (k : Core) (f : Frame) (v : ℕ) → (v ≡ 1 → ⊥) → (v ≡ 2 → ⊥) → Untouched k (settled S k f v)
 unfolding settled statusByte
-settled-untouched k f v n not-one not-two =
+settled-untouched S k f v not-one not-two =
     cond-either (Untouched k) (eqb (f .count) 0) _ _ (λ _. record { job-stays = refl; status-stays = refl; wen-stays = refl })
-    (λ _. rw (acted-nothing k f v n not-one not-two) (record { job-stays = refl; status-stays = refl; wen-stays = refl }))
+    (λ _. rw (acted-nothing S k f v not-one not-two) (record { job-stays = refl; status-stays = refl; wen-stays = refl }))
 
 -- the same of the whole deselect, by the verdict that it gives
-pub deselect-untouched : (S : ℕ) (c : Chip) (m : List ℕ) (loose : Bool) → (verdict (c .core) (c .frame) loose S (length m) ≡ 1 → ⊥)
-    → (verdict (c .core) (c .frame) loose S (length m) ≡ 2 → ⊥) → Untouched (c .core) (deselect S c m loose .chip .core)
-deselect-untouched S c m loose not-one not-two =
+pub deselect-untouched : (T : Setting) (c : Chip) (m : List ℕ) (loose : Bool) → (verdict (T .sectors) (c .core) (c .frame) loose ≡ 1 → ⊥)
+    → (verdict (T .sectors) (c .core) (c .frame) loose ≡ 2 → ⊥) → Untouched (c .core) (deselect T c m loose .chip .core)
+deselect-untouched T c m loose not-one not-two =
     cond-either (λ (o : Outcome). Untouched (c .core) (o .chip .core)) (c .frame .selected) _ _
-    (λ _. settled-untouched (c .core) (c .frame) _ (length m) not-one not-two)
+    (λ _. settled-untouched (T .sectors) (c .core) (c .frame) _ not-one not-two)
     (λ _. record { job-stays = refl; status-stays = refl; wen-stays = refl })

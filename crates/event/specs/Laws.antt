@@ -1,75 +1,70 @@
 -- What is true of one event: each way that it goes, and what it leaves alone.
-use Prim.Native.Nat.{ℕ, _≤_, _<_, _%_, _+_}
-use mathlib.Core.Bool.{Bool, true, false, cond, not, _&&_}
+use Prim.Native.Nat.{ℕ, _≤_, _<_, _%_}
+use mathlib.Core.Bool.{Bool, true, false, cond, not, false≢true}
 use mathlib.Core.List.{List}
-use mathlib.Core.Path.{_≡_, refl, sym, ap, _∙_}
+use mathlib.Core.Path.{_≡_, refl, sym, ap, subst, _∙_}
+use mathlib.Core.Logic.{⊎-elim}
 use native.Mathlib.Nat.{mod-eq-of-lt}
 use native.Mathlib.Omega.{arith}
 use lib.ListN.{length}
-use lib.Dec.{eqb, leb}
-use borrow.Author.Tests.{eq-eqb, ne-eqb, eqb-true, eqb-false, leb-true}
-use Rattle.cells.specs.Choice.{cond-yes, cond-no, cond-either, and-left, and-right}
-use Rattle.part.specs.Part.{permitted, sectors}
+use lib.Dec.{eqb}
+use borrow.Author.Tests.{eq-eqb, ne-eqb, eqb-true, eqb-false}
+use Rattle.cells.specs.Choice.{cond-yes, cond-no, cond-either}
+use Rattle.part.specs.Part.{permitted, Setting, setting, sectors}
+use Rattle.kinds.specs.Kinds.{SELECT, EXCHANGE, DESELECT, TICK, TICKS, WP, POWER, LOOSE, Says, KindRow, kindRowIn, kindRow, knownKind, bodyLength, inRange, saysOf, isSaid, roomOf}
+use Rattle.kinds.specs.Laws.{kind-each, last-kind, range-small}
 use Rattle.chip.specs.declared.Chip.{Chip}
 use Rattle.chip.specs.Legal.{legal}
-use Rattle.chip.specs.declared.Record.the-variants.{Verdict}
+use Rattle.chip.specs.declared.Core.{Core}
+use Rattle.chip.specs.declared.Frame.{Frame}
+use Rattle.chip.specs.declared.Record.{Record}
+use Rattle.chip.specs.declared.Record.the-variants.{Nothing, Floating, Driven, Verdict}
+use Rattle.chip.specs.Record.{recordBytes}
+use Rattle.chip.specs.Laws.{recordBytes-most}
+use Rattle.frame.specs.Frame.{Exchange, exchanged}
+use Rattle.frame.specs.Legality.{taken-each, exchanged-each}
 use Rattle.verdict.specs.Verdict.{verdict}
 use Rattle.event.specs.Event.{Outcome, outcome, select, exchangeByte, deselect, closes, tick, setWp, cutPower, applied}
-use Rattle.event.specs.Alone.{knownKind, bodyLength, inRange, bodyUsed, refusal, refused, done, happens, answerOf, memoryOf}
+use Rattle.event.specs.Alone.{bodyUsed, refusal, refused, done, happens, answerOf, memoryOf}
 
 -- ---- a deselect
 
-pub deselect-unselected : (S : ℕ) (c : Chip) (m : List ℕ) (loose : Bool) → c .frame .selected ≡ false
-    → deselect S c m loose ≡ outcome (c .core) (c .frame) (c .load) (c .page) m (Verdict 0) 0
-deselect-unselected S c m loose h = cond-no (c .frame .selected) _ _ h
+pub deselect-unselected : (T : Setting) (c : Chip) (m : List ℕ) (loose : Bool) → c .frame .selected ≡ false
+    → deselect T c m loose ≡ outcome (c .core) (c .frame) (c .load) (c .held) m (Verdict 0) 0
+deselect-unselected T c m loose h = cond-no (c .frame .selected) _ _ h
 
-pub deselect-selected : (S : ℕ) (c : Chip) (m : List ℕ) (loose : Bool) → c .frame .selected ≡ true
-    → deselect S c m loose ≡ closes S c m (verdict (c .core) (c .frame) loose S (length m))
-deselect-selected S c m loose h = cond-yes (c .frame .selected) _ _ h
+pub deselect-selected : (T : Setting) (c : Chip) (m : List ℕ) (loose : Bool) → c .frame .selected ≡ true
+    → deselect T c m loose ≡ closes T c m (verdict (T .sectors) (c .core) (c .frame) loose)
+deselect-selected T c m loose h = cond-yes (c .frame .selected) _ _ h
 
 -- ---- one event, by its kind
 
--- a known kind is 1 to 8
-pub kind-small : (kind : ℕ) → knownKind kind ≡ true → kind ≤ 8
-unfolding knownKind
-kind-small kind h = leb-true kind 8 (and-right (leb 1 kind) (leb kind 8) h)
-
-pub kind-some : (kind : ℕ) → knownKind kind ≡ true → 1 ≤ kind
-unfolding knownKind
-kind-some kind h = leb-true 1 kind (and-left (leb 1 kind) (leb kind 8) h)
-
 -- what holds of each kind's outcome holds of the event's; the last is for 8, the one known kind that is left
-pub applied-each : (S : ℕ) (c : Chip) (m : List ℕ) (kind body : ℕ) (P : Outcome → Type 0)
-    → (kind ≡ 1 → P (select c m))
-    → (kind ≡ 2 → P (exchangeByte c m (body % 256)))
-    → (kind ≡ 3 → P (deselect S c m false))
-    → (kind ≡ 4 → P (tick S c m 1))
-    → (kind ≡ 5 → P (tick S c m body))
-    → (kind ≡ 6 → P (setWp c m body))
-    → (kind ≡ 7 → P (cutPower c m))
-    → ((knownKind kind ≡ true → kind ≡ 8) → P (deselect S c m true))
-    → P (applied S c m kind body)
+pub applied-each : (T : Setting) (c : Chip) (m : List ℕ) (kind body : ℕ) (P : Outcome → Type 0)
+    → (kind ≡ SELECT → P (select c m))
+    → (kind ≡ EXCHANGE → P (exchangeByte T c m (body % 256)))
+    → (kind ≡ DESELECT → P (deselect T c m false))
+    → (kind ≡ TICK → P (tick T c m 1))
+    → (kind ≡ TICKS → P (tick T c m body))
+    → (kind ≡ WP → P (setWp c m body))
+    → (kind ≡ POWER → P (cutPower c m))
+    → ((knownKind kind ≡ true → kind ≡ LOOSE) → P (deselect T c m true))
+    → P (applied T c m kind body)
 unfolding applied
-applied-each S c m kind body P p₁ p₂ p₃ p₄ p₅ p₆ p₇ p₈ =
-    cond-either P (eqb kind 1) _ _ (λ e. p₁ (eqb-true _ _ e))
-    (λ n₁. cond-either P (eqb kind 2) _ _ (λ e. p₂ (eqb-true _ _ e))
-    (λ n₂. cond-either P (eqb kind 3) _ _ (λ e. p₃ (eqb-true _ _ e))
-    (λ n₃. cond-either P (eqb kind 4) _ _ (λ e. p₄ (eqb-true _ _ e))
-    (λ n₄. cond-either P (eqb kind 5) _ _ (λ e. p₅ (eqb-true _ _ e))
-    (λ n₅. cond-either P (eqb kind 6) _ _ (λ e. p₆ (eqb-true _ _ e))
-    (λ n₆. cond-either P (eqb kind 7) _ _ (λ e. p₇ (eqb-true _ _ e))
-    (λ n₇. p₈ (λ k. last k (up 7 n₇ (up 6 n₆ (up 5 n₅ (up 4 n₄ (up 3 n₃ (up 2 n₂ (up 1 n₁ (kind-some kind k))))))))))))))))
-  where
-    up : (i : ℕ) → eqb kind i ≡ false → i ≤ kind → i + 1 ≤ kind
-    up i e l = omega (arith, eqb-false kind i e)
-
-    last : knownKind kind ≡ true → 7 + 1 ≤ kind → kind ≡ 8
-    last k l = omega (arith, kind-small kind k)
+applied-each T c m kind body P p₁ p₂ p₃ p₄ p₅ p₆ p₇ p₈ =
+    cond-either P (eqb kind SELECT) _ _ (λ e. p₁ (eqb-true _ _ e))
+    (λ n₁. cond-either P (eqb kind EXCHANGE) _ _ (λ e. p₂ (eqb-true _ _ e))
+    (λ n₂. cond-either P (eqb kind DESELECT) _ _ (λ e. p₃ (eqb-true _ _ e))
+    (λ n₃. cond-either P (eqb kind TICK) _ _ (λ e. p₄ (eqb-true _ _ e))
+    (λ n₄. cond-either P (eqb kind TICKS) _ _ (λ e. p₅ (eqb-true _ _ e))
+    (λ n₅. cond-either P (eqb kind WP) _ _ (λ e. p₆ (eqb-true _ _ e))
+    (λ n₆. cond-either P (eqb kind POWER) _ _ (λ e. p₇ (eqb-true _ _ e))
+    (λ n₇. p₈ (last-kind kind (eqb-false _ _ n₁) (eqb-false _ _ n₂) (eqb-false _ _ n₃) (eqb-false _ _ n₄) (eqb-false _ _ n₅) (eqb-false _ _ n₆) (eqb-false _ _ n₇)))))))))
 
 -- the exchange of a byte, as an event
-pub applied-exchange : (S : ℕ) (c : Chip) (m : List ℕ) (kind b : ℕ) → kind ≡ 2 → b < 256 → applied S c m kind b ≡ exchangeByte c m b
+pub applied-exchange : (T : Setting) (c : Chip) (m : List ℕ) (kind b : ℕ) → kind ≡ EXCHANGE → b < 256 → applied T c m kind b ≡ exchangeByte T c m b
 unfolding applied
-applied-exchange S c m kind b e l = rw (e, mod-eq-of-lt l)
+applied-exchange T c m kind b e l = rw (e, mod-eq-of-lt l)
 
 -- ---- an event alone
 
@@ -111,19 +106,60 @@ memory-done c m kind body h = cond-yes _ _ _ (eq-eqb _ _ h)
 
 -- a body in its range, or 0 for a kind that has none, is at most 65,535
 pub used-small : (kind body : ℕ) → inRange kind body ≡ true → bodyUsed kind body ≤ 65535
-unfolding inRange bodyUsed bodyLength
-used-small kind body = go (eqb kind 2) (eqb kind 5) (eqb kind 6) (eqb kind 8)
-  where
-    go : (is2 is5 is6 is8 : Bool)
-        → cond is2 (leb body 255) (cond is5 (leb 1 body && leb body 65535) (cond is6 (leb body 1) (cond is8 (leb 1 body && leb body 7) true))) ≡ true
-        → cond (eqb (cond is2 1 (cond is5 2 (cond is6 1 (cond is8 1 0)))) 0) 0 body ≤ 65535
-    go true is5 is6 is8 h = omega (arith, leb-true body 255 h)
-    go false true is6 is8 h = leb-true body 65535 (and-right (leb 1 body) (leb body 65535) h)
-    go false false true is8 h = omega (arith, leb-true body 1 h)
-    go false false false true h = omega (arith, leb-true body 7 (and-right (leb 1 body) (leb body 7) h))
-    go false false false false h = omega arith
+unfolding bodyUsed
+used-small kind body h =
+    cond-either (λ (n : ℕ). n ≤ 65535) (eqb (bodyLength kind) 0) 0 body (λ _. omega arith)
+    (λ some. ⊎-elim (λ none. absurd (eqb-false _ _ some none)) (λ small. small) (range-small kind body h))
 
 -- what an event does, from the number of sectors and the body that are used for it
-pub happens-as : (c : Chip) (m : List ℕ) (kind body S used : ℕ) → S ≡ sectors (length m) → used ≡ bodyUsed kind body → applied S c m kind used ≡ happens c m kind body
+pub happens-as : (c : Chip) (m : List ℕ) (kind body S used : ℕ) → S ≡ sectors (length m) → used ≡ bodyUsed kind body → applied (setting S) c m kind used ≡ happens c m kind body
 unfolding happens
 happens-as c m kind body S used e u = rw (e, u)
+
+-- ---- what an event says
+
+-- the sort of a record, as the table of kinds has it
+abbrev pub sortOf : Record → Says
+sortOf Nothing = Says.silent
+sortOf Floating = Says.line
+sortOf (Driven b) = Says.line
+sortOf (Verdict v) = Says.verdict
+
+exchange-sort : (T : Setting) (k : Core) (f : Frame) (load m : List ℕ) (b : ℕ) → sortOf (exchanged T k f load m b .said) ≡ Says.line
+exchange-sort T k f load m b =
+    exchanged-each T k f load m b (λ (e : Exchange). sortOf (e .said) ≡ Says.line) (λ _. refl) (λ _ _. refl) (λ _. refl)
+    (λ _. taken-each T k f load m b (λ (e : Exchange). sortOf (e .said) ≡ Says.line) (λ _. refl) (λ _. refl) (λ _. refl) (λ _. refl) refl (λ _. refl))
+
+deselect-sort : (T : Setting) (c : Chip) (m : List ℕ) (loose : Bool) → sortOf (deselect T c m loose .said) ≡ Says.verdict
+deselect-sort T c m loose = cond-either (λ (o : Outcome). sortOf (o .said) ≡ Says.verdict) (c .frame .selected) _ _ (λ _. refl) (λ _. refl)
+
+-- an event says what the table has for its kind
+pub says-its-kind : (T : Setting) (c : Chip) (m : List ℕ) (kind body : ℕ) → knownKind kind ≡ true → sortOf (applied T c m kind body .said) ≡ saysOf kind
+unfolding kindRow kindRowIn
+says-its-kind T c m kind body known =
+    applied-each T c m kind body (λ (o : Outcome). sortOf (o .said) ≡ saysOf kind)
+    (λ e. sym (ap saysOf e))
+    (λ e. exchange-sort T (c .core) (c .frame) (c .load) m (body % 256) ∙ sym (ap saysOf e))
+    (λ e. deselect-sort T c m false ∙ sym (ap saysOf e))
+    (λ e. sym (ap saysOf e))
+    (λ e. sym (ap saysOf e))
+    (λ e. sym (ap saysOf e))
+    (λ e. sym (ap saysOf e))
+    (λ e. deselect-sort T c m true ∙ sym (ap saysOf (e known)))
+
+-- and the table gives it room
+sort-room : (kind : ℕ) (r : Record) → sortOf r ≡ saysOf kind → length (recordBytes r) ≤ roomOf kind
+unfolding kindRow kindRowIn
+sort-room kind r =
+    kind-each (λ kind. sortOf r ≡ saysOf kind → length (recordBytes r) ≤ roomOf kind)
+    (silent-room r) (λ _. recordBytes-most r) (λ _. recordBytes-most r) (silent-room r) (silent-room r) (silent-room r) (silent-room r) (λ _. recordBytes-most r)
+    (λ kind o e. subst (λ (w : KindRow). length (recordBytes r) ≤ w .room) (sym (o .no-row)) (silent-room r (e ∙ ap (λ (w : KindRow). w .says) (o .no-row)))) kind
+  where
+    silent-room : (r : Record) → sortOf r ≡ Says.silent → length (recordBytes r) ≤ 0
+    silent-room Nothing e = omega arith
+    silent-room Floating e = absurd (false≢true (sym (ap isSaid e)))
+    silent-room (Driven b) e = absurd (false≢true (sym (ap isSaid e)))
+    silent-room (Verdict v) e = absurd (false≢true (sym (ap isSaid e)))
+
+pub said-room : (T : Setting) (c : Chip) (m : List ℕ) (kind body : ℕ) → knownKind kind ≡ true → length (recordBytes (applied T c m kind body .said)) ≤ roomOf kind
+said-room T c m kind body known = sort-room kind (applied T c m kind body .said) (says-its-kind T c m kind body known)

@@ -1,35 +1,37 @@
 -- A legal state stays legal under every event.
-use Prim.Native.Nat.{ℕ, _*_, _%_, _<_, _≤_}
+use Prim.Native.Nat.{ℕ, _%_, _≤_}
 use mathlib.Core.Bool.{Bool, true, false, not, _&&_, _||_, false≢true}
 use mathlib.Core.List.{List}
-use mathlib.Core.Path.{_≡_, refl, sym, ap, _∙_}
+use mathlib.Core.Path.{_≡_, refl}
 use native.Mathlib.Omega.{arith}
 use lib.Dec.{eqb}
 use lib.ListN.{length}
 use Rattle.cells.specs.Choice.{cond-either}
-use Rattle.part.specs.Part.{sectors, sector}
-use Rattle.part.specs.Laws.{permitted-some, permitted-whole}
+use Rattle.part.specs.Part.{sectors, Setting, settingOf}
+use Rattle.part.specs.Laws.{permitted-some}
 use Rattle.chip.specs.declared.Chip.{Chip}
-use Rattle.chip.specs.declared.Core.{Core}
 use Rattle.chip.specs.declared.Frame.{Frame}
-use Rattle.chip.specs.Legal.{legal, isEmpty, isBlank}
-use Rattle.chip.specs.Legality.{LegalCore, LegalFrame, LegalChip, tidy, chip-facts, chip-legal, length-some, empty-legal, empty-tidy}
+use Rattle.chip.specs.Fields.{withSelected, withWp}
+use Rattle.chip.specs.Legal.{legal, isEmpty, isBlank, tidy}
+use Rattle.chip.specs.Legality.{LegalCore, LegalFrame, LegalChip, chip-facts, chip-legal, empty-legal, empty-tidy}
 use Rattle.job.specs.Legality.{ticks-legal}
-use Rattle.frame.specs.Frame.{Exchange, exchanged}
+use Rattle.frame.specs.Frame.{exchanged}
 use Rattle.frame.specs.Legality.{LegalExchange, exchange-legal}
 use Rattle.verdict.specs.Legality.{settled-legal}
-use Rattle.event.specs.Event.{Outcome, selectedFrame, wpAs, poweredUp, deselect, tick, applied}
-use Rattle.event.specs.Alone.{answerOf, refusal}
+use Rattle.event.specs.Event.{Outcome, poweredUp, deselect, tick, applied}
 use Rattle.event.specs.Laws.{applied-each}
 
 module _ (c : Chip) (m : List ℕ) (l : LegalChip c (length m)) where
   abbrev n : ℕ
   n = length m
 
-  some : 0 < n
-  some = length-some n (l .length-permitted)
+  abbrev T : Setting
+  T = settingOf n
 
-  select-tidy : (f : Frame) (load : List ℕ) → tidy f load ≡ true → tidy (selectedFrame f) load ≡ true
+  some : 1 ≤ sectors n
+  some = permitted-some n (l .length-permitted)
+
+  select-tidy : (f : Frame) (load : List ℕ) → tidy f load ≡ true → tidy (withSelected true f) load ≡ true
   unfolding isEmpty
   select-tidy f load = go (f .selected) (not (eqb (f .count) 0)) (isEmpty f && isBlank load)
     where
@@ -38,7 +40,7 @@ module _ (c : Chip) (m : List ℕ) (l : LegalChip c (length m)) where
       go false true e h = refl
       go false false e h = h
 
-  select-legal : LegalFrame (selectedFrame (c .frame)) n
+  select-legal : LegalFrame (sectors n) (withSelected true (c .frame))
   select-legal =
       record {
         address-small = l .frame-part .address-small;
@@ -47,7 +49,7 @@ module _ (c : Chip) (m : List ℕ) (l : LegalChip c (length m)) where
         judgement-known = l .frame-part .judgement-known;
       }
 
-  wp-legal : (wp : Bool) → LegalCore (wpAs wp (c .core)) (sectors n) n
+  wp-legal : (wp : Bool) → LegalCore (sectors n) (withWp wp (c .core))
   wp-legal wp =
       record {
         level-small = l .core-part .level-small;
@@ -59,7 +61,7 @@ module _ (c : Chip) (m : List ℕ) (l : LegalChip c (length m)) where
         deep-unarmed = l .core-part .deep-unarmed;
       }
 
-  power-legal : LegalCore (poweredUp (c .core)) (sectors n) n
+  power-legal : LegalCore (sectors n) (poweredUp (c .core))
   power-legal =
       record {
         level-small = l .core-part .level-small;
@@ -74,37 +76,36 @@ module _ (c : Chip) (m : List ℕ) (l : LegalChip c (length m)) where
   abbrev Stays : Outcome → Type 0
   Stays o = LegalChip (o .chip) n
 
-  deselect-legal : (loose : Bool) → Stays (deselect (sectors n) c m loose)
+  deselect-legal : (loose : Bool) → Stays (deselect T c m loose)
   deselect-legal loose =
       cond-either Stays (c .frame .selected) _ _
       (λ _.
       record {
         length-permitted = l .length-permitted;
-        core-part =
-            settled-legal (sectors n) n (c .core) (l .core-part) (c .frame) loose (permitted-some n (l .length-permitted)) (permitted-whole n (l .length-permitted)) (l .frame-part .judgement-known);
-        frame-part = empty-legal false n some;
+        core-part = settled-legal (sectors n) (c .core) (l .core-part) (c .frame) loose some (l .frame-part .judgement-known);
+        frame-part = empty-legal (sectors n) false some;
         tidy-part = empty-tidy;
       })
       (λ _. l)
 
-  tick-legal : (t : ℕ) → Stays (tick (sectors n) c m t)
+  tick-legal : (t : ℕ) → Stays (tick T c m t)
   tick-legal t =
-      record { length-permitted = l .length-permitted; core-part = ticks-legal (sectors n) n t (c .core) (l .core-part); frame-part = l .frame-part; tidy-part = l .tidy-part }
+      record { length-permitted = l .length-permitted; core-part = ticks-legal (sectors n) t (c .core) (l .core-part); frame-part = l .frame-part; tidy-part = l .tidy-part }
 
-  pub event-legal : (kind body : ℕ) → Stays (applied (sectors n) c m kind body)
+  pub event-legal : (kind body : ℕ) → Stays (applied T c m kind body)
   event-legal kind body =
-      applied-each (sectors n) c m kind body Stays
+      applied-each T c m kind body Stays
       (λ _. record { length-permitted = l .length-permitted; core-part = l .core-part; frame-part = select-legal; tidy-part = select-tidy (c .frame) (c .load) (l .tidy-part) })
       (λ _.
-      let e : LegalExchange n (exchanged (c .core) (c .frame) (c .load) m (body % 256)) = exchange-legal (c .core) (c .frame) (c .load) m (body % 256) some (omega arith) (l .frame-part) (l .tidy-part) in
+      let e : LegalExchange (sectors n) (exchanged T (c .core) (c .frame) (c .load) m (body % 256)) = exchange-legal T (c .core) (c .frame) (c .load) m (body % 256) some (omega arith) (l .frame-part) (l .tidy-part) in
       record { length-permitted = l .length-permitted; core-part = l .core-part; frame-part = e .frame-part; tidy-part = e .tidy-part })
       (λ _. deselect-legal false)
       (λ _. tick-legal 1)
       (λ _. tick-legal body)
       (λ _. record { length-permitted = l .length-permitted; core-part = wp-legal (eqb body 1); frame-part = l .frame-part; tidy-part = l .tidy-part })
-      (λ _. record { length-permitted = l .length-permitted; core-part = power-legal; frame-part = empty-legal false n some; tidy-part = empty-tidy })
+      (λ _. record { length-permitted = l .length-permitted; core-part = power-legal; frame-part = empty-legal (sectors n) false some; tidy-part = empty-tidy })
       (λ _. deselect-legal true)
 
 -- A legal state stays legal under every event.
-pub legal-applied : (c : Chip) (m : List ℕ) (kind body : ℕ) → legal c (length m) ≡ true → legal (applied (sectors (length m)) c m kind body .chip) (length m) ≡ true
+pub legal-applied : (c : Chip) (m : List ℕ) (kind body : ℕ) → legal c (length m) ≡ true → legal (applied (settingOf (length m)) c m kind body .chip) (length m) ≡ true
 legal-applied c m kind body h = chip-legal _ _ (event-legal c m (chip-facts _ _ h) kind body)

@@ -3,3 +3,4 @@ pub mod Alone
 pub mod Laws
 pub mod Legality
 pub mod Keeps
+pub mod Leftovers

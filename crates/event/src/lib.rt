@@ -1,16 +1,18 @@
 // One event: on the parts of a legal chip, and alone, with its refusals.
 ghost use mathlib.Core.Path.{_≡_};
-ghost use mathlib.Core.Bool.{cond, false};
+ghost use mathlib.Core.Bool.{true};
 ghost use mathlib.Core.List.{List};
-ghost use Prim.Native.Nat.{ℕ, _≤_, _<_};
-ghost use lib.ListN.{length};
-ghost use Rattle.chip.specs.Chip.{emptyFrame, blankLoad};
-ghost use Rattle.event.specs.Event.{whole, outcome, applied, selectedFrame, wpAs, poweredUp, deselect, tick};
-ghost use Rattle.event.specs.Alone.{knownKind, bodyLength, inRange, yields, bodyUsed, refusal, done, answerOf, memoryOf};
+ghost use Prim.Native.Nat.{ℕ};
+ghost use Rattle.part.specs.Part.{setting};
+ghost use Rattle.chip.specs.Fields.{withSelected, withWp};
+ghost use Rattle.chip.specs.Chip.{whole};
+ghost use Rattle.event.specs.Event.{outcome, applied, poweredUp, deselect, tick};
+ghost use Rattle.event.specs.Alone.{bodyUsed, refusal, done, answerOf, memoryOf};
 use chip::Chip;
 use chip::Core;
 use chip::Frame;
 use chip::Record;
+use kinds::Kind;
 
 // What an event leaves of the core and the frame, what it says, and its working ticks.
 pub struct Stepped {
@@ -40,7 +42,7 @@ fn stays(core: Core, frame: Frame, said: Record) -> Stepped
 }
 
 fn select_frame(f: Frame) -> Frame
-    ensures { λ r. ⌜ r ≡ selectedFrame f ⌝ }
+    ensures { λ r. ⌜ r ≡ withSelected true f ⌝ }
 {
     let mut next = f;
     next.selected = true;
@@ -48,7 +50,7 @@ fn select_frame(f: Frame) -> Frame
 }
 
 fn set_wp(high: bool, core: Core) -> Core
-    ensures { λ r. ⌜ r ≡ wpAs high core ⌝ }
+    ensures { λ r. ⌜ r ≡ withWp high core ⌝ }
 {
     let mut next = core;
     next.wp = high;
@@ -64,48 +66,44 @@ fn power_up(core: Core) -> Core
     next
 }
 
-// The load becomes the job's, if it is handed over.
-fn hand_over(yes: bool, load: &[u8; 256], page: &mut [u8; 256])
-    ensures { λ r. ⌜ now (page .exit) ≡ cond yes (now (load .entry)) (now (page .entry)) ⌝ }
-{
-    if yes {
-        *page = *load;
-    }
-}
-
 // A deselect, clean or loose: the verdict, its effect, and the empty frame left behind.
 fn deselect(
     core: Core,
     frame: Frame,
     load: &mut [u8; 256],
-    page: &mut [u8; 256],
-    mem: &[u8],
+    held: &mut [u8; 256],
     sectors: u8,
     loose: bool,
 ) -> Stepped
-    ensures { λ r. ⌜ outcome (r .core) (r .frame) (now (load .exit)) (now (page .exit)) (now (mem .entry)) (r .said) (r .ticks)
-        ≡ deselect sectors (whole core frame (now (load .entry)) (now (page .entry))) (now (mem .entry)) loose ⌝ }
+    ensures { λ r. ⌜ ((m : List ℕ) → outcome (r .core) (r .frame) (now (load .exit)) (now (held .exit)) m (r .said) (r .ticks)
+        ≡ deselect (setting sectors) (whole core frame (now (load .entry)) (now (held .entry))) m loose) ⌝ }
 {
     if !frame.selected {
         return stays(core, frame, Record::Verdict(0));
     }
-    let n = mem.len();
-    let v = verdict::verdict(core, frame, loose, sectors, n);
-    hand_over(verdict::hands_over(frame, v), load, page);
+    let v = verdict::verdict(sectors, core, frame, loose);
+    verdict::hand_over(frame, v, load, held);
     *load = [255; 256];
     stays(
-        verdict::settle(core, frame, v, n),
+        verdict::settle(sectors, core, frame, v),
         chip::empty_frame(false),
         Record::Verdict(v),
     )
 }
 
 // n ticks.
-fn tick(core: Core, frame: Frame, page: &[u8; 256], mem: &mut [u8], sectors: u8, n: u32) -> Stepped
-    ensures { λ r. ⌜ ((load : List ℕ) → outcome (r .core) (r .frame) load (now (page .entry)) (now (mem .exit)) (r .said) (r .ticks)
-        ≡ tick sectors (whole core frame load (now (page .entry))) (now (mem .entry)) n) ⌝ }
+fn tick(
+    core: Core,
+    frame: Frame,
+    held: &mut [u8; 256],
+    mem: &mut [u8],
+    sectors: u8,
+    n: u32,
+) -> Stepped
+    ensures { λ r. ⌜ ((load : List ℕ) → outcome (r .core) (r .frame) load (now (held .exit)) (now (mem .exit)) (r .said) (r .ticks)
+        ≡ tick (setting sectors) (whole core frame load (now (held .entry))) (now (mem .entry)) n) ⌝ }
 {
-    let t = job::ticks(core, page, mem, sectors, n);
+    let t = job::ticks(core, held, mem, sectors, n);
     let next = t.core;
     Stepped {
         core: next,
@@ -115,84 +113,45 @@ fn tick(core: Core, frame: Frame, page: &[u8; 256], mem: &mut [u8], sectors: u8,
     }
 }
 
-// One event by its kind, 1 to 8, on the parts of a chip.
+// One event by its kind on the parts of a chip; the one known kind that is left is the loose deselect.
 pub fn step(
     core: Core,
     frame: Frame,
     load: &mut [u8; 256],
-    page: &mut [u8; 256],
+    held: &mut [u8; 256],
     mem: &mut [u8],
     sectors: u8,
-    kind: u8,
+    kind: u64,
     body: u32,
 ) -> Stepped
-    ensures { λ r. ⌜ outcome (r .core) (r .frame) (now (load .exit)) (now (page .exit)) (now (mem .exit)) (r .said) (r .ticks)
-        ≡ applied sectors (whole core frame (now (load .entry)) (now (page .entry))) (now (mem .entry)) kind body ⌝ }
+    ensures { λ r. ⌜ outcome (r .core) (r .frame) (now (load .exit)) (now (held .exit)) (now (mem .exit)) (r .said) (r .ticks)
+        ≡ applied (setting sectors) (whole core frame (now (load .entry)) (now (held .entry))) (now (mem .entry)) kind body ⌝ }
 {
     match kind {
-        1 => stays(core, select_frame(frame), Record::Nothing),
-        2 => {
-            let e = frame::exchange(core, frame, load, mem, (body % 256) as u8);
+        Kind::SELECT => stays(core, select_frame(frame), Record::Nothing),
+        Kind::EXCHANGE => {
+            let e = frame::exchange(core, frame, load, mem, sectors, (body % 256) as u8);
             let next = e.frame;
             let said = e.said;
             stays(core, next, said)
         }
-        3 => deselect(core, frame, load, page, mem, sectors, false),
-        4 => tick(core, frame, page, mem, sectors, 1),
-        5 => tick(core, frame, page, mem, sectors, body),
-        6 => stays(set_wp(body == 1, core), frame, Record::Nothing),
-        7 => {
+        Kind::DESELECT => deselect(core, frame, load, held, sectors, false),
+        Kind::TICK => tick(core, frame, held, mem, sectors, 1),
+        Kind::TICKS => tick(core, frame, held, mem, sectors, body),
+        Kind::WP => stays(set_wp(body == 1, core), frame, Record::Nothing),
+        Kind::POWER => {
             *load = [255; 256];
+            *held = [255; 256];
             stays(power_up(core), chip::empty_frame(false), Record::Nothing)
         }
-        _ => deselect(core, frame, load, page, mem, sectors, true),
+        _ => deselect(core, frame, load, held, sectors, true),
     }
-}
-
-// Whether a kind is one of the eight.
-pub fn is_known_kind(kind: u64) -> bool
-    ensures { λ r. ⌜ r ≡ knownKind kind ⌝ }
-{
-    (1 <= kind) & (kind <= 8)
-}
-
-// The length of a kind's body.
-pub fn body_length(kind: u64) -> usize
-    ensures { λ r. ⌜ (r ≡ bodyLength kind) × (r ≤ 2) ⌝ }
-{
-    match kind {
-        2 => 1,
-        5 => 2,
-        6 => 1,
-        8 => 1,
-        _ => 0,
-    }
-}
-
-// Whether a body is in its kind's range.
-pub fn is_in_range(kind: u64, body: u64) -> bool
-    ensures { λ r. ⌜ r ≡ inRange kind body ⌝ }
-{
-    match kind {
-        2 => body <= 255,
-        5 => (1 <= body) & (body <= 65535),
-        6 => body <= 1,
-        8 => (1 <= body) & (body <= 7),
-        _ => true,
-    }
-}
-
-// Whether an event of a kind yields a record.
-pub fn yields(kind: u64) -> bool
-    ensures { λ r. ⌜ r ≡ yields kind ⌝ }
-{
-    (kind == 2) | (kind == 3) | (kind == 8)
 }
 
 fn body_used(kind: u64, body: u64) -> u64
     ensures { λ r. ⌜ r ≡ bodyUsed kind body ⌝ }
 {
-    if body_length(kind) == 0 {
+    if kinds::body_length(kind) == 0 {
         return 0;
     }
     body
@@ -208,24 +167,24 @@ fn refuses(chip: Chip, n: usize, kind: u64, body: u64) -> u8
     if !chip::is_legal(chip, n) {
         return 2;
     }
-    if !is_known_kind(kind) {
+    if !kinds::is_known(kind) {
         return 5;
     }
-    if !is_in_range(kind, body) {
+    if !kinds::is_in_range(kind, body) {
         return 6;
     }
     0
 }
 
 // The answer to an event that is done: the chip is taken apart for the step and put together again.
-fn carry_out(chip: Chip, mem: &mut [u8], sectors: u8, kind: u8, body: u32) -> Answer
-    ensures { λ r. ⌜ (r ≡ done (applied sectors chip (now (mem .entry)) kind body)) × (now (mem .exit) ≡ applied sectors chip (now (mem .entry)) kind body .memory) ⌝ }
+fn carry_out(chip: Chip, mem: &mut [u8], sectors: u8, kind: u64, body: u32) -> Answer
+    ensures { λ r. ⌜ (r ≡ done (applied (setting sectors) chip (now (mem .entry)) kind body)) × (now (mem .exit) ≡ applied (setting sectors) chip (now (mem .entry)) kind body .memory) ⌝ }
 {
     let mut load = chip.load;
-    let mut page = chip.page;
+    let mut held = chip.held;
     let core = chip.core;
     let frame = chip.frame;
-    let s = step(core, frame, &mut load, &mut page, mem, sectors, kind, body);
+    let s = step(core, frame, &mut load, &mut held, mem, sectors, kind, body);
     let next_core = s.core;
     let next_frame = s.frame;
     let said = s.said;
@@ -234,7 +193,7 @@ fn carry_out(chip: Chip, mem: &mut [u8], sectors: u8, kind: u8, body: u32) -> An
             core: next_core,
             frame: next_frame,
             load: load,
-            page: page,
+            held: held,
         },
         said: said,
         refusal: 0,
@@ -257,5 +216,5 @@ pub fn event(chip: Chip, mem: &mut [u8], kind: u64, body: u64) -> Answer
         };
     }
     let used = body_used(kind, body);
-    carry_out(chip, mem, part::sectors_of(n), kind as u8, used as u32)
+    carry_out(chip, mem, part::sectors_of(n), kind, used as u32)
 }

@@ -1,6 +1,6 @@
 -- What is true of the kinds: the table kind by kind, and an event's bytes in a script.
 use Prim.Native.Nat.{ℕ, zero, suc, _+_, _*_, _<_, _≤_, zero-le}
-use mathlib.Core.Bool.{Bool, true, false, cond, _&&_, _||_}
+use mathlib.Core.Bool.{Bool, true, false, cond, _&&_, _||_, false≢true}
 use mathlib.Core.List.{List}
 use mathlib.Core.Path.{_≡_, refl, sym, ap, subst, _∙_}
 use mathlib.Core.Logic.{_⊎_, inl, inr}
@@ -39,6 +39,13 @@ kind-each P p₁ p₂ p₃ p₄ p₅ p₆ p₇ p₈ other kind =
         pick (yes e) = subst P (sym e) p
         pick (no n) = rest n
 
+-- a kind that is none of the first seven is the last
+pub last-kind : (kind : ℕ) → (kind ≡ SELECT → ⊥) → (kind ≡ EXCHANGE → ⊥) → (kind ≡ DESELECT → ⊥) → (kind ≡ TICK → ⊥) → (kind ≡ TICKS → ⊥) → (kind ≡ WP → ⊥) → (kind ≡ POWER → ⊥) → knownKind kind ≡ true → kind ≡ LOOSE
+last-kind =
+    kind-each (λ kind. (kind ≡ SELECT → ⊥) → (kind ≡ EXCHANGE → ⊥) → (kind ≡ DESELECT → ⊥) → (kind ≡ TICK → ⊥) → (kind ≡ TICKS → ⊥) → (kind ≡ WP → ⊥) → (kind ≡ POWER → ⊥) → knownKind kind ≡ true → kind ≡ LOOSE)
+    (λ n _ _ _ _ _ _ _. absurd (n refl)) (λ _ n _ _ _ _ _ _. absurd (n refl)) (λ _ _ n _ _ _ _ _. absurd (n refl)) (λ _ _ _ n _ _ _ _. absurd (n refl)) (λ _ _ _ _ n _ _ _. absurd (n refl)) (λ _ _ _ _ _ n _ _. absurd (n refl)) (λ _ _ _ _ _ _ n _. absurd (n refl)) (λ _ _ _ _ _ _ _ _. refl)
+    (λ kind o _ _ _ _ _ _ _ k. absurd (false≢true (sym (o .not-known) ∙ k)))
+
 -- the kinds without a body, and that no other number has one
 pub no-body : (kind : ℕ) → (kind ≡ EXCHANGE → ⊥) → (kind ≡ TICKS → ⊥) → (kind ≡ WP → ⊥) → (kind ≡ LOOSE → ⊥) → bodyLength kind ≡ 0
 unfolding kindRow kindRowIn
@@ -54,6 +61,12 @@ no-record =
     kind-each (λ kind. (kind ≡ EXCHANGE → ⊥) → (kind ≡ DESELECT → ⊥) → (kind ≡ LOOSE → ⊥) → (yields kind ≡ false) × (roomOf kind ≡ 0))
     (λ _ _ _. (refl, refl)) (λ n _ _. absurd (n refl)) (λ _ n _. absurd (n refl)) (λ _ _ _. (refl, refl)) (λ _ _ _. (refl, refl)) (λ _ _ _. (refl, refl)) (λ _ _ _. (refl, refl)) (λ _ _ n. absurd (n refl))
     (λ kind o _ _ _. (ap (λ (r : KindRow). isSaid (r .says)) (o .no-row), ap (λ (r : KindRow). r .room) (o .no-row)))
+
+-- a kind is a byte
+pub kind-small : (kind : ℕ) → knownKind kind ≡ true → kind ≤ 255
+kind-small =
+    kind-each (λ kind. knownKind kind ≡ true → kind ≤ 255) (λ _. omega arith) (λ _. omega arith) (λ _. omega arith) (λ _. omega arith) (λ _. omega arith) (λ _. omega arith) (λ _. omega arith) (λ _. omega arith)
+    (λ kind o k. absurd (false≢true (sym (o .not-known) ∙ k)))
 
 -- a body in its range fits two bytes
 pub range-small : (kind body : ℕ) → inRange kind body ≡ true → (bodyLength kind ≡ 0) ⊎ (body ≤ 65535)

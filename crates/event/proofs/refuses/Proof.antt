@@ -19,23 +19,23 @@ returns-2 : tie.Need-returns-2
 unfolding refusal
 returns-2 c = rw (some-sectors (c .before .before .before .before .args .n) _ (c .before .before .before .sectors-of .ensures) (c .before .before .if1 .left), ← c .before .is-legal .ensures, c .if2 .taken)
 
-is-known-kind-requires : tie.Need-is-known-kind-requires
-is-known-kind-requires c κs = search needs
+is-known-requires : tie.Need-is-known-requires
+is-known-requires c κs = search needs
 
 returns-3 : tie.Need-returns-3
 unfolding refusal
-returns-3 c = rw (some-sectors (c .before .before .before .before .before .before .args .n) _ (c .before .before .before .before .before .sectors-of .ensures) (c .before .before .before .before .if1 .left), ← c .before .before .before .is-legal .ensures, c .before .before .if2 .left, ← c .before .is-known-kind .ensures, c .if3 .taken)
+returns-3 c = rw (some-sectors (c .before .before .before .before .before .before .args .n) _ (c .before .before .before .before .before .sectors-of .ensures) (c .before .before .before .before .if1 .left), ← c .before .before .before .is-legal .ensures, c .before .before .if2 .left, ← c .before .is-known .ensures, c .if3 .taken)
 
 is-in-range-requires : tie.Need-is-in-range-requires
 is-in-range-requires c κs = search needs
 
 returns-4 : tie.Need-returns-4
 unfolding refusal
-returns-4 c = rw (some-sectors (c .before .before .before .before .before .before .before .before .args .n) _ (c .before .before .before .before .before .before .before .sectors-of .ensures) (c .before .before .before .before .before .before .if1 .left), ← c .before .before .before .before .before .is-legal .ensures, c .before .before .before .before .if2 .left, ← c .before .before .before .is-known-kind .ensures, c .before .before .if3 .left, ← c .before .is-in-range .ensures, c .if4 .taken)
+returns-4 c = rw (some-sectors (c .before .before .before .before .before .before .before .before .args .n) _ (c .before .before .before .before .before .before .before .sectors-of .ensures) (c .before .before .before .before .before .before .if1 .left), ← c .before .before .before .before .before .is-legal .ensures, c .before .before .before .before .if2 .left, ← c .before .before .before .is-known .ensures, c .before .before .if3 .left, ← c .before .is-in-range .ensures, c .if4 .taken)
 
 returns-5 : tie.Need-returns-5
 unfolding refusal
-returns-5 c = rw (some-sectors (c .before .before .before .before .before .before .before .before .args .n) _ (c .before .before .before .before .before .before .before .sectors-of .ensures) (c .before .before .before .before .before .before .if1 .left), ← c .before .before .before .before .before .is-legal .ensures, c .before .before .before .before .if2 .left, ← c .before .before .before .is-known-kind .ensures, c .before .before .if3 .left, ← c .before .is-in-range .ensures, c .if4 .left)
+returns-5 c = rw (some-sectors (c .before .before .before .before .before .before .before .before .args .n) _ (c .before .before .before .before .before .before .before .sectors-of .ensures) (c .before .before .before .before .before .before .if1 .left), ← c .before .before .before .before .before .is-legal .ensures, c .before .before .before .before .if2 .left, ← c .before .before .before .is-known .ensures, c .before .before .if3 .left, ← c .before .is-in-range .ensures, c .if4 .left)
 
 pub refuses-spec : {M : Type 1} → statement M
 refuses-spec =
@@ -45,7 +45,7 @@ refuses-spec =
     returns
     is-legal-requires
     returns-2
-    is-known-kind-requires
+    is-known-requires
     returns-3
     is-in-range-requires
     returns-4

@@ -1,0 +1,53 @@
+// Random cases, as many as are asked for.
+
+use crate::case::{Content, Start, Step};
+use crate::image::FLAGS;
+use crate::model::Chip;
+use crate::session::{Outcome, Session};
+use crate::states;
+
+impl Session<'_> {
+    /// Random cases until so many events more are done, some of them from a state with a bad flag.
+    pub fn random(&mut self, events: u64) -> Outcome {
+        let end = self.events + events;
+        while self.events < end {
+            let sectors = self.rng.pick(&[1, 1, 1, 1, 1, 1, 1, 2, 2, 4, 4, 8, 16, 32]);
+            let length = sectors * Chip::SECTOR;
+            if self.rng.once_in(10) {
+                let (flag, byte) = (self.rng.below(FLAGS.len()), self.rng.byte().max(2));
+                let (chip, edit) = states::with_bad_flag(&mut self.rng, length, flag, byte);
+                self.broken_state(length, chip, edit)?;
+            } else {
+                self.random_case(length)?;
+            }
+        }
+        Ok(())
+    }
+
+    /// One random case: a start and scenes, with refusals and hand-overs between them.
+    fn random_case(&mut self, length: usize) -> Outcome {
+        let (seed, status) = (self.rng.next(), self.rng.byte());
+        let content = self.rng.pick(&[Content::Blank, Content::Noise(seed), Content::Noise(seed)]);
+        let start = match self.rng.below(6) {
+            0 | 1 => Start::Fresh(status),
+            2 => Start::Fresh(0),
+            _ => {
+                let edit = self.any_edit();
+                Start::Lent(Box::new(states::legal(&mut self.rng, length)), edit)
+            }
+        };
+        self.open(length, start, content)?;
+        if self.bench.expected.chip.selected && self.rng.once_in(2) {
+            let events = self.write(|writer| writer.go_on());
+            self.deliver(&events)?;
+        }
+        for _ in 0..4 + self.rng.below(20) {
+            match self.rng.below(12) {
+                0 => self.step(Step::HandOver).map(|_| ())?,
+                1..=3 => self.refusal()?,
+                _ => self.scene()?,
+            }
+        }
+        self.close()
+    }
+}

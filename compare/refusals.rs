@@ -1,0 +1,131 @@
+// Steps that are refused: by the state, the memory length, the script, its events or the room.
+
+use crate::case::{Content, Start, Step};
+use crate::event::{room_needed, script_of, LONGEST};
+use crate::image::Edit;
+use crate::model::Chip;
+use crate::scenes::SCENES;
+use crate::session::{Outcome, Session};
+
+/// Memory lengths that are none of the six.
+const WRONG_LENGTHS: [usize; 11] = [
+    0,
+    1,
+    256,
+    Chip::SECTOR - 1,
+    Chip::SECTOR + 1,
+    3 * Chip::SECTOR,
+    5 * Chip::SECTOR,
+    31 * Chip::SECTOR,
+    33 * Chip::SECTOR,
+    32 * Chip::SECTOR - 1,
+    64 * Chip::SECTOR,
+];
+
+impl Session<'_> {
+    /// A state that is not legal: refused by 2 at every entry point and before 3 to 7, and not
+    /// before 1.
+    pub fn broken_state(&mut self, length: usize, chip: Chip, edit: Edit) -> Outcome {
+        self.open(length, Start::Lent(Box::new(chip), edit), Content::Blank)?;
+        let events = [(1, 0), (2, 0x05), (4, 0), (7, 0), (0, 0), (6, 2)];
+        let (first, second) = (self.rng.pick(&events), self.rng.pick(&events));
+        let mut steps = vec![Step::Event { event: first, lent: false, length: None }];
+        if self.bench.has_lent() {
+            steps.push(Step::Event { event: second, lent: true, length: None });
+        }
+        let scripts = [vec![], vec![1, 2, 5, 2, 0, 3], vec![1, 9], vec![2], vec![4; LONGEST + 1]];
+        for script in scripts {
+            let spare = self.rng.pick(&[0, -1, 3]);
+            steps.push(Step::Run { script, spare, length: None });
+        }
+        for step in steps {
+            let refusal = self.step(step)?;
+            assert_eq!(refusal, 2);
+        }
+        self.wrong_length()?;
+        self.close()
+    }
+
+    /// Any step over a memory length that is none of the six.
+    fn wrong_length(&mut self) -> Outcome {
+        let length = Some(self.rng.pick(&WRONG_LENGTHS));
+        let lent = self.lent();
+        let event = self.rng.pick(&[(1, 0), (4, 0), (0, 0), (6, 2), (7, 0)]);
+        self.step(Step::Event { event, lent, length })?;
+        let script =
+            self.rng.pick(&[&[][..], &[1, 2, 5, 3], &[9], &[5, 0], &[4; LONGEST + 1]]).to_vec();
+        self.step(Step::Run { script, spare: -1, length }).map(|_| ())
+    }
+
+    /// A step that is refused, or at least asks to be.
+    pub fn refusal(&mut self) -> Outcome {
+        match self.rng.below(12) {
+            0..=4 => self.any_event(),
+            5 => self.wrong_length(),
+            6 => self.too_long(),
+            _ => self.bad_run(),
+        }
+    }
+
+    /// One event with any numbers for its kind and its body.
+    fn any_event(&mut self) -> Outcome {
+        let (any, other) = (self.rng.next(), self.rng.next());
+        let near = self.rng.below(12) as u64;
+        let huge = [1 << 16, 1 << 32, 1 << 63, u64::MAX - 11][self.rng.below(4)];
+        let kind = self.rng.pick(&[near, near, near, near, near + 250, near + huge, any]);
+        let small = self.rng.below(12) as u64;
+        let round = [250, 65_530, 1 << 16, 1 << 32, 1 << 63, u64::MAX - 11][self.rng.below(6)];
+        let body = self.rng.pick(&[small, small, small + round, other]);
+        let lent = self.lent();
+        self.step(Step::Event { event: (kind, body), lent, length: None }).map(|_| ())
+    }
+
+    /// A run of a script that is too long, with or without a bad event in it.
+    fn too_long(&mut self) -> Outcome {
+        let bytes = LONGEST + self.rng.pick(&[1, 1, 2, 4_000, LONGEST]);
+        let kind = self.rng.pick(&[4, 4, 3, 9, 0]);
+        let spare = self.rng.pick(&[0, -1]);
+        self.step(Step::Run { script: vec![kind; bytes], spare, length: None }).map(|_| ())
+    }
+
+    /// A run with bad events, or with too little room, or both.
+    fn bad_run(&mut self) -> Outcome {
+        let scene = self.rng.pick(&SCENES);
+        let events = self.write(scene);
+        let mut script = Vec::new();
+        let bad = self.rng.below(3 * (events.len() + 1));
+        for (number, event) in events.iter().enumerate() {
+            if number == bad || number == 0 && self.rng.once_in(8) || self.rng.once_in(200) {
+                script.extend(self.bad_bytes());
+            }
+            script.extend(script_of(&[*event]));
+        }
+        if self.rng.once_in(2) {
+            script.extend(self.unfinished());
+        }
+        let needed = room_needed(&script);
+        let spare = self.rng.pick(&[-1, -1, -2, -needed, 0, 1, 50]);
+        self.step(Step::Run { script, spare, length: None }).map(|_| ())
+    }
+
+    /// The bytes of an event with an unknown kind or with a body outside its range.
+    fn bad_bytes(&mut self) -> Vec<u8> {
+        let high = self.rng.byte();
+        match self.rng.below(7) {
+            0 => vec![0],
+            1 => vec![9],
+            2 => vec![high.max(9)],
+            3 => vec![5, 0, 0],
+            4 => vec![6, high.max(2)],
+            5 => vec![8, 0],
+            _ => vec![8, high.max(8)],
+        }
+    }
+
+    /// The bytes of an event whose body, or a part of it, is not there, or of an unknown kind.
+    fn unfinished(&mut self) -> Vec<u8> {
+        let any = self.rng.byte();
+        let last = [vec![2], vec![5], vec![5, 0], vec![5, any], vec![6], vec![8], vec![any]];
+        last[self.rng.below(last.len())].clone()
+    }
+}

@@ -1,0 +1,158 @@
+// A session: the bench, the case that is on it, and how steps and rows of events are put to it.
+
+use crate::bench::Bench;
+use crate::case::{Case, Content, Start, Step, LENGTHS};
+use crate::coverage::Coverage;
+use crate::event::{script_of, Event};
+use crate::generate::Writer;
+use crate::image::Edit;
+use crate::model::Chip;
+use crate::rng::Rng;
+use crate::scenes::SCENES;
+
+/// A case with a difference at its last step.
+pub struct Failure {
+    pub case: Case,
+    pub difference: String,
+}
+
+/// What came of a step or a case.
+pub type Outcome = Result<(), Failure>;
+
+/// The bench, the case that is on it, and all that has occurred.
+pub struct Session<'a> {
+    pub bench: Bench<'a>,
+    pub coverage: Coverage,
+    pub cases: u64,
+    pub events: u64,
+    pub rng: Rng,
+    case: Case,
+    scratch: Vec<u8>,
+}
+
+impl<'a> Session<'a> {
+    /// A session with nothing done.
+    pub fn new(bench: Bench<'a>, seed: u64) -> Session<'a> {
+        let coverage = Coverage::new(bench.has_lent());
+        let (start, content) = (Start::Fresh(0), Content::Blank);
+        let case = Case { length: LENGTHS[0], start, content, steps: Vec::new() };
+        let (rng, scratch) = (Rng::new(seed), vec![0; LENGTHS[5]]);
+        Session { bench, coverage, cases: 0, events: 0, case, rng, scratch }
+    }
+
+    /// The failure of the case as it stands.
+    fn failure(&self, difference: String) -> Failure {
+        Failure { case: self.case.clone(), difference }
+    }
+
+    /// Starts a case.
+    pub fn open(&mut self, length: usize, start: Start, content: Content) -> Outcome {
+        self.cases += 1;
+        self.case = Case { length, start, content, steps: Vec::new() };
+        self.coverage.note_start(&self.case.start);
+        self.bench.start(&self.case).map_err(|difference| self.failure(difference))
+    }
+
+    /// Starts a case from a fresh state over noise.
+    pub fn open_fresh(&mut self, length: usize, status: u8) -> Outcome {
+        let content = Content::Noise(self.rng.next());
+        self.open(length, Start::Fresh(status), content)
+    }
+
+    /// Does a step on both sides.
+    pub fn step(&mut self, step: Step) -> Result<u8, Failure> {
+        let before = self.bench.expected.clone();
+        let answer = self.bench.perform(&step);
+        if let Ok(answer) = &answer {
+            self.events += self.coverage.note_step(&before, &step, answer, self.case.length);
+        }
+        self.case.steps.push(step);
+        let answer = answer.map_err(|difference| self.failure(difference))?;
+        Ok(answer.refusal)
+    }
+
+    /// Ends a case: its last state has to be legal, or not, on both sides.
+    pub fn close(&mut self) -> Outcome {
+        self.bench.compare_legal().map_err(|difference| self.failure(difference))
+    }
+
+    /// Lets a writer write events for the chip as it is.
+    pub fn write(&mut self, scene: impl FnOnce(&mut Writer)) -> Vec<Event> {
+        let memory = &mut self.scratch[..self.case.length];
+        let mut writer = Writer::new(&mut self.rng, self.bench.expected.chip.clone(), memory);
+        scene(&mut writer);
+        writer.events
+    }
+
+    /// No edit, or what a legal state leaves free filled with noise: it has to be accepted, to be
+    /// kept and to influence nothing.
+    pub fn any_edit(&mut self) -> Edit {
+        let seed = self.rng.next();
+        if self.rng.once_in(2) {
+            Edit::Free(seed)
+        } else {
+            Edit::None
+        }
+    }
+
+    /// Whether the next single event goes through a lent chip record.
+    pub fn lent(&mut self) -> bool {
+        self.bench.has_lent() && self.rng.once_in(3)
+    }
+
+    /// Applies events one by one; a body that an event has not may be any number.
+    pub fn one_by_one(&mut self, events: &[Event]) -> Outcome {
+        for (kind, body) in events {
+            let any = self.rng.next();
+            let body = match kind {
+                1 | 3 | 4 | 7 => self.rng.pick(&[0, 0, 1, any]),
+                _ => *body,
+            };
+            let lent = self.lent();
+            self.step(Step::Event { event: (*kind, body), lent, length: None })?;
+        }
+        Ok(())
+    }
+
+    /// Runs events as one script.
+    pub fn one_run(&mut self, events: &[Event]) -> Outcome {
+        let spare = self.rng.pick(&[0, 0, 0, 1, 2, 7, 100]);
+        let script = script_of(events);
+        self.step(Step::Run { script, spare, length: None }).map(|_| ())
+    }
+
+    /// Delivers events: one by one, as one run, or as runs one after another. Many events, and
+    /// those over a large memory, which takes long to compare, go more often as runs.
+    pub fn deliver(&mut self, events: &[Event]) -> Outcome {
+        let heavy = events.len() * self.case.length / Chip::SECTOR;
+        let alone = if heavy > 300 { 12 } else { 2 };
+        if self.rng.once_in(alone) {
+            return self.one_by_one(events);
+        }
+        if self.rng.once_in(2) {
+            return self.one_run(events);
+        }
+        let mut rest = events;
+        while !rest.is_empty() {
+            let (part, after) = rest.split_at(1 + self.rng.below(rest.len().min(40)));
+            self.one_run(part)?;
+            rest = after;
+        }
+        Ok(())
+    }
+
+    /// One to three scenes, at times cut off inside a frame.
+    pub fn scene(&mut self) -> Outcome {
+        let mut events = self.write(|writer| {
+            for _ in 0..1 + writer.rng.below(3) {
+                let scene = writer.rng.pick(&SCENES);
+                scene(writer);
+            }
+        });
+        if self.rng.once_in(4) {
+            let kept = self.rng.below(events.len() + 1);
+            events.truncate(kept);
+        }
+        self.deliver(&events)
+    }
+}

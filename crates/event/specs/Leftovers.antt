@@ -1,0 +1,188 @@
+-- A gone job leaves nothing behind (RULES, Jobs): what each event does to the job and its load, and that a state without leftovers stays so.
+use Prim.Native.Nat.{ℕ, _≤_, _<_}
+use mathlib.Core.Bool.{Bool, true, false, cond, _&&_, false≢true}
+use mathlib.Core.List.{List}
+use mathlib.Core.Path.{_≡_, refl, sym, ap, subst, _∙_}
+use native.Mathlib.Omega.{arith}
+use native.Mathlib.Decide.{ℕ-discrete, decLt}
+use lib.Dec.{eqb}
+use lib.ListN.{length}
+use borrow.Author.Tests.{eq-eqb, ne-eqb, eqb-true}
+use Rattle.cells.specs.Choice.{cond-yes, cond-no, cond-either, not-so}
+use Rattle.part.specs.Part.{Setting, settingOf}
+use Rattle.part.specs.Table.{isProgram, writeStatus, reset}
+use Rattle.chip.specs.declared.Chip.{Chip}
+use Rattle.chip.specs.declared.Core.{Core}
+use Rattle.chip.specs.declared.Frame.{Frame}
+use Rattle.chip.specs.declared.Job.{Job}
+use Rattle.chip.specs.declared.JobKind.{JobKind}
+use Rattle.chip.specs.declared.JobKind.the-variants.{Idle, WriteStatus, Program, SmallErase, SectorErase, ChipErase}
+use Rattle.chip.specs.Job.{isJob, hasLoad, noJob}
+use Rattle.chip.specs.Chip.{blankLoad, fresh, running, NoLeftovers}
+use Rattle.chip.specs.Legal.{legal, judgementKnown}
+use Rattle.chip.specs.Legality.{chip-facts}
+use Rattle.job.specs.Tick.{endedAs, ended, advanced, ticksCore, ticksLoad, ticksLeft}
+use Rattle.job.specs.Laws.{ticks-rest, ticksLoad-rest, ticks-go, ticksLoad-go, ticks-over, ticksLoad-over}
+use Rattle.job.specs.Legality.{running-job}
+use Rattle.verdict.specs.Verdict.{jobOf, jobAsked, verdict}
+use Rattle.verdict.specs.Effect.{instantly, acted, settled, heldAfter}
+use Rattle.verdict.specs.Laws.{Begins, verdict-two, acted-nothing, instantly-each, held-begun, held-reset, held-stays}
+use Rattle.event.specs.Event.{Outcome, deselect, tick, applied}
+use Rattle.event.specs.Laws.{applied-each}
+
+-- What an event does to the job and its load: both stay; both are gone; the job moves on with its load; or another begins, and holds a load only if it is a program.
+pub data Fate (j : Job) (held : List ℕ) : Job → List ℕ → Type 0 where
+  stays : Fate j held j held
+  gone : Fate j held noJob blankLoad
+  moves : (done : ℕ) → isJob (j .kind) ≡ true → Fate j held (record { kind = j .kind; start = j .start; done = done }) held
+  begins : (j′ : Job) (held′ : List ℕ) → isJob (j′ .kind) ≡ true → (hasLoad (j′ .kind) ≡ false → held′ ≡ blankLoad) → Fate j held j′ held′
+
+-- ---- ticks
+
+ended-none : (kind : JobKind) (k : Core) → endedAs kind k .job ≡ noJob
+ended-none Idle k = refl
+ended-none (WriteStatus value) k = refl
+ended-none Program k = refl
+ended-none SmallErase k = refl
+ended-none SectorErase k = refl
+ended-none ChipErase k = refl
+
+module _ (j : Job) (held : List ℕ) where
+  -- a fate told of an equal job and load
+  fated : {j₁ j₂ : Job} {h₁ h₂ : List ℕ} → j₂ ≡ j₁ → h₂ ≡ h₁ → Fate j held j₁ h₁ → Fate j held j₂ h₂
+  fated {j₁} {j₂} {h₁} {h₂} e d f = subst (λ (q : Job). Fate j held q h₂) (sym e) (subst (λ (l : List ℕ). Fate j held j₁ l) (sym d) f)
+
+ticks-fate : (S n : ℕ) (k : Core) (held : List ℕ) → Fate (k .job) held (ticksCore S n k .job) (ticksLoad S n k held)
+ticks-fate S n k held = go (running k) refl (decLt n (ticksLeft S k))
+  where
+    job-of : Core → Job
+    job-of q = q .job
+
+    go : (b : Bool) → running k ≡ b → Dec (n < ticksLeft S k) → Fate (k .job) held (ticksCore S n k .job) (ticksLoad S n k held)
+    go false r d = fated (k .job) held (ap job-of (ticks-rest S n k r)) (ticksLoad-rest S n k held r) stays
+    go true r (yes l) = fated (k .job) held (ap job-of (ticks-go S k r n l)) (ticksLoad-go S k r held n l) (moves _ (running-job k r))
+    go true r (no l) = fated (k .job) held (ap job-of (ticks-over S k r n (omega arith)) ∙ ended-none (k .job .kind) k) (ticksLoad-over S k r n (omega arith) held) gone
+
+-- ---- a deselect
+
+-- an opcode that asks for a job without a load is no program
+no-load-no-program : (opcode address : ℕ) → hasLoad (jobOf opcode address) ≡ false → isProgram opcode ≡ false
+unfolding jobOf isProgram
+no-load-no-program opcode address h = go (ℕ-discrete opcode writeStatus)
+  where
+    rest : (p : Bool) (k : JobKind) → hasLoad (cond p Program k) ≡ false → p ≡ false
+    rest true k e = e
+    rest false k e = refl
+
+    go : Dec (opcode ≡ writeStatus) → isProgram opcode ≡ false
+    go (yes e) = ap isProgram e
+    go (no n) = rest (isProgram opcode) _ (ap hasLoad (sym (cond-no (eqb opcode writeStatus) _ _ (ne-eqb _ _ n))) ∙ h)
+
+module _ (S : ℕ) (k : Core) (f : Frame) (loose : Bool) (known : judgementKnown (f .judgement) ≡ true) (load held : List ℕ) where
+  abbrev v : ℕ
+  v = verdict S k f loose
+
+  -- a verdict other than 0 has a byte to speak of
+  some-byte : (v ≡ 0 → ⊥) → eqb (f .count) 0 ≡ false
+  unfolding verdict
+  some-byte n = not-so (eqb (f .count) 0) (λ e. n (cond-yes (eqb (f .count) 0) _ _ e))
+
+  acted-job : (v ≡ 0 → ⊥) → settled S k f v .job ≡ acted S k f v .job
+  unfolding settled
+  acted-job n = ap (λ (q : Core). q .job) (cond-no (eqb (f .count) 0) _ _ (some-byte n))
+
+  same-job : Core → Type 0
+  same-job q = q .job ≡ k .job
+
+  still : (v ≡ 2 → ⊥) → (v ≡ 1 → f .opcode ≡ reset → ⊥) → Dec (v ≡ 1) → settled S k f v .job ≡ k .job
+  unfolding settled acted
+  still not-begun not-reset d = cond-either (λ (q : Core). q .job ≡ k .job) (eqb (f .count) 0) _ _ (λ _. refl) (λ _. go d)
+    where
+      go : Dec (v ≡ 1) → acted S k f v .job ≡ k .job
+      go (yes one) =
+          ap (λ (q : Core). q .job) (cond-no (eqb v 2) _ _ (ne-eqb _ _ not-begun) ∙ cond-yes (eqb v 1) _ _ (eq-eqb _ _ one))
+          ∙ instantly-each k (f .opcode) (λ (q : Core). q .job ≡ k .job) (λ _. refl) (λ _. refl) (λ _. refl) (λ _. refl) (λ _. refl) (λ _. refl) (λ r. absurd (not-reset one r)) refl
+      go (no one) = ap (λ (q : Core). q .job) (acted-nothing S k f v one not-begun)
+
+  begun-fate : v ≡ 2 → Fate (k .job) held (settled S k f v .job) (heldAfter f v load held)
+  unfolding acted
+  begun-fate two =
+      let b : Begins S k f = verdict-two S k f loose known two in
+      let job : settled S k f v .job ≡ jobAsked S f = acted-job (λ z. omega arith) ∙ ap (λ (q : Core). q .job) (cond-yes (eqb v 2) _ _ (eq-eqb _ _ two)) in
+      fated (k .job) held job refl
+      (begins (jobAsked S f) (heldAfter f v load held) (b .begins-job)
+      (λ h. held-begun f v load held two ∙ cond-no (isProgram (f .opcode)) _ _ (no-load-no-program (f .opcode) (f .address) h)))
+
+  reset-fate : v ≡ 1 → f .opcode ≡ reset → Fate (k .job) held (settled S k f v .job) (heldAfter f v load held)
+  unfolding acted instantly
+  reset-fate one r =
+      fated (k .job) held
+      (acted-job (λ z. omega arith) ∙ ap (λ (q : Core). q .job) (cond-no (eqb v 2) _ _ (ne-eqb v 2 (λ two. omega arith)) ∙ cond-yes (eqb v 1) _ _ (eq-eqb _ _ one)) ∙ ap (λ (o : ℕ). instantly k o .job) r)
+      (held-reset f v load held one r) gone
+
+  verdict-fate : Fate (k .job) held (settled S k f v .job) (heldAfter f v load held)
+  verdict-fate = go (ℕ-discrete v 2) (ℕ-discrete v 1) (ℕ-discrete (f .opcode) reset)
+    where
+      go : Dec (v ≡ 2) → Dec (v ≡ 1) → Dec (f .opcode ≡ reset) → Fate (k .job) held (settled S k f v .job) (heldAfter f v load held)
+      go (yes two) one r = begun-fate two
+      go (no two) (yes one) (yes r) = reset-fate one r
+      go (no two) (yes one) (no r) = fated (k .job) held (still two (λ _ e. r e) (yes one)) (held-stays f v load held two (λ _ e. r e)) stays
+      go (no two) (no one) r = fated (k .job) held (still two (λ e _. one e) (no one)) (held-stays f v load held two (λ e _. one e)) stays
+
+-- ---- every event
+
+abbrev FateOf : Chip → Outcome → Type 0
+FateOf c o = Fate (c .core .job) (c .held) (o .chip .core .job) (o .chip .held)
+
+deselect-fate : (T : Setting) (c : Chip) (m : List ℕ) (loose : Bool) → judgementKnown (c .frame .judgement) ≡ true → FateOf c (deselect T c m loose)
+deselect-fate T c m loose known =
+    cond-either (FateOf c) (c .frame .selected) _ _ (λ _. verdict-fate (T .sectors) (c .core) (c .frame) loose known (c .load) (c .held)) (λ _. stays)
+
+-- The fate of the job and its load under every event of a legal state.
+pub event-fate : (T : Setting) (c : Chip) (m : List ℕ) (kind body : ℕ) → judgementKnown (c .frame .judgement) ≡ true → FateOf c (applied T c m kind body)
+event-fate T c m kind body known =
+    applied-each T c m kind body (FateOf c)
+    (λ _. stays) (λ _. stays)
+    (λ _. deselect-fate T c m false known)
+    (λ _. ticks-fate (T .sectors) 1 (c .core) (c .held))
+    (λ _. ticks-fate (T .sectors) body (c .core) (c .held))
+    (λ _. stays) (λ _. gone)
+    (λ _. deselect-fate T c m true known)
+
+-- ---- what follows
+
+-- A job that was there and is not leaves a state with no job and a blank load, as a fresh one.
+pub gone-leaves-nothing : (c : Chip) (m : List ℕ) (kind body : ℕ) → legal c (length m) ≡ true → isJob (c .core .job .kind) ≡ true
+    → isJob (applied (settingOf (length m)) c m kind body .chip .core .job .kind) ≡ false
+    → (applied (settingOf (length m)) c m kind body .chip .core .job ≡ noJob) × (applied (settingOf (length m)) c m kind body .chip .held ≡ blankLoad)
+gone-leaves-nothing c m kind body l was is-not = go (event-fate (settingOf (length m)) c m kind body (chip-facts c (length m) l .frame-part .judgement-known)) was is-not
+  where
+    go : {j : Job} {held : List ℕ} {j′ : Job} {held′ : List ℕ} → Fate j held j′ held′ → isJob (j .kind) ≡ true → isJob (j′ .kind) ≡ false → (j′ ≡ noJob) × (held′ ≡ blankLoad)
+    go stays p q = absurd (false≢true (sym q ∙ p))
+    go gone p q = (refl, refl)
+    go (moves done p′) p q = absurd (false≢true (sym q ∙ p))
+    go (begins j′ held′ p′ h) p q = absurd (false≢true (sym q ∙ p′))
+
+-- Once there are no leftovers there are none after any event; a fresh state has none.
+pub no-leftovers-applied : (c : Chip) (m : List ℕ) (kind body : ℕ) → legal c (length m) ≡ true → NoLeftovers (c .core) (c .held)
+    → NoLeftovers (applied (settingOf (length m)) c m kind body .chip .core) (applied (settingOf (length m)) c m kind body .chip .held)
+no-leftovers-applied c m kind body l none = go _ _ (event-fate (settingOf (length m)) c m kind body (chip-facts c (length m) l .frame-part .judgement-known)) none
+  where
+    go : (k k′ : Core) {held held′ : List ℕ} → Fate (k .job) held (k′ .job) held′ → NoLeftovers k held → NoLeftovers k′ held′
+    go k k′ f n = record { load-blank = blank f (n .load-blank); job-none = idle f (n .job-none) }
+      where
+        blank : {j j′ : Job} {held held′ : List ℕ} → Fate j held j′ held′ → (hasLoad (j .kind) ≡ false → held ≡ blankLoad) → hasLoad (j′ .kind) ≡ false → held′ ≡ blankLoad
+        blank stays b e = b e
+        blank gone b e = refl
+        blank (moves done p) b e = b e
+        blank (begins j′ held′ p h) b e = h e
+
+        idle : {j j′ : Job} {held held′ : List ℕ} → Fate j held j′ held′ → (isJob (j .kind) ≡ false → j ≡ noJob) → isJob (j′ .kind) ≡ false → j′ ≡ noJob
+        idle stays b e = b e
+        idle gone b e = refl
+        idle (moves done p) b e = absurd (false≢true (sym e ∙ p))
+        idle (begins j′ held′ p h) b e = absurd (false≢true (sym e ∙ p))
+
+pub no-leftovers-fresh : (status : ℕ) → NoLeftovers (fresh status .core) (fresh status .held)
+unfolding fresh
+no-leftovers-fresh status = record { load-blank = λ _. refl; job-none = λ _. refl }
