@@ -11,16 +11,16 @@ use lib.Seq.{take-suc-set, drop-set-lt}
 use native.Mathlib.Numerals.{add-one}
 use borrow.Author.Tests.{eq-eqb, ne-eqb, eqb-true, eqb-false, lt-ltb, le-ltb, lt-leb, le-leb, ltb-false, leb-true}
 use Rattle.cells.specs.Choice.{cond-yes, cond-no, cond-either, and-left, and-right}
-use Rattle.part.specs.Part.{permitted, sectors}
+use Rattle.part.specs.Part.{permitted, sectors, Setting, setting}
+use Rattle.kinds.specs.Kinds.{EXCHANGE, kindRowIn, kindRow, knownIn, knownKind, bodyLength, inRange, roomOf}
+use Rattle.kinds.specs.Body.{bodyAt, nextAt}
+use Rattle.kinds.specs.Laws.{body-one, exchange-range}
 use Rattle.chip.specs.declared.Chip.{Chip}
 use Rattle.chip.specs.Legal.{legal}
 use Rattle.chip.specs.declared.Record.{Record}
-use Rattle.chip.specs.declared.Record.the-variants.{Nothing, Floating, Driven, Verdict}
-use Rattle.event.specs.Event.{Outcome, exchangeByte, deselect, applied}
-use Rattle.event.specs.Alone.{knownKind, bodyLength, inRange, yields}
-use Rattle.event.specs.Laws.{applied-each}
-use Rattle.script.specs.Script.{Event, bodyAt, nextAt, faultAt, eventAt, walk, eventsFrom, events, Refusal, refusalOf, firstBad, room}
-use Rattle.script.specs.Run.{World, world, after, recordBytes, Stored, runs, Playable, refusal, outcome, refused, done, answerOf, memoryOf, outputOf}
+use Rattle.chip.specs.Record.{recordBytes}
+use Rattle.script.specs.Script.{Event, faultAt, eventAt, walk, eventsFrom, events, Refusal, refusalOf, firstBad, room}
+use Rattle.script.specs.Run.{World, world, onward, Stored, runs, Playable, refusal, outcome, refused, done, answerOf, memoryOf, outputOf}
 
 -- ---- a script, event by event
 
@@ -89,23 +89,23 @@ good-event s at = go (knownKind (getD s at 0)) (ltb (length s) (nextAt s at)) (i
 
 -- ---- an exchange in a script: two bytes, the second of them its body
 
-pub exchange-body : (s : List ℕ) (at : ℕ) → getD s at 0 ≡ 2 → bodyAt s at ≡ getD s (at + 1) 0
-unfolding bodyLength
-exchange-body s at e = rw e
+pub exchange-body : (s : List ℕ) (at : ℕ) → getD s at 0 ≡ EXCHANGE → bodyAt s at ≡ getD s (at + 1) 0
+unfolding kindRow kindRowIn
+exchange-body s at e = body-one s at (ap bodyLength e)
 
-pub exchange-next : (s : List ℕ) (at : ℕ) → getD s at 0 ≡ 2 → nextAt s at ≡ at + 2
-unfolding bodyLength
-exchange-next s at e = rw e (omega arith)
+pub exchange-next : (s : List ℕ) (at : ℕ) → getD s at 0 ≡ EXCHANGE → nextAt s at ≡ at + 2
+unfolding kindRow kindRowIn
+exchange-next s at e = ap (λ (kind : ℕ). at + 1 + bodyLength kind) e ∙ omega arith
 
 -- with a whole one nothing is wrong
-pub exchange-good : (s : List ℕ) (at : ℕ) → getD s at 0 ≡ 2 → at + 1 < length s → getD s (at + 1) 0 < 256 → faultAt s at ≡ 0
-unfolding faultAt knownKind inRange
+pub exchange-good : (s : List ℕ) (at : ℕ) → getD s at 0 ≡ EXCHANGE → at + 1 < length s → getD s (at + 1) 0 < 256 → faultAt s at ≡ 0
+unfolding faultAt knownKind knownIn
 exchange-good s at e more byte =
     let next : nextAt s at ≡ at + 2 = exchange-next s at e in
     let body : bodyAt s at ≡ getD s (at + 1) 0 = exchange-body s at e in
     cond-no (not (knownKind (getD s at 0))) _ _ (ap (λ (kind : ℕ). not (knownKind kind)) e)
     ∙ cond-no (ltb (length s) (nextAt s at)) _ _ (le-ltb (length s) (nextAt s at) (omega (arith, next)))
-    ∙ cond-no (not (inRange (getD s at 0) (bodyAt s at))) _ _ (ap (λ (kind : ℕ). not (inRange kind (bodyAt s at))) e ∙ ap not (le-leb (bodyAt s at) 255 (omega (arith, body))))
+    ∙ cond-no (not (inRange (getD s at 0) (bodyAt s at))) _ _ (ap (λ (kind : ℕ). not (inRange kind (bodyAt s at))) e ∙ ap not (exchange-range (bodyAt s at) ∙ le-leb (bodyAt s at) 255 (omega (arith, body))))
 
 -- ---- room
 
@@ -113,39 +113,18 @@ pub room-none : (s : List ℕ) (at : ℕ) → length s ≤ at → room (eventsFr
 unfolding room
 room-none s at h = ap room (events-none s at h)
 
-pub room-more : (s : List ℕ) (at : ℕ) → at < length s → room (eventsFrom s at) ≡ cond (yields (getD s at 0)) 2 0 + room (eventsFrom s (nextAt s at))
+pub room-more : (s : List ℕ) (at : ℕ) → at < length s → room (eventsFrom s at) ≡ roomOf (getD s at 0) + room (eventsFrom s (nextAt s at))
 unfolding room
 room-more s at h = ap room (events-more s at h)
 
-pub exchange-room : (s : List ℕ) (at : ℕ) → getD s at 0 ≡ 2 → at < length s → room (eventsFrom s at) ≡ 2 + room (eventsFrom s (at + 2))
-unfolding yields
+pub exchange-room : (s : List ℕ) (at : ℕ) → getD s at 0 ≡ EXCHANGE → at < length s → room (eventsFrom s at) ≡ 2 + room (eventsFrom s (at + 2))
+unfolding kindRow kindRowIn
 exchange-room s at e h =
     room-more s at h
-    ∙ ap (λ (kind : ℕ). cond (yields kind) 2 0 + room (eventsFrom s (nextAt s at))) e
+    ∙ ap (λ (kind : ℕ). roomOf kind + room (eventsFrom s (nextAt s at))) e
     ∙ ap (λ (next : ℕ). 2 + room (eventsFrom s next)) (exchange-next s at e)
 
 -- ---- records
-
--- a record is at most two bytes
-pub recordBytes-two : (r : Record) → length (recordBytes r) ≤ 2
-recordBytes-two Nothing = omega arith
-recordBytes-two Floating = omega arith
-recordBytes-two (Driven b) = omega arith
-recordBytes-two (Verdict v) = omega arith
-
--- an event finds the room that was counted for it
-pub said-room : (S : ℕ) (c : Chip) (m : List ℕ) (kind body : ℕ) → knownKind kind ≡ true → length (recordBytes (applied S c m kind body .said)) ≤ cond (yields kind) 2 0
-unfolding yields
-said-room S c m kind body k =
-    applied-each S c m kind body (λ o. length (recordBytes (o .said)) ≤ cond (yields kind) 2 0)
-    (λ e. zero-le)
-    (λ e. rw e (recordBytes-two (exchangeByte c m (body % 256) .said)))
-    (λ e. rw e (recordBytes-two (deselect S c m false .said)))
-    (λ e. zero-le)
-    (λ e. zero-le)
-    (λ e. zero-le)
-    (λ e. zero-le)
-    (λ e. rw (e k) (recordBytes-two (deselect S c m true .said)))
 
 -- a byte or two stored from a place on: what stands before the next place, and what stands from there on
 pub store-one : (o : List ℕ) (p a : ℕ) → p < length o → take (p + 1) (set o p a) ≡ take p o ++ (a ∷ [])
@@ -164,7 +143,7 @@ store-two o p a b h =
 pub stored-none : (o : List ℕ) (p : ℕ) (said : Record) → recordBytes said ≡ [] → Stored o p said p o
 stored-none o p said e =
     record {
-      place = sym (ap (λ (bs : List ℕ). p + length bs) e ∙ add-zero p);
+      end = sym (ap (λ (bs : List ℕ). p + length bs) e ∙ add-zero p);
       before = sym (ap (λ (bs : List ℕ). take p o ++ bs) e ∙ append-nil (take p o));
       beyond = refl;
     }
@@ -172,7 +151,7 @@ stored-none o p said e =
 pub stored-one : (o : List ℕ) (p a : ℕ) (said : Record) → recordBytes said ≡ a ∷ [] → p < length o → Stored o p said (p + 1) (set o p a)
 stored-one o p a said e h =
     record {
-      place = sym (ap (λ (bs : List ℕ). p + length bs) e);
+      end = sym (ap (λ (bs : List ℕ). p + length bs) e);
       before = store-one o p a h ∙ ap (λ (bs : List ℕ). take p o ++ bs) (sym e);
       beyond = drop-set-lt (p + 1) o p a (omega arith);
     }
@@ -180,27 +159,27 @@ stored-one o p a said e h =
 pub stored-two : (o : List ℕ) (p a b : ℕ) (said : Record) → recordBytes said ≡ a ∷ b ∷ [] → p + 1 < length o → Stored o p said (p + 2) (set (set o p a) (p + 1) b)
 stored-two o p a b said e h =
     record {
-      place = sym (ap (λ (bs : List ℕ). p + length bs) e);
+      end = sym (ap (λ (bs : List ℕ). p + length bs) e);
       before = store-two o p a b h ∙ ap (λ (bs : List ℕ). take p o ++ bs) (sym e);
       beyond = drop-set-lt (p + 2) (set o p a) (p + 1) b (omega arith) ∙ drop-set-lt (p + 2) o p a (omega arith);
     }
 
 -- ---- a run
 
-pub runs-none : (S : ℕ) (s : List ℕ) (at : ℕ) (w : World) → length s ≤ at → runs S (eventsFrom s at) w ≡ w
+pub runs-none : (T : Setting) (s : List ℕ) (at : ℕ) (w : World) → length s ≤ at → runs T (eventsFrom s at) w ≡ w
 unfolding runs
-runs-none S s at w h = ap (λ (es : List Event). runs S es w) (events-none s at h)
+runs-none T s at w h = ap (λ (es : List Event). runs T es w) (events-none s at h)
 
-pub runs-more : (S : ℕ) (s : List ℕ) (at : ℕ) (w : World) → at < length s
-    → runs S (eventsFrom s at) w ≡ runs S (eventsFrom s (nextAt s at)) (after w (applied S (w .chip) (w .memory) (getD s at 0) (bodyAt s at)))
+pub runs-more : (T : Setting) (s : List ℕ) (at : ℕ) (w : World) → at < length s
+    → runs T (eventsFrom s at) w ≡ runs T (eventsFrom s (nextAt s at)) (onward T (eventAt s at) w)
 unfolding runs
-runs-more S s at w h = ap (λ (es : List Event). runs S es w) (events-more s at h)
+runs-more T s at w h = ap (λ (es : List Event). runs T es w) (events-more s at h)
 
 -- running one list of events and then another is running the two together
-pub runs-add : (S : ℕ) (es fs : List Event) (w : World) → runs S (es ++ fs) w ≡ runs S fs (runs S es w)
+pub runs-add : (T : Setting) (es fs : List Event) (w : World) → runs T (es ++ fs) w ≡ runs T fs (runs T es w)
 unfolding runs
-runs-add S [] fs w = refl
-runs-add S (e ∷ es) fs w = runs-add S es fs (after w (applied S (w .chip) (w .memory) (e .kind) (e .body)))
+runs-add T [] fs w = refl
+runs-add T (e ∷ es) fs w = runs-add T es fs (onward T e w)
 
 -- ---- refusals
 
@@ -289,6 +268,6 @@ module _ (c : Chip) (m s out : List ℕ) where
     output-done = cond-yes _ _ _ (eq-eqb _ _ ok)
 
 -- what playing comes to is the run's outcome
-pub outcome-as : (c : Chip) (m s : List ℕ) (S : ℕ) → S ≡ sectors (length m) → runs S (events s) (world c m [] 0) ≡ outcome c m s
+pub outcome-as : (c : Chip) (m s : List ℕ) (S : ℕ) → S ≡ sectors (length m) → runs (setting S) (events s) (world c m [] 0) ≡ outcome c m s
 unfolding outcome
 outcome-as c m s S e = rw e

@@ -1,25 +1,18 @@
--- A run: the events of a script one after the other, and the whole answer with its refusals (01, Events; Refusal numbers).
+-- A run: the events of a script one after the other, and the whole answer with its refusals (RULES, Events; Refusals).
 use Prim.Native.Nat.{ℕ, _+_, _≤_}
 use mathlib.Core.Bool.{Bool, cond, not}
 use mathlib.Core.List.{List, [], _∷_, _++_}
 use mathlib.Core.Path.{_≡_}
 use lib.Dec.{eqb, ltb}
 use lib.ListN.{length, take, drop}
-use Rattle.part.specs.Part.{permitted, sectors}
+use Rattle.part.specs.Part.{permitted, Setting, settingOf}
 use Rattle.chip.specs.declared.Chip.{Chip}
 use Rattle.chip.specs.declared.Record.{Record}
-use Rattle.chip.specs.declared.Record.the-variants.{Nothing, Floating, Driven, Verdict}
+use Rattle.chip.specs.Record.{recordBytes}
 use Rattle.chip.specs.Legal.{legal}
 use Rattle.event.specs.Event.{Outcome, applied}
 use Rattle.script.specs.declared.Ran.{Ran}
 use Rattle.script.specs.Script.{Event, Refusal, refusalOf, events, firstBad, room}
-
--- a record as bytes: "80h (floating) or 81h and the byte driven", "82h and the verdict"; "Other events yield none"
-abbrev pub recordBytes : Record → List ℕ
-recordBytes Nothing = []
-recordBytes Floating = 0x80 ∷ []
-recordBytes (Driven b) = 0x81 ∷ b ∷ []
-recordBytes (Verdict v) = 0x82 ∷ v ∷ []
 
 -- what a run has come to: the chip, the memory, the bytes written and the working ticks so far
 pub record World : Type 0 where
@@ -31,14 +24,20 @@ pub record World : Type 0 where
 abbrev pub world : Chip → List ℕ → List ℕ → ℕ → World
 world c m written ticks = record { chip = c; memory = m; written = written; ticks = ticks }
 
--- one event more
+-- what an event does in a world, and the world after it
+abbrev pub does : Setting → Event → World → Outcome
+does T e w = applied T (w .chip) (w .memory) (e .kind) (e .body)
+
 abbrev pub after : World → Outcome → World
 after w o = world (o .chip) (o .memory) (w .written ++ recordBytes (o .said)) (w .ticks + o .ticks)
 
--- the events one after the other, on a part of S sectors
-unfoldable pub runs : ℕ → List Event → World → World
-runs S [] w = w
-runs S (e ∷ es) w = runs S es (after w (applied S (w .chip) (w .memory) (e .kind) (e .body)))
+abbrev pub onward : Setting → Event → World → World
+onward T e w = after w (does T e w)
+
+-- the events one after the other
+unfoldable pub runs : Setting → List Event → World → World
+runs T [] w = w
+runs T (e ∷ es) w = runs T es (onward T e w)
 
 -- what a look through a script finds: the first bad event and, where there is none, the room for the records
 pub record Scan (s : List ℕ) (number offset space : ℕ) : Type 0 where
@@ -47,11 +46,11 @@ pub record Scan (s : List ℕ) (number offset space : ℕ) : Type 0 where
 
 -- a record stored in the output at a place: the bytes before the next place, and what stands from there on
 pub record Stored (o : List ℕ) (p : ℕ) (said : Record) (p′ : ℕ) (o′ : List ℕ) : Type 0 where
-  pub place : p′ ≡ p + length (recordBytes said)
+  pub end : p′ ≡ p + length (recordBytes said)
   pub before : take p′ o′ ≡ take p o ++ recordBytes said
   pub beyond : drop p′ o′ ≡ drop p′ o
 
--- "Checked in the order 1, 2, 3, then the script from the left, then 7"; n is the memory's length, space the output's
+-- what refuses a run: the length, the state, the script's length, its first bad event, the room; n is the memory's length, space the output's
 unfoldable pub refusal : Chip → ℕ → List ℕ → ℕ → Refusal
 refusal c n s space =
     cond (not (permitted n)) (refusalOf 1 0)
@@ -62,20 +61,20 @@ refusal c n s space =
 
 -- the script run to its end, from a chip and a memory
 unfoldable pub outcome : Chip → List ℕ → List ℕ → World
-outcome c m s = runs (sectors (length m)) (events s) (world c m [] 0)
+outcome c m s = runs (settingOf (length m)) (events s) (world c m [] 0)
 
--- "Refused: state as given, .. both numbers 0, and for 4 to 6 the offset of the event's kind byte (otherwise 0)"
+-- refused, the chip comes back as it was given, nothing is written and no tick works
 abbrev pub refused : Chip → Refusal → Ran
 refused c r = record { chip = c; refusal = r .number; offset = r .offset; written = 0; ticks = 0 }
 
--- "Done: new state, number of output bytes written, and the number of working ticks"
+-- done, the new chip comes with the number of bytes written and of working ticks
 abbrev pub finished : Chip → ℕ → ℕ → Ran
 finished c written ticks = record { chip = c; refusal = 0; offset = 0; written = written; ticks = ticks }
 
 abbrev pub done : World → Ran
 done w = finished (w .chip) (length (w .written)) (w .ticks)
 
--- the whole answer, and the memory and the output afterwards: "Output beyond the written bytes keeps its content"
+-- the whole answer, and the memory and the output afterwards, of which only the bytes written are new
 unfoldable pub answerOf : Chip → List ℕ → List ℕ → List ℕ → Ran
 answerOf c m s out = cond (eqb (refusal c (length m) s (length out) .number) 0) (done (outcome c m s)) (refused c (refusal c (length m) s (length out)))
 
@@ -92,8 +91,8 @@ pub record Playable (s : List ℕ) (space : ℕ) : Type 0 where
   pub clean : firstBad (events s) .number ≡ 0
   pub roomy : room (events s) ≤ space
 
--- what playing it leaves, on a part of S sectors
-pub record Played (S : ℕ) (c : Chip) (m s out : List ℕ) (r : Ran) (m′ out′ : List ℕ) : Type 0 where
-  pub answer : r ≡ done (runs S (events s) (world c m [] 0))
-  pub memory : m′ ≡ runs S (events s) (world c m [] 0) .memory
-  pub output : out′ ≡ runs S (events s) (world c m [] 0) .written ++ drop (length (runs S (events s) (world c m [] 0) .written)) out
+-- what playing it leaves
+pub record Played (T : Setting) (c : Chip) (m s out : List ℕ) (r : Ran) (m′ out′ : List ℕ) : Type 0 where
+  pub answer : r ≡ done (runs T (events s) (world c m [] 0))
+  pub memory : m′ ≡ runs T (events s) (world c m [] 0) .memory
+  pub output : out′ ≡ runs T (events s) (world c m [] 0) .written ++ drop (length (runs T (events s) (world c m [] 0) .written)) out

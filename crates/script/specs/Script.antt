@@ -1,29 +1,20 @@
--- A script: its events with their offsets, the first bad one and why, and the room that its records need (01, Events; Refusal numbers).
-use Prim.Native.Nat.{ℕ, zero, suc, _+_, _*_}
+-- A script: its events with their offsets, the first bad one and why, and the room that its records need (RULES, Events; Refusals).
+use Prim.Native.Nat.{ℕ, zero, suc, _+_}
 use mathlib.Core.Bool.{Bool, cond, not}
 use mathlib.Core.List.{List, [], _∷_}
 use lib.Dec.{eqb, ltb, leb}
 use lib.ListN.{length, getD}
-use Rattle.event.specs.Alone.{knownKind, bodyLength, inRange, yields}
+use Rattle.kinds.specs.Kinds.{knownKind, inRange, roomOf}
+use Rattle.kinds.specs.Body.{bodyAt, nextAt}
 
--- an event of a script: "one byte of kind, then a body whose length the kind fixes"; its offset is that of its kind byte, its fault 0 or what refuses it
+-- an event of a script: the offset of its kind byte, its kind, its body, and its fault, which is 0 or what refuses it
 pub record Event : Type 0 where
   pub offset : ℕ
   pub kind : ℕ
   pub body : ℕ
   pub fault : ℕ
 
--- the body of the event at an offset: none, a byte, or two bytes, "high byte first"
-abbrev pub bodyAt : List ℕ → ℕ → ℕ
-bodyAt s at =
-    cond (eqb (bodyLength (getD s at 0)) 1) (getD s (at + 1) 0)
-    (cond (eqb (bodyLength (getD s at 0)) 2) (getD s (at + 1) 0 * 256 + getD s (at + 2) 0) 0)
-
--- where the next event starts
-abbrev pub nextAt : List ℕ → ℕ → ℕ
-nextAt s at = at + 1 + bodyLength (getD s at 0)
-
--- "within it 5, then 4, then 6": unknown kind, "script ends inside an event", "body value outside its range"
+-- what is wrong with the event at an offset: 5 no such kind, 4 the script ends in it, 6 its body is out of range
 unfoldable pub faultAt : List ℕ → ℕ → ℕ
 faultAt s at =
     cond (not (knownKind (getD s at 0))) 5
@@ -53,12 +44,12 @@ pub record Refusal : Type 0 where
 abbrev pub refusalOf : ℕ → ℕ → Refusal
 refusalOf number offset = record { number = number; offset = offset }
 
--- "The first bad event decides", with "the offset of the event's kind byte"
+-- the first event with a fault refuses the script, with its number and offset
 unfoldable pub firstBad : List Event → Refusal
 firstBad [] = refusalOf 0 0
 firstBad (e ∷ es) = cond (eqb (e .fault) 0) (firstBad es) (refusalOf (e .fault) (e .offset))
 
--- "2 × (exchanges + deselects of both kinds)"
+-- the room that the records of some events are given
 unfoldable pub room : List Event → ℕ
 room [] = 0
-room (e ∷ es) = cond (yields (e .kind)) 2 0 + room es
+room (e ∷ es) = roomOf (e .kind) + room es

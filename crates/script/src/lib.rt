@@ -1,17 +1,17 @@
 // A script run: one pass that finds what is wrong with the script, and one that runs it.
 ghost use mathlib.Core.Path.{_≡_};
-ghost use mathlib.Core.Bool.{cond};
-ghost use mathlib.Core.List.{List, [], _++_};
-ghost use Prim.Native.Nat.{ℕ, _+_, _≤_, _<_};
-ghost use lib.ListN.{length, take, drop, getD};
-ghost use Rattle.event.specs.Event.{whole};
-ghost use Rattle.event.specs.Alone.{yields};
-ghost use Rattle.script.specs.Script.{bodyAt, nextAt, faultAt, events, firstBad, room, refusalOf};
-ghost use Rattle.script.specs.Run.{recordBytes, finished, Scan, Stored, Playable, Played, refusal, answerOf, memoryOf, outputOf};
+ghost use Prim.Native.Nat.{_+_, _≤_, _<_};
+ghost use lib.ListN.{length};
+ghost use Rattle.part.specs.Part.{setting};
+ghost use Rattle.chip.specs.Chip.{whole};
+ghost use Rattle.chip.specs.Record.{recordBytes};
+ghost use Rattle.script.specs.Script.{faultAt, refusalOf};
+ghost use Rattle.script.specs.Run.{finished, Scan, Stored, Playable, Played, refusal, answerOf, memoryOf, outputOf};
 use chip::Chip;
 use chip::Core;
 use chip::Frame;
 use chip::Record;
+use kinds::Kind;
 
 // The answer to a script run.
 pub struct Ran {
@@ -23,40 +23,15 @@ pub struct Ran {
 }
 
 // A refusal's number, 0 for none, and its offset.
-pub struct Refused {
-    pub number: u8,
-    pub offset: usize,
+struct Refused {
+    number: u8,
+    offset: usize,
 }
 
 // What a look through a script finds: the first bad event, and the room that its records need.
-pub struct Scanned {
-    pub bad: Refused,
-    pub room: usize,
-}
-
-// The body of the event at an offset.
-fn body_at(s: &[u8], at: usize) -> u64
-    requires { ⌜ at < length (now s) ⌝ }
-    ensures { λ r. ⌜ (r ≡ bodyAt (now (s .entry)) at) × (r ≤ 65535) ⌝ }
-{
-    let n = event::body_length(s[at] as u64);
-    if n == 1 {
-        return cells::byte_at(s, at + 1) as u64;
-    }
-    if n == 2 {
-        let high = cells::byte_at(s, at + 1) as u64;
-        let low = cells::byte_at(s, at + 2) as u64;
-        return high * 256 + low;
-    }
-    0
-}
-
-// Where the event after the one at an offset starts.
-fn next_at(s: &[u8], at: usize) -> usize
-    requires { ⌜ at < length (now s) ⌝ }
-    ensures { λ r. ⌜ r ≡ nextAt (now (s .entry)) at ⌝ }
-{
-    at + 1 + event::body_length(s[at] as u64)
+struct Scanned {
+    bad: Refused,
+    room: usize,
 }
 
 // What refuses the event at an offset: 5, 4, 6, or 0 for nothing.
@@ -65,24 +40,14 @@ fn fault_at(s: &[u8], at: usize) -> u8
     ensures { λ r. ⌜ r ≡ faultAt (now (s .entry)) at ⌝ }
 {
     let kind = s[at] as u64;
-    if !event::is_known_kind(kind) {
+    if !kinds::is_known(kind) {
         return 5;
     }
-    if s.len() < next_at(s, at) {
+    if s.len() < kinds::next_at(s, at) {
         return 4;
     }
-    if !event::is_in_range(kind, body_at(s, at)) {
+    if !kinds::is_in_range(kind, kinds::body_at(s, at)) {
         return 6;
-    }
-    0
-}
-
-// The room for an event's record.
-fn room_for(kind: u8) -> usize
-    ensures { λ r. ⌜ (r ≡ cond (yields kind) 2 0) × (r ≤ 2) ⌝ }
-{
-    if event::yields(kind as u64) {
-        return 2;
     }
     0
 }
@@ -96,7 +61,7 @@ fn scan(s: &[u8]) -> Scanned
     let mut space = 0;
     while at < s.len() {
         // Most events are exchanges, and with a whole one nothing can be wrong.
-        if (s[at] == 2) & (at + 1 < s.len()) {
+        if (s[at] as u64 == Kind::EXCHANGE) & (at + 1 < s.len()) {
             space += 2;
             at += 2;
             continue;
@@ -111,8 +76,8 @@ fn scan(s: &[u8]) -> Scanned
                 room: 0,
             };
         }
-        space += room_for(s[at]);
-        at = next_at(s, at);
+        space += kinds::room_of(s[at] as u64);
+        at = kinds::next_at(s, at);
     }
     Scanned {
         bad: Refused {
@@ -152,18 +117,18 @@ fn finished(
     core: Core,
     frame: Frame,
     load: [u8; 256],
-    page: [u8; 256],
+    held: [u8; 256],
     written: usize,
     ticks: u64,
 ) -> Ran
-    ensures { λ r. ⌜ r ≡ finished (whole core frame load page) written ticks ⌝ }
+    ensures { λ r. ⌜ r ≡ finished (whole core frame load held) written ticks ⌝ }
 {
     Ran {
         chip: Chip {
             core: core,
             frame: frame,
             load: load,
-            page: page,
+            held: held,
         },
         refusal: 0,
         offset: 0,
@@ -177,21 +142,21 @@ fn finished(
 // frame, so that it need not lie in memory from one data byte to the next.
 fn play(chip: Chip, mem: &mut [u8], script: &[u8], out: &mut [u8], sectors: u8) -> Ran
     requires { ⌜ Playable (now script) (length (now out)) ⌝ }
-    ensures { λ r. ⌜ Played sectors chip (now (mem .entry)) (now (script .entry)) (now (out .entry)) r (now (mem .exit)) (now (out .exit)) ⌝ }
+    ensures { λ r. ⌜ Played (setting sectors) chip (now (mem .entry)) (now (script .entry)) (now (out .entry)) r (now (mem .exit)) (now (out .exit)) ⌝ }
 {
     let mut core = chip.core;
     let mut frame = chip.frame;
     let mut load = chip.load;
-    let mut page = chip.page;
+    let mut held = chip.held;
     let mut at = 0;
     let mut pos = 0;
     let mut ticks: u64 = 0;
     while at < script.len() {
-        let kind = script[at];
-        if kind == 2 {
+        let kind = script[at] as u64;
+        if kind == Kind::EXCHANGE {
             let b = script[at + 1];
             if frame::streams(frame) {
-                let data = frame::stream(frame, &mut load, mem, b);
+                let data = frame::stream(frame, &mut load, mem, sectors, b);
                 let given = data.said;
                 pos = put(out, pos, given);
                 frame = data.frame;
@@ -199,7 +164,7 @@ fn play(chip: Chip, mem: &mut [u8], script: &[u8], out: &mut [u8], sectors: u8) 
                 continue;
             }
             let before = frame;
-            let e = frame::exchange(core, before, &mut load, mem, b);
+            let e = frame::exchange(core, before, &mut load, mem, sectors, b);
             let heard = e.said;
             pos = put(out, pos, heard);
             frame = e.frame;
@@ -207,16 +172,16 @@ fn play(chip: Chip, mem: &mut [u8], script: &[u8], out: &mut [u8], sectors: u8) 
             continue;
         }
         let before = frame;
-        let body = body_at(script, at) as u32;
-        let s = event::step(core, before, &mut load, &mut page, mem, sectors, kind, body);
+        let body = kinds::body_at(script, at) as u32;
+        let s = event::step(core, before, &mut load, &mut held, mem, sectors, kind, body);
         let said = s.said;
         pos = put(out, pos, said);
         core = s.core;
         frame = s.frame;
         ticks += s.ticks as u64;
-        at = next_at(script, at);
+        at = kinds::next_at(script, at);
     }
-    finished(core, frame, load, page, pos, ticks)
+    finished(core, frame, load, held, pos, ticks)
 }
 
 fn refuse(number: u8) -> Refused
@@ -228,7 +193,7 @@ fn refuse(number: u8) -> Refused
     }
 }
 
-// What refuses a run, in 01's order; the number 0 for nothing.
+// What refuses a run, in the order of the definition; the number 0 for nothing.
 fn refuses(chip: Chip, n: usize, script: &[u8], space: usize) -> Refused
     ensures { λ r. ⌜ refusalOf (r .number) (r .offset) ≡ refusal chip n (now (script .entry)) space ⌝ }
 {

@@ -4,7 +4,7 @@ use mathlib.Core.Path.{_≡_, refl, sym, _∙_, ap}
 use mathlib.Core.List.{List}
 use native.Mathlib.Omega.{arith}
 use lib.ListN.{length, length-set}
-use Rattle.script.specs.Run.{recordBytes}
+use Rattle.chip.specs.Record.{recordBytes}
 use Rattle.script.specs.Laws.{stored-none, stored-one, stored-two}
 use borrow.Author.Needs.{needs}
 use Rattle.script.proofs.put.Statement.{statement}
