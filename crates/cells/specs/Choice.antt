@@ -1,6 +1,9 @@
 -- Laws of `cond`, the choice by a test, over any type: what every layer's laws and proofs pass on.
 use mathlib.Core.Bool.{Bool, true, false, cond, not, _&&_, _||_, false≢true}
-use mathlib.Core.Path.{_≡_, refl, ap}
+use mathlib.Core.Path.{_≡_, refl, sym, ap, _∙_}
+use Prim.Native.Nat.{ℕ}
+use lib.Dec.{eqb}
+use borrow.Author.Tests.{eqb-true}
 
 pub cond-yes : {A : Type 0} (b : Bool) (x y : A) → b ≡ true → cond b x y ≡ x
 cond-yes b x y h = ap (λ (t : Bool). cond t x y) h
@@ -17,6 +20,10 @@ cond-either P false x y p q = q refl
 pub cond-ap : {A B : Type 0} (f : A → B) (b : Bool) (x y : A) → f (cond b x y) ≡ cond b (f x) (f y)
 cond-ap f true x y = refl
 cond-ap f false x y = refl
+
+-- an answer chosen by a refusal's number, 0 for done, has that number
+pub chosen-number : {A : Type 0} (number : A → ℕ) (n : ℕ) (done refused : A) → number done ≡ 0 → number refused ≡ n → number (cond (eqb n 0) done refused) ≡ n
+chosen-number number n done refused d r = cond-either (λ a. number a ≡ n) (eqb n 0) done refused (λ e. d ∙ sym (eqb-true n 0 e)) (λ _. r)
 
 -- both halves of a conjunction hold, and together they make it
 pub and-left : (a b : Bool) → (a && b) ≡ true → a ≡ true

@@ -9,7 +9,7 @@ use native.Mathlib.Omega.{arith}
 use lib.ListN.{length}
 use lib.Dec.{eqb}
 use borrow.Author.Tests.{eq-eqb, ne-eqb, eqb-true, eqb-false}
-use Rattle.cells.specs.Choice.{cond-yes, cond-no, cond-either}
+use Rattle.cells.specs.Choice.{cond-yes, cond-no, cond-either, chosen-number}
 use Rattle.part.specs.Part.{permitted, Setting, setting, sectors}
 use Rattle.kinds.specs.Kinds.{SELECT, EXCHANGE, DESELECT, TICK, TICKS, WP, POWER, LOOSE, Says, KindRow, kindRowIn, kindRow, knownKind, bodyLength, inRange, saysOf, isSaid, roomOf}
 use Rattle.kinds.specs.Laws.{kind-each, last-kind, range-small}
@@ -24,6 +24,7 @@ use Rattle.chip.specs.Laws.{recordBytes-most}
 use Rattle.frame.specs.Frame.{Exchange, exchanged}
 use Rattle.frame.specs.Legality.{taken-each, exchanged-each}
 use Rattle.verdict.specs.Verdict.{verdict}
+use Rattle.event.specs.declared.Answer.{Answer}
 use Rattle.event.specs.Event.{Outcome, outcome, select, exchangeByte, deselect, closes, tick, setWp, cutPower, applied}
 use Rattle.event.specs.Alone.{bodyUsed, refusal, refused, done, happens, answerOf, memoryOf}
 
@@ -87,6 +88,11 @@ accepted c n kind body = go (permitted n) (legal c n) (knownKind kind) (inRange 
     go true true false r a b d e h = absurd (omega arith)
     go true false k r a b d e h = absurd (omega arith)
     go false l k r a b d e h = absurd (omega arith)
+
+-- the number in the answer is the refusal's
+pub answer-number : (c : Chip) (m : List ℕ) (kind body : ℕ) → answerOf c m kind body .refusal ≡ refusal c (length m) kind body
+unfolding answerOf
+answer-number c m kind body = chosen-number (λ (a : Answer). a .refusal) (refusal c (length m) kind body) _ _ refl refl
 
 pub answer-refused : (c : Chip) (m : List ℕ) (kind body : ℕ) → (refusal c (length m) kind body ≡ 0 → ⊥) → answerOf c m kind body ≡ refused c (refusal c (length m) kind body)
 unfolding answerOf

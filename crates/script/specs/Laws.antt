@@ -10,7 +10,7 @@ use lib.ListN.{length, getD, set, take, drop, length-append, length-set}
 use lib.Seq.{take-suc-set, drop-set-lt}
 use native.Mathlib.Numerals.{add-one}
 use borrow.Author.Tests.{eq-eqb, ne-eqb, eqb-true, eqb-false, lt-ltb, le-ltb, lt-leb, le-leb, ltb-false, leb-true}
-use Rattle.cells.specs.Choice.{cond-yes, cond-no, cond-either, and-left, and-right}
+use Rattle.cells.specs.Choice.{cond-yes, cond-no, cond-either, and-left, and-right, chosen-number}
 use Rattle.part.specs.Part.{permitted, sectors, Setting, setting}
 use Rattle.kinds.specs.Kinds.{EXCHANGE, kindRowIn, kindRow, knownIn, knownKind, bodyLength, inRange, roomOf}
 use Rattle.kinds.specs.Body.{bodyAt, nextAt}
@@ -19,6 +19,7 @@ use Rattle.chip.specs.declared.Chip.{Chip}
 use Rattle.chip.specs.Legal.{legal}
 use Rattle.chip.specs.declared.Record.{Record}
 use Rattle.chip.specs.Record.{recordBytes}
+use Rattle.script.specs.declared.Ran.{Ran}
 use Rattle.script.specs.Script.{Event, faultAt, eventAt, walk, eventsFrom, events, Refusal, refusalOf, firstBad, room}
 use Rattle.script.specs.Run.{World, world, onward, Stored, runs, Playable, refusal, outcome, refused, done, answerOf, memoryOf, outputOf}
 
@@ -238,6 +239,11 @@ accepted c n s space = go (permitted n) (legal c n) (ltb 65536 (length s)) (eqb 
     go true true true b r pe le te be re h = absurd (omega arith)
     go true false t b r pe le te be re h = absurd (omega arith)
     go false l t b r pe le te be re h = absurd (omega arith)
+
+-- the number in the answer is the refusal's
+pub answer-number : (c : Chip) (m s out : List ℕ) → answerOf c m s out .refusal ≡ refusal c (length m) s (length out) .number
+unfolding answerOf
+answer-number c m s out = chosen-number (λ (a : Ran). a .refusal) (refusal c (length m) s (length out) .number) _ _ refl refl
 
 -- refused: all as it was; done: what the run comes to
 module _ (c : Chip) (m s out : List ℕ) where
