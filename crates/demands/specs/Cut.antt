@@ -11,17 +11,22 @@ use lib.ListN.{length, getD, length-append, List·getD-append}
 use lib.Seq.{getD-append-add}
 use borrow.Author.Tests.{eq-eqb, ne-eqb, eqb-false, lt-ltb, le-ltb}
 use Rattle.cells.specs.Choice.{cond-yes, cond-no}
-use Rattle.part.specs.Part.{permitted, sectors}
+use Rattle.part.specs.Part.{permitted, sectors, Setting, settingOf}
+use Rattle.kinds.specs.Kinds.{knownKind, bodyLength, inRange, roomOf}
+use Rattle.kinds.specs.Body.{numberAt, bodyAt, nextAt}
 use Rattle.chip.specs.declared.Chip.{Chip}
+use Rattle.chip.specs.Chip.{NoLeftovers}
+use Rattle.chip.specs.Record.{recordBytes}
 use Rattle.chip.specs.Legal.{legal}
 use Rattle.event.specs.Event.{Outcome, applied}
-use Rattle.event.specs.Alone.{knownKind, bodyLength, inRange, bodyUsed, yields}
+use Rattle.event.specs.Alone.{bodyUsed}
 use Rattle.event.specs.Alone as Alone
 use Rattle.event.specs.Laws.{answer-done, memory-done, happens-as}
 use Rattle.event.specs.Legality.{legal-applied}
 use Rattle.event.specs.Keeps.{length-applied}
-use Rattle.script.specs.Script.{Event, bodyAt, nextAt, faultAt, eventAt, eventsFrom, events, Refusal, refusalOf, firstBad, room}
-use Rattle.script.specs.Run.{World, world, after, runs, recordBytes, outcome}
+use Rattle.event.specs.Leftovers.{no-leftovers-applied}
+use Rattle.script.specs.Script.{Event, faultAt, eventAt, eventsFrom, events, Refusal, refusalOf, firstBad, room}
+use Rattle.script.specs.Run.{World, world, does, onward, runs, outcome}
 use Rattle.demands.specs.Demand1.{event-refused-when}
 use Rattle.script.specs.Laws.{events-none, events-more, no-fault, good-event, Good, firstBad-later, runs-add}
 
@@ -36,20 +41,20 @@ movedAll d [] = []
 movedAll d (e ∷ es) = moved d e ∷ movedAll d es
 
 -- it runs the same, needs the same room, and is bad in the same way, d further on
-pub runs-moved : (S d : ℕ) (es : List Event) (w : World) → runs S (movedAll d es) w ≡ runs S es w
+pub runs-moved : (T : Setting) (d : ℕ) (es : List Event) (w : World) → runs T (movedAll d es) w ≡ runs T es w
 unfolding runs movedAll
-runs-moved S d [] w = refl
-runs-moved S d (e ∷ es) w = runs-moved S d es (after w (applied S (w .chip) (w .memory) (e .kind) (e .body)))
+runs-moved T d [] w = refl
+runs-moved T d (e ∷ es) w = runs-moved T d es (onward T e w)
 
 pub room-moved : (d : ℕ) (es : List Event) → room (movedAll d es) ≡ room es
 unfolding room movedAll
 room-moved d [] = refl
-room-moved d (e ∷ es) = ap (λ (n : ℕ). cond (yields (e .kind)) 2 0 + n) (room-moved d es)
+room-moved d (e ∷ es) = ap (λ (n : ℕ). roomOf (e .kind) + n) (room-moved d es)
 
 room-append : (es fs : List Event) → room (es ++ fs) ≡ room es + room fs
 unfolding room
 room-append [] fs = sym (zero-add (room fs))
-room-append (e ∷ es) fs = ap (λ (n : ℕ). cond (yields (e .kind)) 2 0 + n) (room-append es fs) ∙ sym (add-assoc _ (room es) (room fs))
+room-append (e ∷ es) fs = ap (λ (n : ℕ). roomOf (e .kind) + n) (room-append es fs) ∙ sym (add-assoc _ (room es) (room fs))
 
 -- behind good events the first bad one is the same
 bad-behind : (es fs : List Event) → firstBad es .number ≡ 0 → firstBad (es ++ fs) .number ≡ firstBad fs .number
@@ -86,19 +91,14 @@ module _ (s t : List ℕ) where
   byte-second i = getD-append-add s t i 0
 
   -- an event that lies in the first piece is the same in the whole
+  number-first : (from n : ℕ) → from + n ≤ length s → numberAt (s ++ t) from n ≡ numberAt s from n
+  number-first from zero q = refl
+  number-first from (suc n) q =
+      ap (λ (high : ℕ). high * 256 + getD (s ++ t) (from + n) 0) (number-first from n (omega arith))
+      ∙ ap (λ (low : ℕ). numberAt s from n * 256 + low) (byte-first (from + n) (omega arith))
+
   body-first : (at : ℕ) → at < length s → nextAt s at ≤ length s → bodyAt (s ++ t) at ≡ bodyAt s at
-  body-first at h n =
-      ap (λ (k : ℕ). cond (eqb (bodyLength k) 1) (getD (s ++ t) (at + 1) 0) (cond (eqb (bodyLength k) 2) (getD (s ++ t) (at + 1) 0 * 256 + getD (s ++ t) (at + 2) 0) 0)) (byte-first at h)
-      ∙ go (bodyLength (getD s at 0)) n
-    where
-      go : (l : ℕ) → at + 1 + l ≤ length s
-          → cond (eqb l 1) (getD (s ++ t) (at + 1) 0) (cond (eqb l 2) (getD (s ++ t) (at + 1) 0 * 256 + getD (s ++ t) (at + 2) 0) 0)
-          ≡ cond (eqb l 1) (getD s (at + 1) 0) (cond (eqb l 2) (getD s (at + 1) 0 * 256 + getD s (at + 2) 0) 0)
-      go zero q = refl
-      go (suc zero) q = byte-first (at + 1) (omega arith)
-      go (suc (suc l)) q =
-          ap (λ (x : ℕ). cond (eqb (suc (suc l)) 1) x (cond (eqb (suc (suc l)) 2) (x * 256 + getD (s ++ t) (at + 2) 0) 0)) (byte-first (at + 1) (omega arith))
-          ∙ ap (λ (y : ℕ). cond (eqb (suc (suc l)) 1) (getD s (at + 1) 0) (cond (eqb (suc (suc l)) 2) (getD s (at + 1) 0 * 256 + y) 0)) (byte-first (at + 2) (omega arith))
+  body-first at h n = ap (λ (k : ℕ). numberAt (s ++ t) (at + 1) (bodyLength k)) (byte-first at h) ∙ number-first (at + 1) (bodyLength (getD s at 0)) n
 
   next-first : (at : ℕ) → at < length s → nextAt (s ++ t) at ≡ nextAt s at
   next-first at h = ap (λ (k : ℕ). at + 1 + bodyLength k) (byte-first at h)
@@ -124,11 +124,17 @@ module _ (s t : List ℕ) where
   byte-beyond : (at i : ℕ) → getD (s ++ t) (d + at + i) 0 ≡ getD t (at + i) 0
   byte-beyond at i = ap (λ (q : ℕ). getD (s ++ t) q 0) (add-assoc d at i) ∙ byte-second (at + i)
 
+  number-second : (from n : ℕ) → numberAt (s ++ t) (d + from) n ≡ numberAt t from n
+  number-second from zero = refl
+  number-second from (suc n) =
+      ap (λ (high : ℕ). high * 256 + getD (s ++ t) (d + from + n) 0) (number-second from n)
+      ∙ ap (λ (low : ℕ). numberAt t from n * 256 + low) (byte-beyond from n)
+
   body-second : (at : ℕ) → bodyAt (s ++ t) (d + at) ≡ bodyAt t at
   body-second at =
-      ap (λ (k : ℕ). cond (eqb (bodyLength k) 1) (getD (s ++ t) (d + at + 1) 0) (cond (eqb (bodyLength k) 2) (getD (s ++ t) (d + at + 1) 0 * 256 + getD (s ++ t) (d + at + 2) 0) 0)) (byte-second at)
-      ∙ ap (λ (x : ℕ). cond (eqb (bodyLength (getD t at 0)) 1) x (cond (eqb (bodyLength (getD t at 0)) 2) (x * 256 + getD (s ++ t) (d + at + 2) 0) 0)) (byte-beyond at 1)
-      ∙ ap (λ (y : ℕ). cond (eqb (bodyLength (getD t at 0)) 1) (getD t (at + 1) 0) (cond (eqb (bodyLength (getD t at 0)) 2) (getD t (at + 1) 0 * 256 + y) 0)) (byte-beyond at 2)
+      ap (λ (k : ℕ). numberAt (s ++ t) (d + at + 1) (bodyLength k)) (byte-second at)
+      ∙ ap (λ (from : ℕ). numberAt (s ++ t) from (bodyLength (getD t at 0))) (add-assoc d at 1)
+      ∙ number-second (at + 1) (bodyLength (getD t at 0))
 
   next-second : (at : ℕ) → nextAt (s ++ t) (d + at) ≡ d + nextAt t at
   next-second at = ap (λ (k : ℕ). d + at + 1 + bodyLength k) (byte-second at) ∙ omega arith
@@ -204,8 +210,8 @@ module _ (s t : List ℕ) where
     events-cut = events-whole (length s) 0 (omega arith) (omega arith) clean
 
     -- Running the pieces one after the other is running the whole.
-    pub run-cut : (S : ℕ) (w : World) → runs S (events (s ++ t)) w ≡ runs S (events t) (runs S (events s) w)
-    run-cut S w = ap (λ (es : List Event). runs S es w) events-cut ∙ runs-add S (events s) (movedAll d (events t)) w ∙ runs-moved S d (events t) (runs S (events s) w)
+    pub run-cut : (T : Setting) (w : World) → runs T (events (s ++ t)) w ≡ runs T (events t) (runs T (events s) w)
+    run-cut T w = ap (λ (es : List Event). runs T es w) events-cut ∙ runs-add T (events s) (movedAll d (events t)) w ∙ runs-moved T d (events t) (runs T (events s) w)
 
     -- The whole is bad exactly as the second piece is, with its offset further on; and it needs the room of both.
     pub bad-cut : firstBad (events (s ++ t)) .number ≡ firstBad (events t) .number
@@ -217,33 +223,43 @@ module _ (s t : List ℕ) where
 -- ---- what a run keeps
 
 -- Memory keeps its length over a run, and a legal state stays legal.
-pub length-runs : (S : ℕ) (es : List Event) (w : World) → length (runs S es w .memory) ≡ length (w .memory)
+pub length-runs : (T : Setting) (es : List Event) (w : World) → length (runs T es w .memory) ≡ length (w .memory)
 unfolding runs
-length-runs S [] w = refl
-length-runs S (e ∷ es) w =
-    length-runs S es (after w (applied S (w .chip) (w .memory) (e .kind) (e .body))) ∙ length-applied S (w .chip) (w .memory) (e .kind) (e .body)
+length-runs T [] w = refl
+length-runs T (e ∷ es) w =
+    length-runs T es (onward T e w) ∙ length-applied T (w .chip) (w .memory) (e .kind) (e .body)
 
-pub legal-runs : (n : ℕ) (es : List Event) (w : World) → length (w .memory) ≡ n → legal (w .chip) n ≡ true → legal (runs (sectors n) es w .chip) n ≡ true
+pub legal-runs : (n : ℕ) (es : List Event) (w : World) → length (w .memory) ≡ n → legal (w .chip) n ≡ true → legal (runs (settingOf n) es w .chip) n ≡ true
 unfolding runs
 legal-runs n [] w l h = h
 legal-runs n (e ∷ es) w l h =
-    legal-runs n es (after w (applied (sectors n) (w .chip) (w .memory) (e .kind) (e .body))) (length-applied (sectors n) (w .chip) (w .memory) (e .kind) (e .body) ∙ l)
-    (subst (λ (q : ℕ). legal (applied (sectors q) (w .chip) (w .memory) (e .kind) (e .body) .chip) q ≡ true) l
-    (legal-applied (w .chip) (w .memory) (e .kind) (e .body) (subst (λ (q : ℕ). legal (w .chip) q ≡ true) (sym l) h)))
+    legal-runs n es (onward (settingOf n) e w) (length-applied (settingOf n) (w .chip) (w .memory) (e .kind) (e .body) ∙ l)
+    (subst (λ (q : ℕ). legal (does (settingOf q) e w .chip) q ≡ true) l (legal-applied (w .chip) (w .memory) (e .kind) (e .body) (subst (λ (q : ℕ). legal (w .chip) q ≡ true) (sym l) h)))
+
+-- nor does a run leave anything of a gone job: from a legal state without leftovers
+pub no-leftovers-runs : (n : ℕ) (es : List Event) (w : World) → length (w .memory) ≡ n → legal (w .chip) n ≡ true → NoLeftovers (w .chip .core) (w .chip .held)
+    → NoLeftovers (runs (settingOf n) es w .chip .core) (runs (settingOf n) es w .chip .held)
+unfolding runs
+no-leftovers-runs n [] w l h none = none
+no-leftovers-runs n (e ∷ es) w l h none =
+    no-leftovers-runs n es (onward (settingOf n) e w) (length-applied (settingOf n) (w .chip) (w .memory) (e .kind) (e .body) ∙ l)
+    (legal-runs n (e ∷ []) w l h)
+    (subst (λ (q : ℕ). NoLeftovers (does (settingOf q) e w .chip .core) (does (settingOf q) e w .chip .held)) l
+    (no-leftovers-applied (w .chip) (w .memory) (e .kind) (e .body) (subst (λ (q : ℕ). legal (w .chip) q ≡ true) (sym l) h) none))
 
 -- what was written and worked before a run only stands before what the run writes and works
-runs-from : (S : ℕ) (es : List Event) (c : Chip) (m a : List ℕ) (k : ℕ)
-    → runs S es (world c m a k) ≡ world (runs S es (world c m [] 0) .chip) (runs S es (world c m [] 0) .memory) (a ++ runs S es (world c m [] 0) .written) (k + runs S es (world c m [] 0) .ticks)
+runs-from : (T : Setting) (es : List Event) (c : Chip) (m a : List ℕ) (k : ℕ)
+    → runs T es (world c m a k) ≡ world (runs T es (world c m [] 0) .chip) (runs T es (world c m [] 0) .memory) (a ++ runs T es (world c m [] 0) .written) (k + runs T es (world c m [] 0) .ticks)
 unfolding runs
-runs-from S [] c m a k = λ i. world c m (sym (append-nil a) i) (sym (add-zero k) i)
-runs-from S (e ∷ es) c m a k =
-    let o : Outcome = applied S c m (e .kind) (e .body) in
+runs-from T [] c m a k = λ i. world c m (sym (append-nil a) i) (sym (add-zero k) i)
+runs-from T (e ∷ es) c m a k =
+    let o : Outcome = applied T c m (e .kind) (e .body) in
     let b : List ℕ = recordBytes (o .said) in
-    let r : World = runs S es (world (o .chip) (o .memory) [] 0) in
-    let whole : runs S es (world (o .chip) (o .memory) (a ++ b) (k + o .ticks)) ≡ world (r .chip) (r .memory) ((a ++ b) ++ r .written) (k + o .ticks + r .ticks) =
-    runs-from S es (o .chip) (o .memory) (a ++ b) (k + o .ticks) in
-    let part : runs S es (world (o .chip) (o .memory) b (0 + o .ticks)) ≡ world (r .chip) (r .memory) (b ++ r .written) (0 + o .ticks + r .ticks) =
-    runs-from S es (o .chip) (o .memory) b (0 + o .ticks) in
+    let r : World = runs T es (world (o .chip) (o .memory) [] 0) in
+    let whole : runs T es (world (o .chip) (o .memory) (a ++ b) (k + o .ticks)) ≡ world (r .chip) (r .memory) ((a ++ b) ++ r .written) (k + o .ticks + r .ticks) =
+    runs-from T es (o .chip) (o .memory) (a ++ b) (k + o .ticks) in
+    let part : runs T es (world (o .chip) (o .memory) b (0 + o .ticks)) ≡ world (r .chip) (r .memory) (b ++ r .written) (0 + o .ticks + r .ticks) =
+    runs-from T es (o .chip) (o .memory) b (0 + o .ticks) in
     let ticks : k + o .ticks + r .ticks ≡ k + (0 + o .ticks + r .ticks) = omega arith in
     whole
     ∙ (λ i. world (r .chip) (r .memory) (append-assoc a b (r .written) i) (ticks i))
@@ -257,12 +273,12 @@ pub pieces : (c : Chip) (m s t : List ℕ) → firstBad (events s) .number ≡ 0
     (outcome c m s .written ++ outcome (outcome c m s .chip) (outcome c m s .memory) t .written) (outcome c m s .ticks + outcome (outcome c m s .chip) (outcome c m s .memory) t .ticks)
 unfolding outcome
 pieces c m s t clean =
-    let S : ℕ = sectors (length m) in
-    let w : World = runs S (events s) (world c m [] 0) in
-    let same : sectors (length m) ≡ sectors (length (w .memory)) = ap sectors (sym (length-runs S (events s) (world c m [] 0))) in
-    run-cut s t clean S (world c m [] 0)
-    ∙ runs-from S (events t) (w .chip) (w .memory) (w .written) (w .ticks)
-    ∙ ap (λ (q : ℕ). world (runs q (events t) (world (w .chip) (w .memory) [] 0) .chip) (runs q (events t) (world (w .chip) (w .memory) [] 0) .memory) (w .written ++ runs q (events t) (world (w .chip) (w .memory) [] 0) .written) (w .ticks + runs q (events t) (world (w .chip) (w .memory) [] 0) .ticks)) same
+    let T : Setting = settingOf (length m) in
+    let w : World = runs T (events s) (world c m [] 0) in
+    let same : settingOf (length m) ≡ settingOf (length (w .memory)) = ap settingOf (sym (length-runs T (events s) (world c m [] 0))) in
+    run-cut s t clean T (world c m [] 0)
+    ∙ runs-from T (events t) (w .chip) (w .memory) (w .written) (w .ticks)
+    ∙ ap (λ (q : Setting). world (runs q (events t) (world (w .chip) (w .memory) [] 0) .chip) (runs q (events t) (world (w .chip) (w .memory) [] 0) .memory) (w .written ++ runs q (events t) (world (w .chip) (w .memory) [] 0) .written) (w .ticks + runs q (events t) (world (w .chip) (w .memory) [] 0) .ticks)) same
 
 -- ---- events applied one by one
 
@@ -271,19 +287,16 @@ used-at : (s : List ℕ) (at : ℕ) → bodyUsed (getD s at 0) (bodyAt s at) ≡
 unfolding bodyUsed
 used-at s at = go (bodyLength (getD s at 0))
   where
-    body : ℕ → ℕ
-    body l = cond (eqb l 1) (getD s (at + 1) 0) (cond (eqb l 2) (getD s (at + 1) 0 * 256 + getD s (at + 2) 0) 0)
-
-    go : (l : ℕ) → cond (eqb l 0) 0 (body l) ≡ body l
+    go : (l : ℕ) → cond (eqb l 0) 0 (numberAt s (at + 1) l) ≡ numberAt s (at + 1) l
     go zero = refl
-    go (suc l) = cond-no (eqb (suc l) 0) 0 (body (suc l)) (ne-eqb (suc l) 0 (λ e. omega arith))
+    go (suc l) = cond-no (eqb (suc l) 0) 0 (numberAt s (at + 1) (suc l)) (ne-eqb (suc l) 0 (λ e. omega arith))
 
 -- The event of a script applied alone, where nothing refuses it, gives what the run gives at that event: so a run is its events applied one by one.
 pub one-by-one : (c : Chip) (m s : List ℕ) (at : ℕ) → Alone.refusal c (length m) (getD s at 0) (bodyAt s at) ≡ 0
-    → (Alone.answerOf c m (getD s at 0) (bodyAt s at) ≡ Alone.done (applied (sectors (length m)) c m (getD s at 0) (bodyAt s at)))
-    × (Alone.memoryOf c m (getD s at 0) (bodyAt s at) ≡ applied (sectors (length m)) c m (getD s at 0) (bodyAt s at) .memory)
+    → (Alone.answerOf c m (getD s at 0) (bodyAt s at) ≡ Alone.done (applied (settingOf (length m)) c m (getD s at 0) (bodyAt s at)))
+    × (Alone.memoryOf c m (getD s at 0) (bodyAt s at) ≡ applied (settingOf (length m)) c m (getD s at 0) (bodyAt s at) .memory)
 one-by-one c m s at h =
-    let same : applied (sectors (length m)) c m (getD s at 0) (bodyAt s at) ≡ Alone.happens c m (getD s at 0) (bodyAt s at) =
+    let same : applied (settingOf (length m)) c m (getD s at 0) (bodyAt s at) ≡ Alone.happens c m (getD s at 0) (bodyAt s at) =
     happens-as c m (getD s at 0) (bodyAt s at) (sectors (length m)) (bodyAt s at) refl (sym (used-at s at)) in (
       answer-done c m (getD s at 0) (bodyAt s at) h ∙ ap Alone.done (sym same),
       memory-done c m (getD s at 0) (bodyAt s at) h ∙ ap (λ (o : Outcome). o .memory) (sym same),

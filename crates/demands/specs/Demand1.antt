@@ -16,11 +16,12 @@ use Rattle.chip.specs.declared.Chip.{Chip}
 use Rattle.chip.specs.declared.Record.the-variants.{Nothing}
 use Rattle.chip.specs.Legal.{legal}
 use Rattle.event.specs.declared.Answer.{Answer}
-use Rattle.event.specs.Alone.{knownKind, inRange}
+use Rattle.kinds.specs.Kinds.{knownKind, inRange}
+use Rattle.kinds.specs.Body.{bodyAt, nextAt}
 use Rattle.event.specs.Alone as Alone
 use Rattle.event.specs.Laws as EventLaws
 use Rattle.script.specs.declared.Ran.{Ran}
-use Rattle.script.specs.Script.{Event, bodyAt, nextAt, faultAt, eventAt, Refusal, refusalOf, events, eventsFrom, walk, firstBad, room}
+use Rattle.script.specs.Script.{Event, faultAt, eventAt, Refusal, refusalOf, events, eventsFrom, walk, firstBad, room}
 use Rattle.script.specs.Run as Run
 use Rattle.script.specs.Laws as ScriptLaws
 

@@ -13,7 +13,7 @@ use lib.ListN.{length, getD, set, length-set}
 use lib.Seq.{getD-set-same, getD-set-other}
 use borrow.Author.Tests.{lt-ltb, le-ltb, le-leb, lt-leb, leb-true, eqb-true, eq-eqb, ne-eqb}
 use Rattle.cells.specs.Choice.{cond-yes, cond-no, cond-either, and-left, and-right, and-both}
-use Rattle.part.specs.Part.{sector, jedecByte, deviceByte}
+use Rattle.part.specs.Part.{Setting, lengthOf, sector, jedecByte, deviceByte}
 use Rattle.part.specs.Table.{rowOf, fitsRule, isRead, isProgram, pageProgram, pageProgram′, lowPowerRead, highSpeedRead, jedecId, wake}
 use Rattle.part.specs.Protection.{protectedCount, protectedSector}
 use Rattle.part.specs.Laws.{protectedCount-le}
@@ -25,7 +25,7 @@ use Rattle.chip.specs.Job.{isJob, hasCells}
 use Rattle.chip.specs.Chip.{running, statusByte}
 use Rattle.frame.specs.Frame.{judge, counted, nextPlace, counting, reading, loading, readsCell, takesData, taken, Exchange, exchange}
 use Rattle.frame.specs.Laws.{taken-cell, taken-data, taken-jedec, taken-device}
-use Rattle.verdict.specs.Verdict.{jobOf, placeOf, targetProtected, pointless, jobVerdict, commandVerdict, listed, verdict}
+use Rattle.verdict.specs.Verdict.{jobOf, jobAsked, targetProtected, pointless, jobVerdict, commandVerdict, listed, verdict}
 
 -- ---- verdicts: "The first that applies"
 
@@ -42,8 +42,8 @@ firstOf [] otherwise = otherwise
 firstOf (t ∷ ts) otherwise = cond (t .applies) (t .number) (firstOf ts otherwise)
 
 -- 01's list, in 01's words and order, for a frame with judgement none; what none of it takes is 1, done at once
-abbrev pub paperList : Core → Frame → Bool → ℕ → ℕ → List Test
-paperList k f loose S n =
+abbrev pub paperList : ℕ → Core → Frame → Bool → List Test
+paperList S k f loose =
     test 0 (eqb (f .count) 0)
     ∷ test 3 (not (rowOf (f .opcode) .known))
     ∷ test 5 (k .deep && not (eqb (f .opcode) wake))
@@ -55,18 +55,18 @@ paperList k f loose S n =
     ∷ test 12 (isJob (jobOf (f .opcode) (f .address)) && (hasCells (jobOf (f .opcode) (f .address)) && k .suspended && not (k .wen)))
     ∷ test 8 (isJob (jobOf (f .opcode) (f .address)) && not (k .wen))
     ∷ test 10 (isJob (jobOf (f .opcode) (f .address)) && (not (hasCells (jobOf (f .opcode) (f .address))) && k .srwp && not (k .wp)))
-    ∷ test 9 (isJob (jobOf (f .opcode) (f .address)) && targetProtected k (jobOf (f .opcode) (f .address)) S (placeOf (jobOf (f .opcode) (f .address)) n (f .address)))
+    ∷ test 9 (isJob (jobOf (f .opcode) (f .address)) && targetProtected S k (jobAsked S f .kind) (jobAsked S f .start))
     ∷ test 2 (isJob (jobOf (f .opcode) (f .address)))
     ∷ []
 
 -- The verdict is the first of that list that applies.
-pub verdict-first : (k : Core) (f : Frame) (loose : Bool) (S n : ℕ) → f .judgement ≡ 0 → verdict k f loose S n ≡ firstOf (paperList k f loose S n) 1
+pub verdict-first : (S : ℕ) (k : Core) (f : Frame) (loose : Bool) → f .judgement ≡ 0 → verdict S k f loose ≡ firstOf (paperList S k f loose) 1
 unfolding verdict listed commandVerdict jobVerdict judge
-verdict-first k f loose S n h =
-    ap (λ (v : ℕ). cond (eqb (f .count) 0) 0 (cond (not (eqb v 0)) v (listed k f loose S n))) h
+verdict-first S k f loose h =
+    ap (λ (v : ℕ). cond (eqb (f .count) 0) 0 (cond (not (eqb v 0)) v (listed S k f loose))) h
     ∙ go (eqb (f .count) 0) (rowOf (f .opcode) .known) (k .deep && not (eqb (f .opcode) wake)) (running k && not (rowOf (f .opcode) .running)) (k .suspended && not (rowOf (f .opcode) .suspended))
     (isRead (f .opcode)) (loose || not (fitsRule (rowOf (f .opcode) .rule) (f .count))) (pointless k (f .opcode)) (isJob kind) (hasCells kind && k .suspended && not (k .wen)) (not (k .wen))
-    (not (hasCells kind) && k .srwp && not (k .wp)) (targetProtected k kind S (placeOf kind n (f .address)))
+    (not (hasCells kind) && k .srwp && not (k .wp)) (targetProtected S k kind (jobAsked S f .start))
   where
     kind : JobKind
     kind = jobOf (f .opcode) (f .address)
@@ -86,9 +86,9 @@ verdict-first k f loose S n h =
     go false true false false false i b p false t w u q = refl
 
 -- "a frame so judged floats to its end and that verdict stands"; an empty frame is 0.
-pub verdict-judged : (k : Core) (f : Frame) (loose : Bool) (S n : ℕ) → (f .count ≡ 0 → ⊥) → (f .judgement ≡ 0 → ⊥) → verdict k f loose S n ≡ f .judgement
+pub verdict-judged : (S : ℕ) (k : Core) (f : Frame) (loose : Bool) → (f .count ≡ 0 → ⊥) → (f .judgement ≡ 0 → ⊥) → verdict S k f loose ≡ f .judgement
 unfolding verdict
-verdict-judged k f loose S n c j = cond-no (eqb (f .count) 0) _ _ (ne-eqb _ _ c) ∙ cond-yes (not (eqb (f .judgement) 0)) _ _ (ap not (ne-eqb _ _ j))
+verdict-judged S k f loose c j = cond-no (eqb (f .count) 0) _ _ (ne-eqb _ _ c) ∙ cond-yes (not (eqb (f .judgement) 0)) _ _ (ap not (ne-eqb _ _ j))
 
 -- ---- the status byte, bit by bit
 
@@ -152,13 +152,14 @@ read-place n (suc j) f h =
     let inside : (f .place + j) % n < n = mod-lt (f .place + j) some in
     ap (nextPlace n) before ∙ nextPlace-mod n ((f .place + j) % n) inside ∙ mod-add-mod (f .place + j) n 1 ∙ ap (λ (q : ℕ). q % n) (omega arith)
 
--- The j-th data byte of a read is the cell at (place + j) mod length, for every j.
-pub reads-go-round : (k : Core) (f : Frame) (load m : List ℕ) (b j : ℕ) → f .place < length m → readsCell (readOn (length m) j f) ≡ true
-    → taken k (readOn (length m) j f) load m b ≡ exchange (Driven (getD m ((f .place + j) % length m) 0)) (readOn (length m) (suc j) f) load
+-- The j-th data byte of a read is the cell at (place + j) mod the part's length, for every j.
+pub reads-go-round : (T : Setting) (k : Core) (f : Frame) (load m : List ℕ) (b j : ℕ) → f .place < lengthOf (T .sectors) → readsCell (readOn (lengthOf (T .sectors)) j f) ≡ true
+    → taken T k (readOn (lengthOf (T .sectors)) j f) load m b ≡ exchange (Driven (getD m ((f .place + j) % lengthOf (T .sectors)) 0)) (readOn (lengthOf (T .sectors)) (suc j) f) load
 unfolding readOn
-reads-go-round k f load m b j h r =
-    taken-cell k (readOn (length m) j f) load m b r
-    ∙ ap (λ (p : ℕ). exchange (Driven (getD m p 0)) (reading (length m) (readOn (length m) j f)) load) (read-place (length m) j f h)
+reads-go-round T k f load m b j h r =
+    let n : ℕ = lengthOf (T .sectors) in
+    taken-cell T k (readOn n j f) load m b r
+    ∙ ap (λ (p : ℕ). exchange (Driven (getD m p 0)) (reading n (readOn n j f)) load) (read-place n j f h)
 
 -- and every later byte of a read is data of that read
 or-right : (a b : Bool) → b ≡ true → (a || b) ≡ true
@@ -216,9 +217,9 @@ load-keeps-last (b ∷ bs) o load (suc j) l e h g =
     ∙ load-keeps-last bs ((o + 1) % 256) (set load o b) j (omega arith) (length-set load o b ∙ e) (omega arith) (omega arith)
 
 -- the frame and load after these bytes of a frame with judgement none
-unfoldable pub fed : Core → List ℕ → List ℕ → Frame → List ℕ → Exchange
-fed k m [] f load = exchange Floating f load
-fed k m (b ∷ bs) f load = fed k m bs (taken k f load m b .frame) (taken k f load m b .load)
+unfoldable pub fed : Setting → Core → List ℕ → List ℕ → Frame → List ℕ → Exchange
+fed T k m [] f load = exchange Floating f load
+fed T k m (b ∷ bs) f load = fed T k m bs (taken T k f load m b .frame) (taken T k f load m b .load)
 
 -- a byte of a page program is no read of cells
 data-no-cell : (f : Frame) → takesData f ≡ true → readsCell f ≡ false
@@ -243,30 +244,30 @@ data-goes-on f h = and-both (isProgram (f .opcode)) _ (and-left (isProgram (f .o
     up l = cond-either (λ (q : ℕ). leb 4 q ≡ true) (ltb (f .count) 6) (f .count + 1) 6 (λ _. le-leb 4 (f .count + 1) (omega arith)) (λ _. refl)
 
 -- The load of a page program after any number of data bytes.
-pub load-after-data : (k : Core) (m bs : List ℕ) (f : Frame) (load : List ℕ) → takesData f ≡ true → fed k m bs f load .load ≡ loadAfter bs (f .offset) load
+pub load-after-data : (T : Setting) (k : Core) (m bs : List ℕ) (f : Frame) (load : List ℕ) → takesData f ≡ true → fed T k m bs f load .load ≡ loadAfter bs (f .slot) load
 unfolding fed loadAfter
-load-after-data k m [] f load h = refl
-load-after-data k m (b ∷ bs) f load h =
-    let one : taken k f load m b ≡ exchange Floating (loading f) (set load (f .offset) b) = taken-data k f load m b (data-no-cell f h) h in
-    ap (λ (e : Exchange). fed k m bs (e .frame) (e .load) .load) one ∙ load-after-data k m bs (loading f) (set load (f .offset) b) (data-goes-on f h)
+load-after-data T k m [] f load h = refl
+load-after-data T k m (b ∷ bs) f load h =
+    let one : taken T k f load m b ≡ exchange Floating (loading f) (set load (f .slot) b) = taken-data T k f load m b (data-no-cell f h) h in
+    ap (λ (e : Exchange). fed T k m bs (e .frame) (e .load) .load) one ∙ load-after-data T k m bs (loading f) (set load (f .slot) b) (data-goes-on f h)
 
 -- ---- identities: "9Fh .. from byte 2, repeating in that cycle ..; ABh 88h from byte 5 on"
 
 -- The j-th byte from byte 2 of a 9Fh frame that began at place 0 of the cycle.
-pub jedec-goes-round : (k : Core) (f : Frame) (load m : List ℕ) (b j : ℕ) → f .place < 4 → f .opcode ≡ jedecId
-    → taken k (readOn 4 j f) load m b ≡ exchange (Driven (jedecByte ((f .place + j) % 4))) (readOn 4 (suc j) f) load
+pub jedec-goes-round : (T : Setting) (k : Core) (f : Frame) (load m : List ℕ) (b j : ℕ) → f .place < 4 → f .opcode ≡ jedecId
+    → taken T k (readOn 4 j f) load m b ≡ exchange (Driven (jedecByte ((f .place + j) % 4))) (readOn 4 (suc j) f) load
 unfolding readOn isProgram
-jedec-goes-round k f load m b j h e =
+jedec-goes-round T k f load m b j h e =
     let op : readOn 4 j f .opcode ≡ jedecId = opcode-stays 4 j f ∙ e in
-    taken-jedec k (readOn 4 j f) load m b (ap (λ (q : ℕ). eqb q lowPowerRead && leb 4 (readOn 4 j f .count) || eqb q highSpeedRead && leb 5 (readOn 4 j f .count)) op)
+    taken-jedec T k (readOn 4 j f) load m b (ap (λ (q : ℕ). eqb q lowPowerRead && leb 4 (readOn 4 j f .count) || eqb q highSpeedRead && leb 5 (readOn 4 j f .count)) op)
     (ap (λ (q : ℕ). isProgram q && leb 4 (readOn 4 j f .count)) op) (λ x. omega arith) op
     ∙ ap (λ (p : ℕ). exchange (Driven (jedecByte p)) (reading 4 (readOn 4 j f)) load) (read-place 4 j f h)
 
 -- From byte 5 on an ABh frame drives 88h.
-pub device-byte : (k : Core) (f : Frame) (load m : List ℕ) (b : ℕ) → f .opcode ≡ wake → 4 ≤ f .count → taken k f load m b ≡ exchange (Driven deviceByte) (counting f) load
+pub device-byte : (T : Setting) (k : Core) (f : Frame) (load m : List ℕ) (b : ℕ) → f .opcode ≡ wake → 4 ≤ f .count → taken T k f load m b ≡ exchange (Driven deviceByte) (counting f) load
 unfolding isProgram
-device-byte k f load m b e h =
-    taken-device k f load m b (ap (λ (q : ℕ). eqb q lowPowerRead && leb 4 (f .count) || eqb q highSpeedRead && leb 5 (f .count)) e) (ap (λ (q : ℕ). isProgram q && leb 4 (f .count)) e) (λ x. omega arith) (λ x. omega arith)
+device-byte T k f load m b e h =
+    taken-device T k f load m b (ap (λ (q : ℕ). eqb q lowPowerRead && leb 4 (f .count) || eqb q highSpeedRead && leb 5 (f .count)) e) (ap (λ (q : ℕ). isProgram q && leb 4 (f .count)) e) (λ x. omega arith) (λ x. omega arith)
     (and-both (eqb (f .opcode) wake) (leb 4 (f .count)) (eq-eqb _ _ e) (le-leb _ _ h))
 
 -- ---- protection by address: the two ends of the protected range

@@ -14,25 +14,27 @@ use lib.ListN.{length}
 use borrow.Author.Tests.{eq-eqb, ne-eqb, eqb-true, eqb-false}
 use Rattle.cells.specs.Choice.{cond-either, cond-yes, cond-no, and-left, and-right, and-both, not-so}
 use Rattle.cells.specs.Stepping.{Steps, laid, Machine}
-use Rattle.part.specs.Table.{isProgram, reset}
+use Rattle.part.specs.Part.{Setting}
+use Rattle.part.specs.Table.{reset}
+use Rattle.kinds.specs.Kinds.{DESELECT, POWER, LOOSE, knownKind}
 use Rattle.chip.specs.declared.Chip.{Chip}
 use Rattle.chip.specs.declared.Core.{Core}
 use Rattle.chip.specs.declared.Frame.{Frame}
 use Rattle.chip.specs.declared.Job.{Job}
 use Rattle.chip.specs.declared.JobKind.{JobKind}
 use Rattle.chip.specs.declared.JobKind.the-variants.{Idle, WriteStatus, Program, SmallErase, SectorErase, ChipErase}
-use Rattle.chip.specs.Job.{isJob, total, steps}
-use Rattle.chip.specs.Chip.{running}
+use Rattle.chip.specs.Fields.{withDone}
+use Rattle.chip.specs.Job.{isJob, total, steps, noJob}
+use Rattle.chip.specs.Chip.{running, blankLoad}
 use Rattle.job.specs.Tick.{ticksLeft, ticksCore, ticksMemory, worked, endedAs, ended, advanced}
-use Rattle.job.specs.Laws.{steps-none, steps-add, ticks-rest, ticksMemory-rest, worked-rest, ticks-go, ticksMemory-go, worked-go, ticks-over, ticksMemory-over, worked-over}
+use Rattle.job.specs.Laws.{steps-none, steps-add, ticks-rest, ticksLoad-rest, ticksMemory-rest, worked-rest, ticks-go, ticksLoad-go, ticksMemory-go, worked-go, ticks-over, ticksLoad-over, ticksMemory-over, worked-over}
 use Rattle.verdict.specs.Verdict.{verdict}
-use Rattle.verdict.specs.Effect.{changed, armedAs, resets, instantly, acted, settled, handsOver}
-use Rattle.verdict.specs.Laws.{acted-nothing, instantly-each}
+use Rattle.verdict.specs.Effect.{acted, settled}
+use Rattle.verdict.specs.Laws.{acted-nothing, instantly-each, held-stays}
 use Rattle.event.specs.Event.{Outcome, closes, deselect, tick, applied}
-use Rattle.event.specs.Alone.{knownKind}
 use Rattle.event.specs.Laws.{applied-each}
 use Rattle.script.specs.Script.{Event}
-use Rattle.script.specs.Run.{World, world, after}
+use Rattle.script.specs.Run.{World, does, onward}
 
 -- ---- bits 2 to 5 and 7
 
@@ -61,7 +63,7 @@ ended-bits SmallErase k = refl
 ended-bits SectorErase k = refl
 ended-bits ChipErase k = refl
 
-ended-idle : (kind : JobKind) (k : Core) → isJob (endedAs kind k .job .kind) ≡ false
+ended-idle : (kind : JobKind) (k : Core) → endedAs kind k .job ≡ noJob
 ended-idle (WriteStatus value) k = refl
 ended-idle Idle k = refl
 ended-idle Program k = refl
@@ -69,18 +71,14 @@ ended-idle SmallErase k = refl
 ended-idle SectorErase k = refl
 ended-idle ChipErase k = refl
 
--- a job with another number of steps done
-abbrev pub withSteps : Job → ℕ → Job
-withSteps j d = record { kind = j .kind; place = j .place; done = d }
-
 -- ---- what spares a job
 
 -- whether a deselect drops the job or begins another: verdict 2, or a reset done at once
-abbrev pub replaces : ℕ → Chip → List ℕ → Bool → Bool
-replaces S c m loose =
+abbrev pub replaces : Setting → Chip → List ℕ → Bool → Bool
+replaces T c m loose =
     c .frame .selected
-    && (eqb (verdict (c .core) (c .frame) loose S (length m)) 2
-    || eqb (verdict (c .core) (c .frame) loose S (length m)) 1 && eqb (c .frame .opcode) reset)
+    && (eqb (verdict (T .sectors) (c .core) (c .frame) loose) 2
+    || eqb (verdict (T .sectors) (c .core) (c .frame) loose) 1 && eqb (c .frame .opcode) reset)
 
 -- a test `s && (a || b)` that holds by either of the two
 either-way : (s a b : Bool) → s ≡ true → (a ≡ true) ⊎ (b ≡ true) → (s && (a || b)) ≡ true
@@ -90,11 +88,11 @@ either-way true false b p (inr q) = q
 either-way false a b p q = p
 
 -- an event that is no power cut, no reset and begins no job; suspends, resumes, reads, ticks, refused frames and frames left open all spare it
-pub record Spares (S : ℕ) (c : Chip) (m : List ℕ) (kind : ℕ) : Type 0 where
+pub record Spares (T : Setting) (c : Chip) (m : List ℕ) (kind : ℕ) : Type 0 where
   pub known : knownKind kind ≡ true
-  pub no-power-cut : kind ≡ 7 → ⊥
-  pub clean-spares : kind ≡ 3 → replaces S c m false ≡ false
-  pub loose-spares : kind ≡ 8 → replaces S c m true ≡ false
+  pub no-power-cut : kind ≡ POWER → ⊥
+  pub clean-spares : kind ≡ DESELECT → replaces T c m false ≡ false
+  pub loose-spares : kind ≡ LOOSE → replaces T c m true ≡ false
 
 -- ---- an event that spares the job and is no tick changes neither cells nor job
 
@@ -102,42 +100,39 @@ pub record Unchanged (c : Chip) (m : List ℕ) (o : Outcome) : Type 0 where
   pub memory-same : o .memory ≡ m
   pub works-none : o .ticks ≡ 0
   pub job-same : o .chip .core .job ≡ c .core .job
-  pub page-same : o .chip .page ≡ c .page
+  pub held-same : o .chip .held ≡ c .held
   pub bits-same : bitsOf (o .chip .core) ≡ bitsOf (c .core)
 
-module _ (S : ℕ) (c : Chip) (m : List ℕ) where
+module _ (T : Setting) (c : Chip) (m : List ℕ) where
   abbrev Same : Core → Type 0
   Same k = (k .job ≡ c .core .job) × (bitsOf k ≡ bitsOf (c .core))
 
   -- a verdict that neither begins nor resets leaves the job, the bits and the load
   module _ (v : ℕ) (not-begun : v ≡ 2 → ⊥) (not-reset : v ≡ 1 → c .frame .opcode ≡ reset → ⊥) where
-    acted-same : Same (acted (c .core) (c .frame) v (length m))
+    acted-same : Same (acted (T .sectors) (c .core) (c .frame) v)
     unfolding acted
     acted-same = go (ℕ-discrete v 1)
       where
-        go : Dec (v ≡ 1) → Same (acted (c .core) (c .frame) v (length m))
+        go : Dec (v ≡ 1) → Same (acted (T .sectors) (c .core) (c .frame) v)
         go (yes one) =
             subst Same (sym (cond-no (eqb v 2) _ _ (ne-eqb _ _ not-begun) ∙ cond-yes (eqb v 1) _ _ (eq-eqb _ _ one)))
             (instantly-each (c .core) (c .frame .opcode) Same (λ _. (refl, refl)) (λ _. (refl, refl)) (λ _. (refl, refl)) (λ _. (refl, refl)) (λ _. (refl, refl)) (λ _. (refl, refl)) (λ e. absurd (not-reset one e)) (refl, refl))
-        go (no one) = subst Same (sym (acted-nothing (c .core) (c .frame) v (length m) one not-begun)) (refl, refl)
+        go (no one) = subst Same (sym (acted-nothing (T .sectors) (c .core) (c .frame) v one not-begun)) (refl, refl)
 
-    settled-same : Same (settled (c .core) (c .frame) v (length m))
+    settled-same : Same (settled (T .sectors) (c .core) (c .frame) v)
     unfolding settled
     settled-same = cond-either Same (eqb (c .frame .count) 0) _ _ (λ _. (refl, refl)) (λ _. acted-same)
 
-    load-stays : cond (handsOver (c .frame) v) (c .load) (c .page) ≡ c .page
-    load-stays = cond-no (handsOver (c .frame) v) _ _ (not-so (handsOver (c .frame) v) (λ h. not-begun (eqb-true v 2 (and-right (isProgram (c .frame .opcode)) (eqb v 2) h))))
+    closes-unchanged : Unchanged c m (closes T c m v)
+    closes-unchanged = record { memory-same = refl; works-none = refl; job-same = settled-same .0; held-same = held-stays (c .frame) v (c .load) (c .held) not-begun not-reset; bits-same = settled-same .1 }
 
-    closes-unchanged : Unchanged c m (closes S c m v)
-    closes-unchanged = record { memory-same = refl; works-none = refl; job-same = settled-same .0; page-same = load-stays; bits-same = settled-same .1 }
-
-  deselect-unchanged : (loose : Bool) → replaces S c m loose ≡ false → Unchanged c m (deselect S c m loose)
+  deselect-unchanged : (loose : Bool) → replaces T c m loose ≡ false → Unchanged c m (deselect T c m loose)
   deselect-unchanged loose h =
       cond-either (Unchanged c m) (c .frame .selected) _ _ (λ s. closes-unchanged v (λ e. begun s e) (λ e r. reset-done s e r))
-      (λ _. record { memory-same = refl; works-none = refl; job-same = refl; page-same = refl; bits-same = refl })
+      (λ _. record { memory-same = refl; works-none = refl; job-same = refl; held-same = refl; bits-same = refl })
     where
       v : ℕ
-      v = verdict (c .core) (c .frame) loose S (length m)
+      v = verdict (T .sectors) (c .core) (c .frame) loose
 
       begun : c .frame .selected ≡ true → v ≡ 2 → ⊥
       begun s e = false≢true (sym h ∙ either-way (c .frame .selected) (eqb v 2) (eqb v 1 && eqb (c .frame .opcode) reset) s (inl (eq-eqb v 2 e)))
@@ -147,182 +142,195 @@ module _ (S : ℕ) (c : Chip) (m : List ℕ) where
           false≢true (sym h ∙ either-way (c .frame .selected) (eqb v 2) (eqb v 1 && eqb (c .frame .opcode) reset) s (inr (and-both (eqb v 1) (eqb (c .frame .opcode) reset) (eq-eqb v 1 e) (eq-eqb _ _ r))))
 
   -- what holds of an event that changes neither, and of ticks, holds of every event that spares the job
-  pub sparing-each : (kind body : ℕ) (P : Outcome → Type 0) → Spares S c m kind → ((o : Outcome) → Unchanged c m o → P o) → ((n : ℕ) → P (tick S c m n)) → P (applied S c m kind body)
+  pub sparing-each : (kind body : ℕ) (P : Outcome → Type 0) → Spares T c m kind → ((o : Outcome) → Unchanged c m o → P o) → ((n : ℕ) → P (tick T c m n)) → P (applied T c m kind body)
   sparing-each kind body P s still ticks =
-      applied-each S c m kind body P
-      (λ _. still _ (record { memory-same = refl; works-none = refl; job-same = refl; page-same = refl; bits-same = refl }))
-      (λ _. still _ (record { memory-same = refl; works-none = refl; job-same = refl; page-same = refl; bits-same = refl }))
+      applied-each T c m kind body P
+      (λ _. still _ (record { memory-same = refl; works-none = refl; job-same = refl; held-same = refl; bits-same = refl }))
+      (λ _. still _ (record { memory-same = refl; works-none = refl; job-same = refl; held-same = refl; bits-same = refl }))
       (λ e. still _ (deselect-unchanged false (s .clean-spares e)))
       (λ _. ticks 1)
       (λ _. ticks body)
-      (λ _. still _ (record { memory-same = refl; works-none = refl; job-same = refl; page-same = refl; bits-same = refl }))
+      (λ _. still _ (record { memory-same = refl; works-none = refl; job-same = refl; held-same = refl; bits-same = refl }))
       (λ e. absurd (s .no-power-cut e))
       (λ e. still _ (deselect-unchanged true (s .loose-spares (e (s .known)))))
 
 -- ---- where the job stands
 
-module _ (S : ℕ) (kind : JobKind) (place : ℕ) (page : List ℕ) (bits : Bits) where
+module _ (kind : JobKind) (start : ℕ) (held : List ℕ) where
   -- step i of the job
   abbrev pub stepOf : Steps
-  stepOf i m = steps kind place page i 1 m
-
-  pub record AtStep (i : ℕ) (c : Chip) : Type 0 where
-    pub job-is : c .core .job ≡ record { kind = kind; place = place; done = i }
-    pub page-is : c .page ≡ page
-    pub bits-are : bitsOf (c .core) ≡ bits
-
-  pub record JobOver (c : Chip) : Type 0 where
-    pub no-job : isJob (c .core .job .kind) ≡ false
-    pub bits-are : bitsOf (c .core) ≡ bitsAfter kind bits
+  stepOf i m = steps kind start held i 1 m
 
   -- k steps at once are the k steps one by one
-  pub laid-steps : (d k : ℕ) (m : List ℕ) → laid stepOf d k m ≡ steps kind place page d k m
+  pub laid-steps : (d k : ℕ) (m : List ℕ) → laid stepOf d k m ≡ steps kind start held d k m
   unfolding laid
-  laid-steps d zero m = sym (steps-none kind place page d m)
+  laid-steps d zero m = sym (steps-none kind start held d m)
   laid-steps d (suc k) m =
-      ap (steps kind place page (d + k) 1) (laid-steps d k m)
-      ∙ sym (steps-add kind place page d k 1 m)
-      ∙ ap (λ (q : ℕ). steps kind place page d q m) (add-one k)
+      ap (steps kind start held (d + k) 1) (laid-steps d k m)
+      ∙ sym (steps-add kind start held d k 1 m)
+      ∙ ap (λ (q : ℕ). steps kind start held d q m) (add-one k)
 
-  -- ---- one event
+-- the job stands at step i, with its load and these bits
+pub record AtStep (kind : JobKind) (start : ℕ) (held : List ℕ) (bits : Bits) (i : ℕ) (c : Chip) : Type 0 where
+  pub job-is : c .core .job ≡ record { kind = kind; start = start; done = i }
+  pub held-is : c .held ≡ held
+  pub bits-are : bitsOf (c .core) ≡ bits
+
+-- the job is over: nothing is left of it but the bits of a write status
+pub record JobOver (kind : JobKind) (bits : Bits) (c : Chip) : Type 0 where
+  pub job-none : c .core .job ≡ noJob
+  pub load-blank : c .held ≡ blankLoad
+  pub bits-are : bitsOf (c .core) ≡ bitsAfter kind bits
+
+-- ---- one event
+
+module _ (T : Setting) (kind : JobKind) (start : ℕ) (held : List ℕ) (bits : Bits) where
+  abbrev S : ℕ
+  S = T .sectors
+
+  abbrev step : Steps
+  step = stepOf kind start held
+
+  abbrev At : ℕ → Chip → Type 0
+  At = AtStep kind start held bits
+
+  abbrev Over : Chip → Type 0
+  Over = JobOver kind bits
 
   -- what an event from step i leaves: its working ticks' steps are done, and the job goes on or is over
   abbrev pub Goes : ℕ → List ℕ → Outcome → Type 0
   Goes i m o =
-      (o .memory ≡ laid stepOf i (o .ticks) m)
-      × (((i + o .ticks < total kind S) × AtStep (i + o .ticks) (o .chip)) ⊎ ((i + o .ticks ≡ total kind S) × JobOver (o .chip)))
+      (o .memory ≡ laid step i (o .ticks) m)
+      × (((i + o .ticks < total kind S) × At (i + o .ticks) (o .chip)) ⊎ ((i + o .ticks ≡ total kind S) × Over (o .chip)))
 
-  module _ (i : ℕ) (c : Chip) (m : List ℕ) (at : AtStep i c) (left : i < total kind S) where
+  module _ (i : ℕ) (c : Chip) (m : List ℕ) (at : At i c) (left : i < total kind S) where
     -- an event that changes neither cells nor job
-    leaves : (o : Outcome) → o .memory ≡ m → o .ticks ≡ 0 → o .chip .core .job ≡ c .core .job → o .chip .page ≡ c .page → bitsOf (o .chip .core) ≡ bitsOf (c .core) → Goes i m o
+    leaves : (o : Outcome) → o .memory ≡ m → o .ticks ≡ 0 → o .chip .core .job ≡ c .core .job → o .chip .held ≡ c .held → bitsOf (o .chip .core) ≡ bitsOf (c .core) → Goes i m o
     unfolding laid
     leaves o em et ej ep eb = (
-      em ∙ ap (λ (q : ℕ). laid stepOf i q m) (sym et),
+      em ∙ ap (λ (q : ℕ). laid step i q m) (sym et),
       inl (
         omega (arith, et),
-        subst (λ (q : ℕ). AtStep q (o .chip)) (sym (add-zero i) ∙ ap (λ (q : ℕ). i + q) (sym et))
-            (record { job-is = ej ∙ at .job-is; page-is = ep ∙ at .page-is; bits-are = eb ∙ at .bits-are }),
+        subst (λ (q : ℕ). At q (o .chip)) (sym (add-zero i) ∙ ap (λ (q : ℕ). i + q) (sym et))
+            (record { job-is = ej ∙ at .job-is; held-is = ep ∙ at .held-is; bits-are = eb ∙ at .bits-are }),
       ),
     )
 
     unchanged-goes : (o : Outcome) → Unchanged c m o → Goes i m o
-    unchanged-goes o u = leaves o (u .memory-same) (u .works-none) (u .job-same) (u .page-same) (u .bits-same)
+    unchanged-goes o u = leaves o (u .memory-same) (u .works-none) (u .job-same) (u .held-same) (u .bits-same)
 
     -- ticks: none of them works, or as many as the job has steps left
 
     -- a job as the core has it, and as it is known
-    job-as : {A : Type 0} (g : Job → A) → g (c .core .job) ≡ g (record { kind = kind; place = place; done = i })
+    job-as : {A : Type 0} (g : Job → A) → g (c .core .job) ≡ g (record { kind = kind; start = start; done = i })
     job-as g = ap g (at .job-is)
 
     left-is : ticksLeft S (c .core) ≡ total kind S - i
     left-is = job-as (λ (j : Job). max (total (j .kind) S - j .done) 1) ∙ omega arith
 
-    steps-as : (n : ℕ) → steps (c .core .job .kind) (c .core .job .place) (c .page) (c .core .job .done) n m ≡ laid stepOf i n m
-    steps-as n = job-as (λ (j : Job). steps (j .kind) (j .place) (c .page) (j .done) n m) ∙ ap (λ (p : List ℕ). steps kind place p i n m) (at .page-is) ∙ sym (laid-steps i n m)
+    steps-as : (n : ℕ) → steps (c .core .job .kind) (c .core .job .start) (c .held) (c .core .job .done) n m ≡ laid step i n m
+    steps-as n = job-as (λ (j : Job). steps (j .kind) (j .start) (c .held) (j .done) n m) ∙ ap (λ (p : List ℕ). steps kind start p i n m) (at .held-is) ∙ sym (laid-steps kind start held i n m)
 
-    ticks-rest-goes : (n : ℕ) → running (c .core) ≡ false → Goes i m (tick S c m n)
+    ticks-rest-goes : (n : ℕ) → running (c .core) ≡ false → Goes i m (tick T c m n)
     ticks-rest-goes n r =
-        leaves (tick S c m n) (ticksMemory-rest S n (c .core) (c .page) m r) (worked-rest S n (c .core) r) (ap (λ (q : Core). q .job) (ticks-rest S n (c .core) r)) refl (ap bitsOf (ticks-rest S n (c .core) r))
+        leaves (tick T c m n) (ticksMemory-rest S n (c .core) (c .held) m r) (worked-rest S n (c .core) r) (ap (λ (q : Core). q .job) (ticks-rest S n (c .core) r)) (ticksLoad-rest S n (c .core) (c .held) r) (ap bitsOf (ticks-rest S n (c .core) r))
 
-    ticks-some-go : (n : ℕ) → running (c .core) ≡ true → n < total kind S - i → Goes i m (tick S c m n)
+    ticks-some-go : (n : ℕ) → running (c .core) ≡ true → n < total kind S - i → Goes i m (tick T c m n)
     ticks-some-go n r l =
         let less : n < ticksLeft S (c .core) = omega (arith, left-is) in
         let most : n ≤ ticksLeft S (c .core) = omega (arith, left-is) in
         let w : worked S n (c .core) ≡ n = worked-go S (c .core) r n most in
         let core-is : ticksCore S n (c .core) ≡ advanced n (c .core) = ticks-go S (c .core) r n less in (
-          ticksMemory-go S (c .core) r (c .page) m n most ∙ steps-as n ∙ ap (λ (q : ℕ). laid stepOf i q m) (sym w),
+          ticksMemory-go S (c .core) r (c .held) m n most ∙ steps-as n ∙ ap (λ (q : ℕ). laid step i q m) (sym w),
           inl (
             omega (arith, w),
             record {
               job-is =
                   ap (λ (q : Core). q .job) core-is
-                  ∙ job-as (λ (j : Job). withSteps j (j .done + n))
-                  ∙ ap (λ (q : ℕ). withSteps (record { kind = kind; place = place; done = i }) (i + q)) (sym w);
-              page-is = at .page-is;
+                  ∙ job-as (λ (j : Job). withDone (j .done + n) j)
+                  ∙ ap (λ (q : ℕ). withDone (i + q) (record { kind = kind; start = start; done = i })) (sym w);
+              held-is = ticksLoad-go S (c .core) r (c .held) n less ∙ at .held-is;
               bits-are = ap bitsOf core-is ∙ at .bits-are;
             },
           ),
         )
 
-    ticks-all-go : (n : ℕ) → running (c .core) ≡ true → total kind S - i ≤ n → Goes i m (tick S c m n)
+    ticks-all-go : (n : ℕ) → running (c .core) ≡ true → total kind S - i ≤ n → Goes i m (tick T c m n)
     ticks-all-go n r l =
         let enough : ticksLeft S (c .core) ≤ n = omega (arith, left-is) in
         let w : worked S n (c .core) ≡ ticksLeft S (c .core) = worked-over S (c .core) r n enough in
         let core-is : ticksCore S n (c .core) ≡ endedAs kind (c .core) = ticks-over S (c .core) r n enough ∙ job-as (λ (j : Job). endedAs (j .kind) (c .core)) in (
-          ticksMemory-over S (c .core) r n enough (c .page) m ∙ steps-as (ticksLeft S (c .core)) ∙ ap (λ (q : ℕ). laid stepOf i q m) (sym w),
+          ticksMemory-over S (c .core) r n enough (c .held) m ∙ steps-as (ticksLeft S (c .core)) ∙ ap (λ (q : ℕ). laid step i q m) (sym w),
           inr (
             omega (arith, w, left-is),
             record {
-              no-job = ap (λ (q : Core). isJob (q .job .kind)) core-is ∙ ended-idle kind (c .core);
+              job-none = ap (λ (q : Core). q .job) core-is ∙ ended-idle kind (c .core);
+              load-blank = ticksLoad-over S (c .core) r n enough (c .held);
               bits-are = ap bitsOf core-is ∙ ended-bits kind (c .core) ∙ ap (bitsAfter kind) (at .bits-are);
             },
           ),
         )
 
-    tick-goes : (n : ℕ) → Goes i m (tick S c m n)
+    tick-goes : (n : ℕ) → Goes i m (tick T c m n)
     tick-goes n = go (running (c .core)) refl (decLt n (total kind S - i))
       where
-        go : (b : Bool) → running (c .core) ≡ b → Dec (n < total kind S - i) → Goes i m (tick S c m n)
+        go : (b : Bool) → running (c .core) ≡ b → Dec (n < total kind S - i) → Goes i m (tick T c m n)
         go false r d = ticks-rest-goes n r
         go true r (yes l) = ticks-some-go n r l
         go true r (no l) = ticks-all-go n r (omega arith)
 
     -- every event that spares the job
-    pub event-goes : (kind′ body : ℕ) → Spares S c m kind′ → Goes i m (applied S c m kind′ body)
-    event-goes kind′ body s = sparing-each S c m kind′ body (Goes i m) s unchanged-goes tick-goes
+    pub event-goes : (kind′ body : ℕ) → Spares T c m kind′ → Goes i m (applied T c m kind′ body)
+    event-goes kind′ body s = sparing-each T c m kind′ body (Goes i m) s unchanged-goes tick-goes
 
   -- ---- once the job is over
 
-  module _ (c : Chip) (m : List ℕ) (over : JobOver c) where
+  module _ (c : Chip) (m : List ℕ) (over : Over c) where
     -- no job runs
     over-rests : running (c .core) ≡ false
-    over-rests = ap (λ (b : Bool). b && not (c .core .suspended)) (over .no-job)
+    over-rests = ap (λ (j : Job). isJob (j .kind) && not (c .core .suspended)) (over .job-none)
 
     -- an event that begins none leaves it so
     abbrev pub Rests : Outcome → Type 0
-    Rests o = (o .memory ≡ m) × (o .ticks ≡ 0) × JobOver (o .chip)
+    Rests o = (o .memory ≡ m) × (o .ticks ≡ 0) × Over (o .chip)
 
     unchanged-rests : (o : Outcome) → Unchanged c m o → Rests o
     unchanged-rests o u = (
       u .memory-same,
       u .works-none,
-      record { no-job = ap (λ (j : Job). isJob (j .kind)) (u .job-same) ∙ over .no-job; bits-are = u .bits-same ∙ over .bits-are },
+      record { job-none = u .job-same ∙ over .job-none; load-blank = u .held-same ∙ over .load-blank; bits-are = u .bits-same ∙ over .bits-are },
     )
 
-    tick-rests : (n : ℕ) → Rests (tick S c m n)
+    tick-rests : (n : ℕ) → Rests (tick T c m n)
     tick-rests n =
-        unchanged-rests (tick S c m n)
+        unchanged-rests (tick T c m n)
         (record {
-          memory-same = ticksMemory-rest S n (c .core) (c .page) m over-rests;
+          memory-same = ticksMemory-rest S n (c .core) (c .held) m over-rests;
           works-none = worked-rest S n (c .core) over-rests;
           job-same = ap (λ (q : Core). q .job) (ticks-rest S n (c .core) over-rests);
-          page-same = refl;
+          held-same = ticksLoad-rest S n (c .core) (c .held) over-rests;
           bits-same = ap bitsOf (ticks-rest S n (c .core) over-rests);
         })
 
-    pub event-rests : (kind′ body : ℕ) → Spares S c m kind′ → Rests (applied S c m kind′ body)
-    event-rests kind′ body s = sparing-each S c m kind′ body Rests s unchanged-rests tick-rests
+    pub event-rests : (kind′ body : ℕ) → Spares T c m kind′ → Rests (applied T c m kind′ body)
+    event-rests kind′ body s = sparing-each T c m kind′ body Rests s unchanged-rests tick-rests
 
   -- ---- the machine
 
-  -- an event of a world
-  abbrev pub happens : Event → World → Outcome
-  happens e w = applied S (w .chip) (w .memory) (e .kind) (e .body)
-
   pub went : (i : ℕ) (o : Outcome) (m : List ℕ) → Goes i m o
-      → (o .memory ≡ laid stepOf i (o .ticks) m)
-      × (((i + o .ticks < total kind S) × ((i + o .ticks < total kind S) × AtStep (i + o .ticks) (o .chip))) ⊎ ((i + o .ticks ≡ total kind S) × JobOver (o .chip)))
+      → (o .memory ≡ laid step i (o .ticks) m)
+      × (((i + o .ticks < total kind S) × ((i + o .ticks < total kind S) × At (i + o .ticks) (o .chip))) ⊎ ((i + o .ticks ≡ total kind S) × Over (o .chip)))
   went i o m g = (g .0, ⊎-elim (λ on. inl (on .0, (on .0, on .1))) (λ end. inr end) (g .1))
 
-  abbrev pub machine : Machine World Event stepOf (total kind S)
+  abbrev pub machine : Machine World Event step (total kind S)
   machine =
       record {
-        next = λ e w. after w (happens e w);
+        next = onward T;
         memory = λ w. w .memory;
-        worked = λ e w. happens e w .ticks;
-        At = λ i w. (i < total kind S) × AtStep i (w .chip);
-        Over = λ w. JobOver (w .chip);
-        Spares = λ e w. Spares S (w .chip) (w .memory) (e .kind);
-        goes = λ i e w a s. went i (happens e w) (w .memory) (event-goes i (w .chip) (w .memory) (a .1) (a .0) (e .kind) (e .body) s);
+        worked = λ e w. does T e w .ticks;
+        At = λ i w. (i < total kind S) × At i (w .chip);
+        Over = λ w. Over (w .chip);
+        Spares = λ e w. Spares T (w .chip) (w .memory) (e .kind);
+        goes = λ i e w a s. went i (does T e w) (w .memory) (event-goes i (w .chip) (w .memory) (a .1) (a .0) (e .kind) (e .body) s);
         rests = λ e w o s. event-rests (w .chip) (w .memory) o (e .kind) (e .body) s;
       }

@@ -11,15 +11,16 @@ use Rattle.chip.specs.declared.Frame.{Frame}
 use Rattle.chip.specs.Chip.{fresh}
 use Rattle.chip.specs.Legal.{legalJob, legalCore, legalFrame, isEmpty, isBlank, legal}
 use Rattle.frame.specs.Frame.{readsCell, takesData}
-use Rattle.event.specs.Alone.{knownKind, bodyLength, inRange, refusal}
+use Rattle.kinds.specs.Kinds.{SELECT, EXCHANGE, DESELECT, TICK, WP, knownIn, kindRowIn, knownKind, kindRow}
+use Rattle.event.specs.Alone.{refusal}
 use Rattle.script.specs.Script.{faultAt, walk, eventsFrom, events, firstBad}
 
 -- a frame of that opcode with so many bytes, selected and not judged
 abbrev framed : ℕ → ℕ → Frame
-framed opcode count = record { selected = true; opcode = opcode; address = 0; place = 0; offset = 0; count = count; judgement = 0 }
+framed opcode count = record { selected = true; opcode = opcode; address = 0; place = 0; slot = 0; count = count; judgement = 0 }
 
 abbrev counted-to-7 : Chip
-counted-to-7 = record { core = fresh 0x00 .core; frame = framed 0x03 7; load = fresh 0x00 .load; page = fresh 0x00 .page }
+counted-to-7 = record { core = fresh 0x00 .core; frame = framed 0x03 7; load = fresh 0x00 .load; held = fresh 0x00 .held }
 
 -- `legal-applied`, `legal-runs`, `good-alone`: a fresh state is legal, on the smallest and on the real part
 pub legal-met : (legal (fresh 0x00) 65536 ≡ true) × (legal (fresh 0xFF) 2097152 ≡ true)
@@ -32,11 +33,11 @@ unfolding isProgram
 frames-met = (refl, refl, refl)
 
 -- `event-refused-when`: each number occurs; a byte count of 7 is in no legal frame
-pub refusals-met : (refusal (fresh 0x00) 65537 4 0 ≡ 1) × (refusal counted-to-7 65536 4 0 ≡ 2) × (refusal (fresh 0x00) 65536 9 0 ≡ 5) × (refusal (fresh 0x00) 65536 2 256 ≡ 6) × (refusal (fresh 0x00) 65536 4 0 ≡ 0)
-unfolding refusal legal legalCore legalJob legalFrame isEmpty isBlank permitted fresh knownKind inRange
+pub refusals-met : (refusal (fresh 0x00) 65537 TICK 0 ≡ 1) × (refusal counted-to-7 65536 TICK 0 ≡ 2) × (refusal (fresh 0x00) 65536 9 0 ≡ 5) × (refusal (fresh 0x00) 65536 EXCHANGE 256 ≡ 6) × (refusal (fresh 0x00) 65536 TICK 0 ≡ 0)
+unfolding refusal legal legalCore legalJob legalFrame isEmpty isBlank permitted fresh knownKind knownIn kindRow kindRowIn
 refusals-met = (refl, refl, refl, refl, refl)
 
 -- `pieces`, `first-bad-decides`: a script without a bad event, and one for each fault
-pub scripts-met : (firstBad (events (1 ∷ 2 ∷ 6 ∷ 3 ∷ [])) .number ≡ 0) × (firstBad (events (4 ∷ 2 ∷ [])) .number ≡ 4) × (firstBad (events (4 ∷ 9 ∷ [])) .number ≡ 5) × (firstBad (events (6 ∷ 2 ∷ [])) .number ≡ 6)
-unfolding firstBad eventsFrom walk faultAt knownKind bodyLength inRange
+pub scripts-met : (firstBad (events (SELECT ∷ EXCHANGE ∷ 0x06 ∷ DESELECT ∷ [])) .number ≡ 0) × (firstBad (events (TICK ∷ EXCHANGE ∷ [])) .number ≡ 4) × (firstBad (events (TICK ∷ 9 ∷ [])) .number ≡ 5) × (firstBad (events (WP ∷ 2 ∷ [])) .number ≡ 6)
+unfolding firstBad eventsFrom walk faultAt knownKind knownIn kindRow kindRowIn
 scripts-met = (refl, refl, refl, refl)

@@ -4,6 +4,7 @@ use Prim.Native.Nat.{ℕ}
 use mathlib.Core.Bool.{Bool}
 use mathlib.Core.List.{List}
 use mathlib.Core.Path.{_≡_, sym, ap, _∙_}
+use Rattle.part.specs.Part.{Setting}
 use Rattle.chip.specs.declared.Chip.{Chip}
 use Rattle.chip.specs.declared.Core.{Core}
 use Rattle.chip.specs.declared.Frame.{Frame}
@@ -46,13 +47,13 @@ pub unique-run : (c : Chip) (m s out : List ℕ) (r r′ : Ran) (m₁ m₂ o₁ 
 unique-run c m s out r r′ m₁ m₂ o₁ o₂ p q = (same (p .0) (q .0), same (p .1) (q .1), same (p .2) (q .2))
 
 -- `event::step`, whose contract packs the answer and the buffers into one outcome: each part of it
-pub unique-step : (S : ℕ) (c : Chip) (m : List ℕ) (kind body : ℕ) (r r′ : Stepped) (l₁ l₂ p₁ p₂ m₁ m₂ : List ℕ)
-    → outcome (r .core) (r .frame) l₁ p₁ m₁ (r .said) (r .ticks) ≡ applied S c m kind body → outcome (r′ .core) (r′ .frame) l₂ p₂ m₂ (r′ .said) (r′ .ticks) ≡ applied S c m kind body
+pub unique-step : (T : Setting) (c : Chip) (m : List ℕ) (kind body : ℕ) (r r′ : Stepped) (l₁ l₂ p₁ p₂ m₁ m₂ : List ℕ)
+    → outcome (r .core) (r .frame) l₁ p₁ m₁ (r .said) (r .ticks) ≡ applied T c m kind body → outcome (r′ .core) (r′ .frame) l₂ p₂ m₂ (r′ .said) (r′ .ticks) ≡ applied T c m kind body
     → (r ≡ r′) × (l₁ ≡ l₂) × (p₁ ≡ p₂) × (m₁ ≡ m₂)
-unique-step S c m kind body r r′ l₁ l₂ p₁ p₂ m₁ m₂ p q = (
+unique-step T c m kind body r r′ l₁ l₂ p₁ p₂ m₁ m₂ p q = (
   ap (λ (o : Outcome). stepped o) (same p q),
   ap (λ (o : Outcome). o .chip .load) (same p q),
-  ap (λ (o : Outcome). o .chip .page) (same p q),
+  ap (λ (o : Outcome). o .chip .held) (same p q),
   ap (λ (o : Outcome). o .memory) (same p q),
 )
   where
@@ -66,15 +67,15 @@ exchange-parts e r r′ l₁ l₂ p q = (ap (λ (x : Exchange). told x) (same p 
     told : Exchange → Exchanged
     told x = record { said = x .said; frame = x .frame }
 
-pub unique-exchange : (k : Core) (f : Frame) (load m : List ℕ) (b : ℕ) (r r′ : Exchanged) (l₁ l₂ : List ℕ)
-    → exchange (r .said) (r .frame) l₁ ≡ exchanged k f load m b → exchange (r′ .said) (r′ .frame) l₂ ≡ exchanged k f load m b → (r ≡ r′) × (l₁ ≡ l₂)
-unique-exchange k f load m b = exchange-parts (exchanged k f load m b)
+pub unique-exchange : (T : Setting) (k : Core) (f : Frame) (load m : List ℕ) (b : ℕ) (r r′ : Exchanged) (l₁ l₂ : List ℕ)
+    → exchange (r .said) (r .frame) l₁ ≡ exchanged T k f load m b → exchange (r′ .said) (r′ .frame) l₂ ≡ exchanged T k f load m b → (r ≡ r′) × (l₁ ≡ l₂)
+unique-exchange T k f load m b = exchange-parts (exchanged T k f load m b)
 
-pub unique-stream : (f : Frame) (load m : List ℕ) (b : ℕ) (r r′ : Exchanged) (l₁ l₂ : List ℕ)
-    → exchange (r .said) (r .frame) l₁ ≡ streamed f load m b → exchange (r′ .said) (r′ .frame) l₂ ≡ streamed f load m b → (r ≡ r′) × (l₁ ≡ l₂)
-unique-stream f load m b = exchange-parts (streamed f load m b)
+pub unique-stream : (T : Setting) (f : Frame) (load m : List ℕ) (b : ℕ) (r r′ : Exchanged) (l₁ l₂ : List ℕ)
+    → exchange (r .said) (r .frame) l₁ ≡ streamed T f load m b → exchange (r′ .said) (r′ .frame) l₂ ≡ streamed T f load m b → (r ≡ r′) × (l₁ ≡ l₂)
+unique-stream T f load m b = exchange-parts (streamed T f load m b)
 
--- `job::ticks`: the core, the working ticks and the memory
-pub unique-ticks : (S n : ℕ) (k : Core) (page m : List ℕ) (k₁ k₂ : Core) (w₁ w₂ : ℕ) (m₁ m₂ : List ℕ)
-    → TicksAnswer S n k page m k₁ w₁ m₁ → TicksAnswer S n k page m k₂ w₂ m₂ → (k₁ ≡ k₂) × (w₁ ≡ w₂) × (m₁ ≡ m₂)
-unique-ticks S n k page m k₁ k₂ w₁ w₂ m₁ m₂ p q = (same (p .core) (q .core), same (p .working) (q .working), same (p .memory) (q .memory))
+-- `job::ticks`: the core, the working ticks, the job's load and the memory
+pub unique-ticks : (S n : ℕ) (k : Core) (held m : List ℕ) (k₁ k₂ : Core) (w₁ w₂ : ℕ) (h₁ h₂ m₁ m₂ : List ℕ)
+    → TicksAnswer S n k held m k₁ w₁ h₁ m₁ → TicksAnswer S n k held m k₂ w₂ h₂ m₂ → (k₁ ≡ k₂) × (w₁ ≡ w₂) × (h₁ ≡ h₂) × (m₁ ≡ m₂)
+unique-ticks S n k held m k₁ k₂ w₁ w₂ h₁ h₂ m₁ m₂ p q = (same (p .core) (q .core), same (p .working) (q .working), same (p .load) (q .load), same (p .memory) (q .memory))
