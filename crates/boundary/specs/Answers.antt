@@ -1,13 +1,14 @@
--- The answers to an event and to a run as plain numbers, with the memory and the output afterwards (01, Events; Refusal numbers).
+-- The answers to an event and to a run as plain numbers, with the memory and the output afterwards (RULES, Events; Refusals).
 use Prim.Native.Nat.{ℕ}
 use mathlib.Core.Bool.{cond}
-use mathlib.Core.List.{List}
+use mathlib.Core.List.{List, _++_}
 use lib.Dec.{eqb}
-use lib.ListN.{length}
+use lib.ListN.{length, take, replicate}
 use Rattle.part.specs.Part.{permitted}
 use Rattle.chip.specs.declared.Chip.{Chip}
 use Rattle.chip.specs.declared.Record.{Record}
-use Rattle.chip.specs.declared.Record.the-variants.{Nothing, Floating, Driven, Verdict}
+use Rattle.chip.specs.declared.Record.the-variants.{Nothing}
+use Rattle.chip.specs.Record.{recordBytes, longestRecord}
 use Rattle.event.specs.declared.Answer.{Answer}
 use Rattle.event.specs.Alone as alone
 use Rattle.script.specs.declared.Ran.{Ran}
@@ -17,21 +18,11 @@ use Rattle.boundary.specs.declared.EventNumbers.{EventNumbers}
 use Rattle.boundary.specs.declared.RunNumbers.{RunNumbers}
 use Rattle.boundary.specs.Numbers.{isState, chipOf, numbersOf}
 
--- the numbers of the records: 0 none, 1 floating, 2 a byte driven, 3 a verdict
-abbrev pub tagOf : Record → ℕ
-tagOf Nothing = 0
-tagOf Floating = 1
-tagOf (Driven b) = 2
-tagOf (Verdict v) = 3
+-- the bytes of a record, with zeros up to the longest
+abbrev pub padded : Record → List ℕ
+padded said = take longestRecord (recordBytes said ++ replicate longestRecord 0)
 
--- the byte driven or the verdict, 0 where there is none
-abbrev pub valueOf : Record → ℕ
-valueOf Nothing = 0
-valueOf Floating = 0
-valueOf (Driven b) = b
-valueOf (Verdict v) = v
-
--- "Refused: state as given", to the last number; otherwise the numbers of the new chip
+-- refused, the numbers are those given, to the last one; otherwise those of the new chip
 unfoldable pub numbersAfter : ChipNumbers → Chip → ℕ → ChipNumbers
 numbersAfter given chip refusal = cond (eqb refusal 0) (numbersOf chip) given
 
@@ -42,11 +33,11 @@ noState n = cond (permitted n) 2 1
 -- ---- one event
 
 abbrev pub refusedEvent : ChipNumbers → ℕ → EventNumbers
-refusedEvent given number = record { chip = given; refusal = number; tag = 0; value = 0; ticks = 0 }
+refusedEvent given number = record { chip = given; refusal = number; size = 0; bytes = padded Nothing; ticks = 0 }
 
 abbrev pub eventNumbers : ChipNumbers → Answer → EventNumbers
 eventNumbers given a =
-    record { chip = numbersAfter given (a .chip) (a .refusal); refusal = a .refusal; tag = tagOf (a .said); value = valueOf (a .said); ticks = a .ticks }
+    record { chip = numbersAfter given (a .chip) (a .refusal); refusal = a .refusal; size = length (recordBytes (a .said)); bytes = padded (a .said); ticks = a .ticks }
 
 -- the whole answer, and the memory afterwards
 unfoldable pub eventOf : ChipNumbers → List ℕ → ℕ → ℕ → EventNumbers

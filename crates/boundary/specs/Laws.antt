@@ -9,6 +9,7 @@ use Rattle.cells.specs.Choice.{cond-yes, cond-no}
 use Rattle.chip.specs.declared.Chip.{Chip}
 use Rattle.chip.specs.declared.JobKind.{JobKind}
 use Rattle.chip.specs.declared.JobKind.the-variants.{Idle, WriteStatus, Program, SmallErase, SectorErase, ChipErase}
+use Rattle.chip.specs.Fields.{withSelected}
 use Rattle.chip.specs.Legal.{legal}
 use Rattle.event.specs.declared.Answer.{Answer}
 use Rattle.event.specs.Alone as alone
@@ -17,7 +18,7 @@ use Rattle.script.specs.Run as script
 use Rattle.boundary.specs.declared.ChipNumbers.{ChipNumbers}
 use Rattle.boundary.specs.declared.EventNumbers.{EventNumbers}
 use Rattle.boundary.specs.declared.RunNumbers.{RunNumbers}
-use Rattle.boundary.specs.Numbers.{kindNumber, kindValue, kindOf, isState, chipOf, numbersOf, legalNumbers}
+use Rattle.boundary.specs.Numbers.{kindNumber, kindValue, kindOf, flagNumber, flagOf, isState, chipOf, numbersOf, legalNumbers}
 use Rattle.boundary.specs.Answers.{noState, refusedEvent, eventNumbers, eventOf, eventMemory, refusedRun, runNumbers, runOf, runMemory, runOutput}
 
 -- ---- a chip comes back from its numbers
@@ -31,32 +32,33 @@ kind-back SmallErase = refl
 kind-back SectorErase = refl
 kind-back ChipErase = refl
 
-abbrev withKind : Chip → JobKind → Chip
-withKind c k =
+flag-back : (b : Bool) → flagOf (flagNumber b) ≡ b
+flag-back true = refl
+flag-back false = refl
+
+pub chip-back : (c : Chip) → chipOf (numbersOf c) ≡ c
+unfolding chipOf numbersOf
+chip-back c = λ i.
     record {
       core =
           record {
             level = c .core .level;
-            tb = c .core .tb;
-            srwp = c .core .srwp;
-            wen = c .core .wen;
-            suspended = c .core .suspended;
-            wp = c .core .wp;
-            deep = c .core .deep;
-            armed = c .core .armed;
-            job = record { kind = k; place = c .core .job .place; done = c .core .job .done };
+            tb = flag-back (c .core .tb) i;
+            srwp = flag-back (c .core .srwp) i;
+            wen = flag-back (c .core .wen) i;
+            suspended = flag-back (c .core .suspended) i;
+            wp = flag-back (c .core .wp) i;
+            deep = flag-back (c .core .deep) i;
+            armed = flag-back (c .core .armed) i;
+            job = record { kind = kind-back (c .core .job .kind) i; start = c .core .job .start; done = c .core .job .done };
           };
-      frame = c .frame;
+      frame = withSelected (flag-back (c .frame .selected) i) (c .frame);
       load = c .load;
-      page = c .page;
+      held = c .held;
     }
 
-pub chip-back : (c : Chip) → chipOf (numbersOf c) ≡ c
-unfolding chipOf numbersOf
-chip-back c = ap (withKind c) (kind-back (c .core .job .kind))
-
 -- and its numbers are a state
-pub kind-small : (k : JobKind) → leb (kindNumber k) 5 ≡ true
+kind-small : (k : JobKind) → leb (kindNumber k) 5 ≡ true
 kind-small Idle = refl
 kind-small (WriteStatus value) = refl
 kind-small Program = refl
@@ -64,9 +66,16 @@ kind-small SmallErase = refl
 kind-small SectorErase = refl
 kind-small ChipErase = refl
 
+flag-small : (b : Bool) → leb (flagNumber b) 1 ≡ true
+flag-small true = refl
+flag-small false = refl
+
 pub numbers-are-state : (c : Chip) → isState (numbersOf c) ≡ true
-unfolding numbersOf
-numbers-are-state c = kind-small (c .core .job .kind)
+unfolding isState numbersOf
+numbers-are-state c =
+    rw
+    (flag-small (c .core .tb), flag-small (c .core .srwp), flag-small (c .core .wen), flag-small (c .core .suspended), flag-small (c .core .wp), flag-small (c .core .deep), flag-small (c .core .armed), flag-small (c .frame .selected))
+    (kind-small (c .core .job .kind))
 
 -- ---- legality; h is the chip that the numbers mean
 

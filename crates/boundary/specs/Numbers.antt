@@ -1,4 +1,4 @@
--- A chip as plain numbers, and which numbers are a legal state.
+-- A chip as plain numbers, and which numbers are a legal state (RULES, Legal states).
 use Prim.Native.Nat.{ℕ}
 use mathlib.Core.Bool.{Bool, cond, _&&_}
 use lib.Dec.{eqb, leb}
@@ -35,9 +35,18 @@ kindOf kind value =
     (cond (eqb kind 4) SectorErase
     (cond (eqb kind 5) ChipErase Idle))))
 
--- whether numbers are a state at all: over 5 no kind has a number
-abbrev pub isState : ChipNumbers → Bool
-isState c = leb (c .kind) 5
+-- a flag is a byte, 1 for true and 0 for false
+abbrev pub flagNumber : Bool → ℕ
+flagNumber b = cond b 1 0
+
+abbrev pub flagOf : ℕ → Bool
+flagOf v = eqb v 1
+
+-- whether numbers are a state at all: no flag over 1, and over 5 no kind has a number
+unfoldable pub isState : ChipNumbers → Bool
+isState c =
+    leb (c .tb) 1 && leb (c .srwp) 1 && leb (c .wen) 1 && leb (c .suspended) 1 && leb (c .wp) 1 && leb (c .deep) 1 && leb (c .armed) 1 && leb (c .selected) 1
+    && leb (c .kind) 5
 
 -- the chip that numbers mean
 unfoldable pub chipOf : ChipNumbers → Chip
@@ -46,54 +55,54 @@ chipOf c =
       core =
           record {
             level = c .level;
-            tb = c .tb;
-            srwp = c .srwp;
-            wen = c .wen;
-            suspended = c .suspended;
-            wp = c .wp;
-            deep = c .deep;
-            armed = c .armed;
-            job = record { kind = kindOf (c .kind) (c .value); place = c .start; done = c .done };
+            tb = flagOf (c .tb);
+            srwp = flagOf (c .srwp);
+            wen = flagOf (c .wen);
+            suspended = flagOf (c .suspended);
+            wp = flagOf (c .wp);
+            deep = flagOf (c .deep);
+            armed = flagOf (c .armed);
+            job = record { kind = kindOf (c .kind) (c .value); start = c .start; done = c .done };
           };
       frame =
           record {
-            selected = c .selected;
+            selected = flagOf (c .selected);
             opcode = c .opcode;
             address = c .address;
             place = c .place;
-            offset = c .offset;
+            slot = c .slot;
             count = c .count;
             judgement = c .judgement;
           };
       load = c .load;
-      page = c .page;
+      held = c .held;
     }
 
 -- the numbers of a chip
 unfoldable pub numbersOf : Chip → ChipNumbers
 numbersOf c =
     record {
-      tb = c .core .tb;
-      srwp = c .core .srwp;
-      wen = c .core .wen;
-      suspended = c .core .suspended;
-      wp = c .core .wp;
-      deep = c .core .deep;
-      armed = c .core .armed;
-      selected = c .frame .selected;
+      tb = flagNumber (c .core .tb);
+      srwp = flagNumber (c .core .srwp);
+      wen = flagNumber (c .core .wen);
+      suspended = flagNumber (c .core .suspended);
+      wp = flagNumber (c .core .wp);
+      deep = flagNumber (c .core .deep);
+      armed = flagNumber (c .core .armed);
+      selected = flagNumber (c .frame .selected);
       level = c .core .level;
       kind = kindNumber (c .core .job .kind);
       value = kindValue (c .core .job .kind);
       opcode = c .frame .opcode;
-      offset = c .frame .offset;
+      slot = c .frame .slot;
       count = c .frame .count;
       judgement = c .frame .judgement;
-      start = c .core .job .place;
+      start = c .core .job .start;
       done = c .core .job .done;
       address = c .frame .address;
       place = c .frame .place;
       load = c .load;
-      page = c .page;
+      held = c .held;
     }
 
 -- whether numbers are a legal state for a memory of n cells

@@ -1,4 +1,4 @@
--- "Refused: state as given, memory and output untouched": an answer that refuses has exactly the numbers that were given, the free ones too.
+-- A refusal touches nothing (RULES, Refusals): an answer that refuses has exactly the numbers that were given, the free ones too.
 use Prim.Native.Nat.{ℕ}
 use mathlib.Core.Bool.{Bool, true, cond}
 use mathlib.Core.List.{List}
@@ -25,19 +25,6 @@ after-refusal : (given : ChipNumbers) (chip : Chip) (refusal : ℕ) → (refusal
 unfolding numbersAfter
 after-refusal given chip refusal h = cond-no _ _ _ (ne-eqb _ _ h)
 
--- the number in an answer is the refusal's
-answer-number : (c : Chip) (m : List ℕ) (kind body : ℕ) → alone.answerOf c m kind body .refusal ≡ alone.refusal c (length m) kind body
-unfolding alone.answerOf
-answer-number c m kind body =
-    cond-either (λ (a : Answer). a .refusal ≡ alone.refusal c (length m) kind body) (eqb (alone.refusal c (length m) kind body) 0) _ _
-    (λ e. sym (eqb-true _ _ e)) (λ _. refl)
-
-run-number : (c : Chip) (m s out : List ℕ) → script.answerOf c m s out .refusal ≡ script.refusal c (length m) s (length out) .number
-unfolding script.answerOf
-run-number c m s out =
-    cond-either (λ (a : Ran). a .refusal ≡ script.refusal c (length m) s (length out) .number) (eqb (script.refusal c (length m) s (length out) .number) 0) _ _
-    (λ e. sym (eqb-true _ _ e)) (λ _. refl)
-
 -- ---- one event
 
 module _ (c : ChipNumbers) (m : List ℕ) (kind body : ℕ) (no : eventOf c m kind body .refusal ≡ 0 → ⊥) where
@@ -48,7 +35,7 @@ module _ (c : ChipNumbers) (m : List ℕ) (kind body : ℕ) (no : eventOf c m ki
 
   event-refused-inside : isState c ≡ true → alone.refusal (chipOf c) (length m) kind body ≡ 0 → ⊥
   event-refused-inside is e =
-      no (ap (λ (r : EventNumbers). r .refusal) (sym (event-state c m kind body (chipOf c) _ _ is refl refl refl)) ∙ answer-number (chipOf c) m kind body ∙ e)
+      no (ap (λ (r : EventNumbers). r .refusal) (sym (event-state c m kind body (chipOf c) _ _ is refl refl refl)) ∙ alone-laws.answer-number (chipOf c) m kind body ∙ e)
 
   pub event-memory-as-given : eventMemory c m kind body ≡ m
   unfolding eventMemory
@@ -65,7 +52,7 @@ module _ (c : ChipNumbers) (m s out : List ℕ) (no : runOf c m s out .refusal �
 
   run-refused-inside : isState c ≡ true → script.refusal (chipOf c) (length m) s (length out) .number ≡ 0 → ⊥
   run-refused-inside is e =
-      no (ap (λ (r : RunNumbers). r .refusal) (sym (run-state c m s out (chipOf c) _ _ is refl refl refl)) ∙ run-number (chipOf c) m s out ∙ e)
+      no (ap (λ (r : RunNumbers). r .refusal) (sym (run-state c m s out (chipOf c) _ _ is refl refl refl)) ∙ script-laws.answer-number (chipOf c) m s out ∙ e)
 
   pub run-memory-as-given : runMemory c m s out ≡ m
   unfolding runMemory

@@ -1,4 +1,4 @@
--- Unique answers (01, What every contract has to settle): any two answers, memories and outputs at exit that a contract of this crate allows are equal.
+-- Unique answers: any two answers, memories and outputs at exit that a contract of this crate allows are equal.
 use Prim.Native.Nat.{ℕ}
 use mathlib.Core.Bool.{Bool}
 use mathlib.Core.List.{List}

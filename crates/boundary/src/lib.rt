@@ -1,9 +1,13 @@
 // The library for C and Rust: a chip and its answers as plain numbers.
+//
+// What a caller must not do: the memory, the script and the output of one call must not overlap, not
+// even in a byte; a slice's pointer must not be null, also where its length is 0; it must point to
+// that many bytes, which nobody else writes during the call. Nothing here can check that, and nothing
+// is promised where it does not hold. Any number may stand in any field: what is no state is refused by 2.
 ghost use mathlib.Core.Path.{_≡_};
-ghost use lib.ListN.{length};
 ghost use Rattle.chip.specs.Chip.{fresh};
-ghost use Rattle.boundary.specs.Numbers.{kindOf, kindNumber, kindValue, chipOf, numbersOf, legalNumbers};
-ghost use Rattle.boundary.specs.Answers.{tagOf, valueOf, numbersAfter, noState, refusedEvent, eventNumbers, eventOf, eventMemory, refusedRun, runNumbers, runOf, runMemory, runOutput};
+ghost use Rattle.boundary.specs.Numbers.{kindOf, kindNumber, kindValue, flagNumber, isState, chipOf, numbersOf, legalNumbers};
+ghost use Rattle.boundary.specs.Answers.{padded, numbersAfter, noState, refusedEvent, eventNumbers, eventOf, eventMemory, refusedRun, runNumbers, runOf, runMemory, runOutput};
 use chip::Chip;
 use chip::Core;
 use chip::Frame;
@@ -13,23 +17,23 @@ use chip::Record;
 use event::Answer;
 use script::Ran;
 
-// A chip: `kind`, `value`, `start` and `done` are its job, `place` is the read place and `offset` the load place of its frame.
-// Kinds: 0 no job, 1 write status of `value`, 2 program, 3 small sector erase, 4 sector erase, 5 chip erase.
+// A chip: `kind`, `value`, `start` and `done` are its job, `place` is the read place and `slot` the load place of its frame.
+// The first eight are flags: 1 for true, 0 for false. Kinds: 0 no job, 1 write status of `value`, 2 program, 3 small sector erase, 4 sector erase, 5 chip erase.
 #[repr(C)]
 pub struct ChipNumbers {
-    pub tb: bool,
-    pub srwp: bool,
-    pub wen: bool,
-    pub suspended: bool,
-    pub wp: bool,
-    pub deep: bool,
-    pub armed: bool,
-    pub selected: bool,
+    pub tb: u8,
+    pub srwp: u8,
+    pub wen: u8,
+    pub suspended: u8,
+    pub wp: u8,
+    pub deep: u8,
+    pub armed: u8,
+    pub selected: u8,
     pub level: u8,
     pub kind: u8,
     pub value: u8,
     pub opcode: u8,
-    pub offset: u8,
+    pub slot: u8,
     pub count: u8,
     pub judgement: u8,
     pub start: u32,
@@ -37,16 +41,16 @@ pub struct ChipNumbers {
     pub address: u32,
     pub place: usize,
     pub load: [u8; 256],
-    pub page: [u8; 256],
+    pub held: [u8; 256],
 }
 
-// The answer to one event. Tags: 0 nothing, 1 floating, 2 `value` driven, 3 the verdict `value`.
+// The answer to one event: the first `size` of `bytes` are its record, as a run writes it; the others are 0.
 #[repr(C)]
 pub struct EventNumbers {
     pub chip: ChipNumbers,
     pub refusal: u8,
-    pub tag: u8,
-    pub value: u8,
+    pub size: u8,
+    pub bytes: [u8; chip::LONGEST_RECORD],
     pub ticks: u32,
 }
 
@@ -60,7 +64,7 @@ pub struct RunNumbers {
     pub ticks: u64,
 }
 
-// The kind of job that a number means; a number over 5 is no kind, and is read as no job.
+// The kind of job that a number means; a number over 5 is none, and is read as no job.
 fn kind_of(kind: u8, value: u8) -> JobKind
     ensures { λ r. ⌜ r ≡ kindOf kind value ⌝ }
 {
@@ -102,40 +106,64 @@ fn kind_value(kind: JobKind) -> u8
     }
 }
 
+fn flag_number(set: bool) -> u8
+    ensures { λ r. ⌜ r ≡ flagNumber set ⌝ }
+{
+    if set {
+        return 1;
+    }
+    0
+}
+
+// Whether numbers are a state at all.
+fn is_state(c: ChipNumbers) -> bool
+    ensures { λ r. ⌜ r ≡ isState c ⌝ }
+{
+    (c.tb <= 1)
+        & (c.srwp <= 1)
+        & (c.wen <= 1)
+        & (c.suspended <= 1)
+        & (c.wp <= 1)
+        & (c.deep <= 1)
+        & (c.armed <= 1)
+        & (c.selected <= 1)
+        & (c.kind <= 5)
+}
+
 // The chip that numbers mean.
 fn chip_of(c: ChipNumbers) -> Chip
     ensures { λ r. ⌜ r ≡ chipOf c ⌝ }
 {
     let kind = kind_of(c.kind, c.value);
     let load = c.load;
-    let page = c.page;
+    let held = c.held;
     Chip {
         core: Core {
             level: c.level,
-            tb: c.tb,
-            srwp: c.srwp,
-            wen: c.wen,
-            suspended: c.suspended,
-            wp: c.wp,
-            deep: c.deep,
-            armed: c.armed,
+            tb: c.tb == 1,
+            srwp: c.srwp == 1,
+            wen: c.wen == 1,
+            suspended: c.suspended == 1,
+            wp: c.wp == 1,
+            deep: c.deep == 1,
+            armed: c.armed == 1,
             job: Job {
                 kind: kind,
-                place: c.start,
+                start: c.start,
                 done: c.done,
             },
         },
         frame: Frame {
-            selected: c.selected,
+            selected: c.selected == 1,
             opcode: c.opcode,
             address: c.address,
             place: c.place,
-            offset: c.offset,
+            slot: c.slot,
             count: c.count,
             judgement: c.judgement,
         },
         load: load,
-        page: page,
+        held: held,
     }
 }
 
@@ -148,29 +176,29 @@ fn numbers_of(chip: Chip) -> ChipNumbers
     let kind = job.kind;
     let frame = chip.frame;
     let load = chip.load;
-    let page = chip.page;
+    let held = chip.held;
     ChipNumbers {
-        tb: core.tb,
-        srwp: core.srwp,
-        wen: core.wen,
-        suspended: core.suspended,
-        wp: core.wp,
-        deep: core.deep,
-        armed: core.armed,
-        selected: frame.selected,
+        tb: flag_number(core.tb),
+        srwp: flag_number(core.srwp),
+        wen: flag_number(core.wen),
+        suspended: flag_number(core.suspended),
+        wp: flag_number(core.wp),
+        deep: flag_number(core.deep),
+        armed: flag_number(core.armed),
+        selected: flag_number(frame.selected),
         level: core.level,
         kind: kind_number(kind),
         value: kind_value(kind),
         opcode: frame.opcode,
-        offset: frame.offset,
+        slot: frame.slot,
         count: frame.count,
         judgement: frame.judgement,
-        start: job.place,
+        start: job.start,
         done: job.done,
         address: frame.address,
         place: frame.place,
         load: load,
-        page: page,
+        held: held,
     }
 }
 
@@ -194,25 +222,15 @@ fn no_state(n: usize) -> u8
     2
 }
 
-fn tag_of(said: Record) -> u8
-    ensures { λ r. ⌜ r ≡ tagOf said ⌝ }
+// A record's bytes, with zeros behind them.
+fn bytes_of(said: Record) -> [u8; chip::LONGEST_RECORD]
+    ensures { λ r. ⌜ r ≡ padded said ⌝ }
 {
     match said {
-        Record::Nothing => 0,
-        Record::Floating => 1,
-        Record::Driven(_) => 2,
-        Record::Verdict(_) => 3,
-    }
-}
-
-fn value_of(said: Record) -> u8
-    ensures { λ r. ⌜ r ≡ valueOf said ⌝ }
-{
-    match said {
-        Record::Nothing => 0,
-        Record::Floating => 0,
-        Record::Driven(b) => b,
-        Record::Verdict(v) => v,
+        Record::Nothing => [0, 0],
+        Record::Floating => [0x80, 0],
+        Record::Driven(b) => [0x81, b],
+        Record::Verdict(v) => [0x82, v],
     }
 }
 
@@ -222,8 +240,8 @@ fn refuse_event(given: ChipNumbers, number: u8) -> EventNumbers
     EventNumbers {
         chip: given,
         refusal: number,
-        tag: 0,
-        value: 0,
+        size: 0,
+        bytes: [0, 0],
         ticks: 0,
     }
 }
@@ -237,8 +255,8 @@ fn event_numbers(given: ChipNumbers, a: Answer) -> EventNumbers
     EventNumbers {
         chip: numbers_after(given, chip, number),
         refusal: number,
-        tag: tag_of(said),
-        value: value_of(said),
+        size: chip::record_length(said) as u8,
+        bytes: bytes_of(said),
         ticks: a.ticks,
     }
 }
@@ -281,7 +299,7 @@ pub extern "C" fn chip_fresh(status: u8) -> ChipNumbers
 pub extern "C" fn chip_legal(c: ChipNumbers, n: usize) -> bool
     ensures { λ r. ⌜ r ≡ legalNumbers c n ⌝ }
 {
-    if 5 < c.kind {
+    if !is_state(c) {
         return false;
     }
     chip::is_legal(chip_of(c), n)
@@ -292,7 +310,7 @@ pub extern "C" fn chip_legal(c: ChipNumbers, n: usize) -> bool
 pub extern "C" fn chip_event(c: ChipNumbers, mem: &mut [u8], kind: u64, body: u64) -> EventNumbers
     ensures { λ r. ⌜ (r ≡ eventOf c (now (mem .entry)) kind body) × (now (mem .exit) ≡ eventMemory c (now (mem .entry)) kind body) ⌝ }
 {
-    if 5 < c.kind {
+    if !is_state(c) {
         return refuse_event(c, no_state(mem.len()));
     }
     event_numbers(c, event::event(chip_of(c), mem, kind, body))
@@ -308,7 +326,7 @@ pub extern "C" fn chip_event_lent(
 ) -> EventNumbers
     ensures { λ r. ⌜ (r ≡ eventOf c (now (mem .entry)) kind body) × (now (mem .exit) ≡ eventMemory c (now (mem .entry)) kind body) ⌝ }
 {
-    if 5 < c.kind {
+    if !is_state(c) {
         return refuse_event(c, no_state(mem.len()));
     }
     event_numbers(c, lent::event_by_lending(chip_of(c), mem, kind, body))
@@ -326,7 +344,7 @@ pub extern "C" fn chip_run(
         × (now (mem .exit) ≡ runMemory c (now (mem .entry)) (now (script .entry)) (now (out .entry)))
         × (now (out .exit) ≡ runOutput c (now (mem .entry)) (now (script .entry)) (now (out .entry))) ⌝ }
 {
-    if 5 < c.kind {
+    if !is_state(c) {
         return refuse_run(c, no_state(mem.len()));
     }
     run_numbers(c, script::run(chip_of(c), mem, script, out))

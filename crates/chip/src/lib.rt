@@ -58,6 +58,9 @@ pub struct Chip {
     pub held: [u8; 256],
 }
 
+// The most bytes that a record has.
+pub const LONGEST_RECORD: usize = 2;
+
 // What an event says: nothing, the line left floating, the byte driven, or the verdict.
 pub enum Record {
     Nothing,

@@ -1,5 +1,5 @@
--- Demand 1. Every event, script, memory length and chip state gets an answer, exactly one; a bad one is refused by a number of 01's table, with chip state,
--- memory and output as they were.
+-- Demand 1. Whatever comes in is answered, and in one way only: events, scripts, memories of any length, chips in any state. What is wrong is turned away by its
+-- number (RULES, Refusals), and nothing that was lent has changed.
 use Prim.Native.Nat.{ℕ, zero, suc, _<_, _≤_, zero-le}
 use mathlib.Core.Bool.{Bool, true, false, cond, not, _||_, true≢false, false≢true}
 use mathlib.Core.List.{List, [], _∷_, _++_}
@@ -27,7 +27,7 @@ use Rattle.script.specs.Laws as ScriptLaws
 
 -- ---- one event alone
 
--- Which number refuses an event: 1, 2, 5, 6 or 0, each when, and only then, 01's table says so, in 01's order.
+-- Which number refuses an event: 1, 2, 5, 6 or 0, each exactly when the table of refusals has it, in that table's order.
 pub record RefusedWhen (number : ℕ) (length-permitted state-legal kind-known body-in-range : Bool) : Type 0 where
   pub one : number ≡ 1 ↔ length-permitted ≡ false
   pub two : number ≡ 2 ↔ (length-permitted ≡ true) × (state-legal ≡ false)
@@ -88,7 +88,7 @@ event-refused-keeps c m kind body no-done = (EventLaws.answer-refused c m kind b
 
 -- ---- a script run
 
--- Which number refuses a run: 1, 2, 3, the first bad event's, 7, or none, in 01's order.
+-- Which number refuses a run: 1, 2, 3, the first bad event's, 7, or none, in that order (RULES, Refusals).
 pub record RunRefusedWhen (r bad : Refusal) (length-permitted state-legal too-long clean too-little-room : Bool) : Type 0 where
   pub one : length-permitted ≡ false → r ≡ refusalOf 1 0
   pub two : length-permitted ≡ true → state-legal ≡ false → r ≡ refusalOf 2 0
@@ -179,7 +179,7 @@ bad-known s (suc fuel) at =
     cond-either (λ (es : List Event). faultKnown (firstBad es .number) ≡ true) (leb (length s) at) [] (eventAt s at ∷ walk fuel s (nextAt s at)) (λ _. refl)
     (λ _. cond-either (λ (r : Refusal). faultKnown (r .number) ≡ true) (eqb (faultAt s at) 0) (firstBad (walk fuel s (nextAt s at))) (refusalOf (faultAt s at) at) (λ _. bad-known s fuel (nextAt s at)) (λ _. fault-known s at))
 
--- A run is refused by 1, 2, 3 or 7 only when 01's table says so, and by 4, 5 or 6 only when the script has a bad event and nothing before it refuses.
+-- A run is refused by 1, 2, 3 or 7 only when the table of refusals has it, and by 4, 5 or 6 only when the script has a bad event and nothing before it refuses.
 pub record RunOnlyWhen (number : ℕ) (length-permitted state-legal too-long clean too-little-room : Bool) : Type 0 where
   pub one : number ≡ 1 → length-permitted ≡ false
   pub two : number ≡ 2 → (length-permitted ≡ true) × (state-legal ≡ false)

@@ -1,5 +1,5 @@
--- Demand 2. Each event does what the datasheet says, as 01 condenses it. The engine equals the definitions by its contracts (`event::event`, `script::run`);
--- here stands what a datasheet reader looks for in them.
+-- Demand 2. Each event does what the part does, as the rule book has it. The engine equals the definitions by its contracts (`event::event`, `script::run`);
+-- here stands what a reader of the datasheet looks for in them.
 use Prim.Native.Nat.{ℕ, zero, suc, _+_, _*_, _-_, _/_, _%_, _<_, _≤_}
 use mathlib.Core.Bool.{Bool, true, false, cond, not, _&&_, _||_, false≢true}
 use mathlib.Core.List.{List, [], _∷_}
@@ -27,7 +27,7 @@ use Rattle.frame.specs.Frame.{judge, counted, nextPlace, counting, reading, loa
 use Rattle.frame.specs.Laws.{taken-cell, taken-data, taken-jedec, taken-device}
 use Rattle.verdict.specs.Verdict.{jobOf, jobAsked, targetProtected, pointless, jobVerdict, commandVerdict, listed, verdict}
 
--- ---- verdicts: "The first that applies"
+-- ---- verdicts: the list from its top down (RULES, Verdicts)
 
 -- a list of tests with their numbers, and the number of the first that holds
 pub record Test : Type 0 where
@@ -41,9 +41,9 @@ abbrev pub firstOf : List Test → ℕ → ℕ
 firstOf [] otherwise = otherwise
 firstOf (t ∷ ts) otherwise = cond (t .applies) (t .number) (firstOf ts otherwise)
 
--- 01's list, in 01's words and order, for a frame with judgement none; what none of it takes is 1, done at once
-abbrev pub paperList : ℕ → Core → Frame → Bool → List Test
-paperList S k f loose =
+-- the list of the rule book, in its order, for a frame with judgement none; what none of it takes is 1, done at once
+abbrev pub rulesList : ℕ → Core → Frame → Bool → List Test
+rulesList S k f loose =
     test 0 (eqb (f .count) 0)
     ∷ test 3 (not (rowOf (f .opcode) .known))
     ∷ test 5 (k .deep && not (eqb (f .opcode) wake))
@@ -60,7 +60,7 @@ paperList S k f loose =
     ∷ []
 
 -- The verdict is the first of that list that applies.
-pub verdict-first : (S : ℕ) (k : Core) (f : Frame) (loose : Bool) → f .judgement ≡ 0 → verdict S k f loose ≡ firstOf (paperList S k f loose) 1
+pub verdict-first : (S : ℕ) (k : Core) (f : Frame) (loose : Bool) → f .judgement ≡ 0 → verdict S k f loose ≡ firstOf (rulesList S k f loose) 1
 unfolding verdict listed commandVerdict jobVerdict judge
 verdict-first S k f loose h =
     ap (λ (v : ℕ). cond (eqb (f .count) 0) 0 (cond (not (eqb v 0)) v (listed S k f loose))) h
@@ -85,7 +85,7 @@ verdict-first S k f loose h =
     go false true false false false i b p true t w u q = refl
     go false true false false false i b p false t w u q = refl
 
--- "a frame so judged floats to its end and that verdict stands"; an empty frame is 0.
+-- The judgement of a frame with a byte is its verdict.
 pub verdict-judged : (S : ℕ) (k : Core) (f : Frame) (loose : Bool) → (f .count ≡ 0 → ⊥) → (f .judgement ≡ 0 → ⊥) → verdict S k f loose ≡ f .judgement
 unfolding verdict
 verdict-judged S k f loose c j = cond-no (eqb (f .count) 0) _ _ (ne-eqb _ _ c) ∙ cond-yes (not (eqb (f .judgement) 0)) _ _ (ap not (ne-eqb _ _ j))
@@ -121,7 +121,7 @@ status-bits k h =
     weight true w = (sym (mul-one w), omega arith)
     weight false w = (sym (mul-zero w), omega arith)
 
--- ---- reads: "Reads go up by one; after the last address comes 0", over any number of bytes
+-- ---- reads: up by one, and round at the top, over any number of bytes (RULES, Commands)
 
 -- the frame after j data bytes of a read of cells, in a memory of n cells
 unfoldable pub readOn : ℕ → ℕ → Frame → Frame
@@ -186,7 +186,7 @@ reads-go-on n (suc j) f h = next (readOn n j f) (reads-go-on n j f h)
         join (eqb (g .opcode) lowPowerRead) (eqb (g .opcode) highSpeedRead) (leb 4 (g .count)) (leb 5 (g .count)) (leb 4 (counted (g .count))) (leb 5 (counted (g .count)))
         (up (g .count) 4 (omega arith)) (up (g .count) 5 (omega arith)) e
 
--- ---- the load: "Data byte j, from 0, goes to offset (address + j) mod 256, later bytes over earlier"
+-- ---- the load: each data byte at its own offset in the page, over what stood there (RULES, Commands)
 
 -- a load after these data bytes, the first of them at offset o
 unfoldable pub loadAfter : List ℕ → ℕ → List ℕ → List ℕ
@@ -251,7 +251,7 @@ load-after-data T k m (b ∷ bs) f load h =
     let one : taken T k f load m b ≡ exchange Floating (loading f) (set load (f .slot) b) = taken-data T k f load m b (data-no-cell f h) h in
     ap (λ (e : Exchange). fed T k m bs (e .frame) (e .load) .load) one ∙ load-after-data T k m bs (loading f) (set load (f .slot) b) (data-goes-on f h)
 
--- ---- identities: "9Fh .. from byte 2, repeating in that cycle ..; ABh 88h from byte 5 on"
+-- ---- identities, at any byte (RULES, Commands)
 
 -- The j-th byte from byte 2 of a 9Fh frame that began at place 0 of the cycle.
 pub jedec-goes-round : (T : Setting) (k : Core) (f : Frame) (load m : List ℕ) (b j : ℕ) → f .place < 4 → f .opcode ≡ jedecId

@@ -1,5 +1,5 @@
--- Demand 3. A job cut by suspends, resumes and reads ends with exactly its whole image on the memory it began with and nothing else changed; before that
--- exactly its first k steps are done, k being the ticks that found it running; a reset or power cut leaves just those k.
+-- Demand 3. However a job is cut up by suspends, resumes and reads, the memory that it ends with is the one that it found, changed by its whole image and by nothing
+-- else. Before that the steps done are the first k, one for each tick that found it running, and those k are what a reset or a power cut leaves (RULES, Jobs).
 use Prim.Native.Nat.{ℕ, zero, suc, _+_, _*_, _<_, _≤_}
 use mathlib.Core.Bool.{Bool, true, false}
 use mathlib.Core.List.{List, [], _∷_, _++_}

@@ -1,4 +1,4 @@
--- "Refused: state as given, memory .. untouched": what the contract of `event_on` says of the lent chip and of memory at exit comes to what was lent.
+-- A refusal touches nothing (RULES, Refusals): what the contract of `event_on` says of the lent chip and of memory at exit comes to what was lent.
 use Prim.Native.Nat.{ℕ}
 use mathlib.Core.List.{List}
 use mathlib.Core.Path.{_≡_, ap, _∙_}

@@ -1,4 +1,4 @@
--- Unique answers (01, What every contract has to settle): any two answers, chips at exit and memories at exit that a contract of this crate allows are equal.
+-- Unique answers: any two answers, chips at exit and memories at exit that a contract of this crate allows are equal.
 use Prim.Native.Nat.{ℕ}
 use mathlib.Core.List.{List}
 use mathlib.Core.Path.{_≡_, sym, _∙_}

@@ -49,7 +49,7 @@ fn same_core(a: Core, b: Core) -> bool {
         & (a.deep == b.deep)
         & (a.armed == b.armed)
         & (kind_number(kind) == kind_number(twin_kind))
-        & (job.place == twin.place)
+        & (job.start == twin.start)
         & (job.done == twin.done)
 }
 
@@ -58,7 +58,7 @@ fn same_frame(a: Frame, b: Frame) -> bool {
         & (a.opcode == b.opcode)
         & (a.address == b.address)
         & (a.place == b.place)
-        & (a.offset == b.offset)
+        & (a.slot == b.slot)
         & (a.count == b.count)
         & (a.judgement == b.judgement)
 }
@@ -69,13 +69,13 @@ fn same_load(a: [u8; 256], b: [u8; 256]) -> bool {
 
 fn same_chip(a: Chip, b: Chip) -> bool {
     let load = a.load;
-    let page = a.page;
+    let held = a.held;
     let twin_load = b.load;
-    let twin_page = b.page;
+    let twin_held = b.held;
     same_core(a.core, b.core)
         & same_frame(a.frame, b.frame)
         & same_load(load, twin_load)
-        & same_load(page, twin_page)
+        & same_load(held, twin_held)
 }
 
 fn same_answer(a: Answer, b: Answer) -> bool {
@@ -133,7 +133,7 @@ fn report(pair: Pair, memories: bool) {
 fn main() {
     let mut mem = [90u8; 65536];
     let mut twin = [90u8; 65536];
-    let page = [90u8; 256];
+    let old = [90u8; 256];
     let blank = [255u8; 4096];
     let chip = Chip::fresh(0);
     let fresh = Pair {
@@ -160,7 +160,7 @@ fn main() {
         b"\x05\x0f\x01\x00\x02\x05\x02\x00",
     );
     io::write_all(1, b"15 ticks: last 256 bytes ");
-    say(check::same(&mem[7936..8192], &page), b"old, ");
+    say(check::same(&mem[7936..8192], &old), b"old, ");
     report(fifteen, check::same(&mem, &twin));
 
     // The end of that frame, one tick more, and another read.

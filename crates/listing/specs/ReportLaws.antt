@@ -1,46 +1,34 @@
 -- What is true of what the program prints: each way that it goes, with the lines read from the run's output.
-use Prim.Native.Nat.{ℕ, zero, suc, _<_, _≤_}
+use Prim.Native.Nat.{ℕ, _*_, _<_, _≤_}
 use mathlib.Core.List.{List, [], _++_}
-use mathlib.Core.Path.{_≡_, refl, sym, ap, _∙_}
+use mathlib.Core.Path.{_≡_, sym, ap, _∙_}
 use native.Mathlib.Omega.{arith}
 use lib.ListN.{length, drop, replicate}
 use borrow.Author.Tests.{eq-eqb, ne-eqb, lt-ltb, le-ltb}
 use Rattle.cells.specs.Choice.{cond-yes, cond-no}
-use Rattle.part.specs.Part.{sector, sectors}
+use Rattle.part.specs.Part.{sector, settingOf}
 use Rattle.chip.specs.declared.Chip.{Chip}
 use Rattle.chip.specs.Chip.{fresh}
 use Rattle.script.specs.declared.Ran.{Ran}
 use Rattle.script.specs.Script.{events}
 use Rattle.script.specs.Run.{world, refusal, outcome, answerOf, outputOf}
-use Rattle.script.specs.Laws.{accepted, answer-refused, output-done}
+use Rattle.script.specs.Laws.{accepted, answer-number, output-done}
 use Rattle.listing.specs.Text.{partLine, doneLine, refusedLine, tooLong}
 use Rattle.listing.specs.Output.{readLines}
-use Rattle.listing.specs.OutputLaws.{runs-added, read-lines}
-use Rattle.listing.specs.Report.{linesOf, answerText, runText, reportOf}
+use Rattle.listing.specs.OutputLaws.{known-events, read-lines}
+use Rattle.listing.specs.Report.{linesOf, answerText, runText, longestScript, reportOf}
 
 -- ---- the lines of a run
--- done: no refusal
-pub answer-number : (c : Chip) (m s out : List ℕ) → answerOf c m s out .refusal ≡ 0 → refusal c (length m) s (length out) .number ≡ 0
-answer-number c m s out h = go (decided (refusal c (length m) s (length out) .number))
-  where
-    decided : (n : ℕ) → Dec (n ≡ 0)
-    decided zero = yes refl
-    decided (suc n) = no (λ p. omega arith)
-
-    go : Dec (refusal c (length m) s (length out) .number ≡ 0) → refusal c (length m) s (length out) .number ≡ 0
-    go (yes p) = p
-    go (no p) = sym (ap (λ (r : Ran). r .refusal) (answer-refused c m s out p)) ∙ h
 
 -- the lines that are read from the output of a run that is done are those of its events as they happened
 pub read-run : (c : Chip) (m s out : List ℕ) → answerOf c m s out .refusal ≡ 0
-    → readLines (events s) (outputOf c m s out) 0 ≡ linesOf (sectors (length m)) (events s) (world c m [] 0)
+    → readLines (events s) (outputOf c m s out) 0 ≡ linesOf (settingOf (length m)) (events s) (world c m [] 0)
 unfolding outcome
 read-run c m s out h =
-    let ok : refusal c (length m) s (length out) .number ≡ 0 = answer-number c m s out h in
-    let S : ℕ = sectors (length m) in
-    let tail : List ℕ = drop (length (outcome c m s .written)) out in
-    ap (λ (o : List ℕ). readLines (events s) o 0) (output-done c m s out ok ∙ ap (λ (o : List ℕ). o ++ tail) (runs-added S (events s) (world c m [] 0)))
-    ∙ read-lines S s tail (length s) 0 (world c m [] 0) (omega arith) (accepted c (length m) s (length out) ok .script-playable .clean)
+    let ok : refusal c (length m) s (length out) .number ≡ 0 = sym (answer-number c m s out) ∙ h in
+    ap (λ (o : List ℕ). readLines (events s) o 0) (output-done c m s out ok)
+    ∙ read-lines (settingOf (length m)) (drop (length (outcome c m s .written)) out) (events s) (world c m [] 0)
+    (known-events s (length s) 0 (omega arith) (accepted c (length m) s (length out) ok .script-playable .clean))
 
 -- ---- the text of a run, from its answer and its output
 
@@ -52,7 +40,7 @@ module _ (c : Chip) (m s out : List ℕ) (r : Ran) (is : r ≡ answerOf c m s ou
   pub text-done : r .refusal ≡ 0 → (out′ : List ℕ) → out′ ≡ outputOf c m s out → runText c m s out ≡ partLine (length m) ++ (readLines (events s) out′ 0 ++ doneLine (r .ticks))
   unfolding runText answerText
   text-done ok out′ e =
-      let lines : readLines (events s) out′ 0 ≡ linesOf (sectors (length m)) (events s) (world c m [] 0) =
+      let lines : readLines (events s) out′ 0 ≡ linesOf (settingOf (length m)) (events s) (world c m [] 0) =
       ap (λ (o : List ℕ). readLines (events s) o 0) e ∙ read-run c m s out (ap (λ (a : Ran). a .refusal) (sym is) ∙ ok) in
       ap (λ (a : Ran). partLine (length m) ++ answerText c m s a) (sym is)
       ∙ ap (λ (t : List ℕ). partLine (length m) ++ t) (cond-yes _ _ _ (eq-eqb _ _ ok))
@@ -60,10 +48,10 @@ module _ (c : Chip) (m s out : List ℕ) (r : Ran) (is : r ≡ answerOf c m s ou
 
 -- ---- what the program prints
 
-pub report-long : (s : List ℕ) → 4096 < length s → reportOf s ≡ tooLong
+pub report-long : (s : List ℕ) → longestScript < length s → reportOf s ≡ tooLong
 unfolding reportOf
 report-long s h = cond-yes _ _ _ (lt-ltb _ _ h)
 
-pub report-run : (s : List ℕ) → length s ≤ 4096 → reportOf s ≡ runText (fresh 0) (replicate sector 255) s (replicate 8192 0)
+pub report-run : (s : List ℕ) → length s ≤ longestScript → reportOf s ≡ runText (fresh 0) (replicate sector 255) s (replicate (2 * longestScript) 0)
 unfolding reportOf
 report-run s h = cond-no _ _ _ (le-ltb _ _ h)

@@ -1,26 +1,26 @@
--- Scripts and what is printed for them, of the definition: 01's own sample, and a refusal.
+-- Scripts and what is printed for them, by the definition: the sample that the program is run on, and a refusal.
 use mathlib.Core.List.{[], _∷_}
 use mathlib.Core.Path.{_≡_, refl}
 use Rattle.part.specs.Part.{permitted}
 use Rattle.part.specs.Table.{rowIn, rowOf, fitsRule, isRead, isProgram}
+use Rattle.kinds.specs.Kinds.{knownIn, kindRowIn, knownKind, kindRow}
 use Rattle.chip.specs.Chip.{fresh, statusByte}
 use Rattle.chip.specs.Legal.{legalJob, legalCore, legalFrame, isEmpty, isBlank, legal}
 use Rattle.frame.specs.Frame.{judge, taken, exchanged}
 use Rattle.verdict.specs.Verdict.{jobOf, jobVerdict, commandVerdict, listed, verdict}
 use Rattle.verdict.specs.Effect.{instantly, acted, settled}
 use Rattle.event.specs.Event.{applied}
-use Rattle.event.specs.Alone.{knownKind, bodyLength, inRange, yields}
 use Rattle.script.specs.Script.{faultAt, walk, eventsFrom, firstBad, room}
 use Rattle.script.specs.Run.{runs, refusal, outcome, answerOf}
 use Rattle.listing.specs.Text.{ascii, spelled, lineOf, partLine, doneLine, refusedLine}
 use Rattle.listing.specs.Report.{linesOf, answerText, runText, reportOf}
 
--- "For bytes 01 02 06 03 01 02 05 02 00 03" (01, the paragraph on the program)
+-- a write enable, and the status read after it: the program's own sample (crates/hoilapeku/stdin)
 pub sample : reportOf (0x01 ∷ 0x02 ∷ 0x06 ∷ 0x03 ∷ 0x01 ∷ 0x02 ∷ 0x05 ∷ 0x02 ∷ 0x00 ∷ 0x03 ∷ []) ≡ ascii "part 65536\n1 --\n3 V1\n5 --\n7 02\n9 V0\nanswer 0 ticks 0\n"
-unfolding permitted rowIn rowOf fitsRule isRead isProgram fresh statusByte legalJob legalCore legalFrame isEmpty isBlank legal judge taken exchanged jobOf jobVerdict commandVerdict listed verdict instantly acted settled applied knownKind bodyLength inRange faultAt walk eventsFrom firstBad yields room runs refusal outcome answerOf spelled lineOf partLine doneLine linesOf answerText runText reportOf
+unfolding permitted rowIn rowOf fitsRule isRead isProgram knownIn kindRowIn knownKind kindRow fresh statusByte legalJob legalCore legalFrame isEmpty isBlank legal judge taken exchanged jobOf jobVerdict commandVerdict listed verdict instantly acted settled applied faultAt walk eventsFrom firstBad room runs refusal outcome answerOf spelled lineOf partLine doneLine linesOf answerText runText reportOf
 sample = refl
 
 -- a tick, and then a kind that there is not
 pub refused : reportOf (0x04 ∷ 0x09 ∷ []) ≡ ascii "part 65536\nanswer 5 at 1\n"
-unfolding permitted fresh legalJob legalCore legalFrame isEmpty isBlank legal knownKind bodyLength inRange faultAt walk eventsFrom firstBad refusal answerOf spelled partLine refusedLine answerText runText reportOf
+unfolding permitted knownIn kindRowIn knownKind kindRow fresh legalJob legalCore legalFrame isEmpty isBlank legal faultAt walk eventsFrom firstBad refusal answerOf spelled partLine refusedLine answerText runText reportOf
 refused = refl

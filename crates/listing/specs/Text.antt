@@ -1,4 +1,4 @@
--- The text that the program prints, as ASCII codes: numbers, a record's word, and the lines (01, the paragraph on the program).
+-- The text that the program prints, as ASCII codes: numbers, a record's word, the lines, and bytes put into a text (RULES, The program).
 use Prim.Native.Nat.{ℕ, zero, suc, _+_, _/_, _%_}
 use Prim.Native.String.{String, [] as noText, _∷_ as _then_}
 use Prim.Native.Char.{code}
@@ -16,6 +16,8 @@ abbrev pub ascii : String → List ℕ
 ascii noText = []
 ascii (c then s) = code c ∷ ascii s
 
+-- ---- numbers
+
 -- a number's decimal digits, with no zeros in front, where `most` digits hold it
 unfoldable pub spelled : ℕ → ℕ → List ℕ
 spelled zero n = []
@@ -29,38 +31,50 @@ decimalOf n = spelled 20 n
 abbrev pub hexDigit : ℕ → ℕ
 hexDigit d = cond (ltb d 10) (48 + d) (55 + d)
 
--- "two upper-case hex digits"
+-- a byte as two of them
 abbrev pub hexOf : ℕ → List ℕ
 hexOf b = hexDigit (b / 16) ∷ hexDigit (b % 16) ∷ []
 
--- "`--`, the byte in two upper-case hex digits, or V and the verdict"
+-- ---- the lines (RULES, The program)
+
+-- a record's word: two dashes for floating, the byte driven in hex, or V and the verdict (RULES, Records)
 abbrev pub wordOf : Record → List ℕ
 wordOf Nothing = []
 wordOf Floating = ascii "--"
 wordOf (Driven b) = hexOf b
 wordOf (Verdict v) = ascii "V" ++ decimalOf v
 
--- "one line a record: the event's offset", and the record's word
+-- the line of a record: where its event starts, and its word
 unfoldable pub lineOf : ℕ → Record → List ℕ
-lineOf offset said = decimalOf offset ++ ascii " " ++ wordOf said ++ ascii "\n"
+lineOf offset said = decimalOf offset ++ ascii " " ++ (wordOf said ++ ascii "\n")
 
--- "Line 1 is the part and its length"
+-- the first line: the part, by its length
 unfoldable pub partLine : ℕ → List ℕ
 partLine n = ascii "part " ++ decimalOf n ++ ascii "\n"
 
--- "Last: answer and working ticks"
+-- the last line of a script that was run: its working ticks
 unfoldable pub doneLine : ℕ → List ℕ
 doneLine ticks = ascii "answer 0 ticks " ++ decimalOf ticks ++ ascii "\n"
 
--- "if refused, line 1 and `answer N at OFFSET`"
+-- the last line of a script that was refused: the number and the offset
 unfoldable pub refusedLine : ℕ → ℕ → List ℕ
-refusedLine number offset = ascii "answer " ++ decimalOf number ++ ascii " at " ++ decimalOf offset ++ ascii "\n"
+refusedLine number offset = ascii "answer " ++ (decimalOf number ++ ascii " at ") ++ (decimalOf offset ++ ascii "\n")
 
--- "a longer one prints only `too long`"
+-- the only line for a script that is too long to be run
 abbrev pub tooLong : List ℕ
 tooLong = ascii "too long\n"
 
+-- the most bytes that a record's line has: two numbers of 20 digits, a blank, a V and the line's end
+abbrev pub longestLine : ℕ
+longestLine = 43
+
+-- ---- bytes put into a text
+
+-- the length of the text that the program prints into
+abbrev pub textRoom : ℕ
+textRoom = 262144
+
 -- what putting `new` into a text t at a place p leaves: the place after it, and the text
 pub record Put (t : List ℕ) (p : ℕ) (new : List ℕ) (p′ : ℕ) (t′ : List ℕ) : Type 0 where
-  pub place : p′ ≡ p + length new
+  pub end : p′ ≡ p + length new
   pub text : t′ ≡ sets t p new

@@ -1,26 +1,23 @@
--- What is true of texts: bytes put one after the other, a number's digits, and how long a number and a line can be.
+-- What is true of texts: bytes put one after the other, and a number's digits.
 use Prim.Native.Nat.{ℕ, zero, suc, _+_, _*_, _/_, _%_, _^_, _-_, _<_, _≤_}
 use mathlib.Core.List.{List, [], _∷_, _++_}
 use mathlib.Core.Path.{_≡_, refl, sym, ap, _∙_}
-use native.Mathlib.Nat.{add-zero, zero-add, add-suc, suc-add, pow-suc, one-le-pow, pow-le-pow-right}
+use native.Mathlib.Nat.{add-zero, zero-add, add-suc, suc-add, pow-suc, one-le-pow}
 use native.Mathlib.Numerals.{add-one}
 use native.Mathlib.Omega.{arith}
-use native.Mathlib.Decide.{decLe}
 use lib.Dec.{ltb}
 use lib.ListN.{length, getD, set, take, drop, length-append}
 use lib.Seq.{sets, length-sets, sets-eq, take-suc, length-take-le}
 use borrow.Author.Tests.{lt-ltb, le-ltb}
 use Rattle.io.specs.Counts.{Counts}
 use Rattle.io.specs.Digits.{glyph, digits, Fewest}
-use Rattle.cells.specs.Choice.{cond-yes, cond-no, cond-either}
-use Rattle.chip.specs.declared.Record.{Record}
-use Rattle.chip.specs.declared.Record.the-variants.{Nothing, Floating, Driven, Verdict}
-use Rattle.listing.specs.Text.{spelled, decimalOf, wordOf, lineOf, partLine, doneLine, refusedLine, Put}
+use Rattle.cells.specs.Choice.{cond-yes, cond-no}
+use Rattle.listing.specs.Text.{spelled, Put}
 
 -- ---- bytes put one after the other
 
 -- two rows of stores, the second from where the first ends, are one
-pub sets-add : (t : List ℕ) (p : ℕ) (xs ys : List ℕ) → sets t p (xs ++ ys) ≡ sets (sets t p xs) (p + length xs) ys
+sets-add : (t : List ℕ) (p : ℕ) (xs ys : List ℕ) → sets t p (xs ++ ys) ≡ sets (sets t p xs) (p + length xs) ys
 sets-add t p [] ys = rw add-zero
 sets-add t p (x ∷ xs) ys = sets-add (set t p x) (suc p) xs ys ∙ ap (λ (q : ℕ). sets (sets (set t p x) (suc p) xs) q ys) (suc-add p (length xs) ∙ sym (add-suc p (length xs)))
 
@@ -35,35 +32,32 @@ sets-more t p xs i h =
     ∙ ap (λ (k : ℕ). set (sets t p (take i xs)) (p + k) (getD xs i 0)) n)
 
 pub put-none : (t : List ℕ) (p : ℕ) → Put t p [] p t
-put-none t p = record { place = sym (add-zero p); text = refl }
+put-none t p = record { end = sym (add-zero p); text = refl }
 
 pub put-then : {t u v : List ℕ} {p q r : ℕ} {xs ys : List ℕ} → Put t p xs q u → Put u q ys r v → Put t p (xs ++ ys) r v
 put-then {t} {u} {v} {p} {q} {r} {xs} {ys} a b =
     record {
-      place = omega (arith, a .place, b .place, length-append xs ys);
-      text = b .text ∙ ap (λ (w : List ℕ). sets w q ys) (a .text) ∙ ap (λ (k : ℕ). sets (sets t p xs) k ys) (a .place) ∙ sym (sets-add t p xs ys);
+      end = omega (arith, a .end, b .end, length-append xs ys);
+      text = b .text ∙ ap (λ (w : List ℕ). sets w q ys) (a .text) ∙ ap (λ (k : ℕ). sets (sets t p xs) k ys) (a .end) ∙ sym (sets-add t p xs ys);
     }
 
 pub put-as : {t u : List ℕ} {p q : ℕ} {xs ys : List ℕ} → ys ≡ xs → Put t p xs q u → Put t p ys q u
 put-as e a = rw e a
 
-pub put-length : {t u : List ℕ} {p q : ℕ} {xs : List ℕ} → Put t p xs q u → length u ≡ length t
-put-length {t} {u} {p} {q} {xs} a = ap length (a .text) ∙ length-sets t p xs
-
 -- what is put at the start of a text stands there, and the rest is as it was
 pub put-start : {t u : List ℕ} {r : ℕ} {new : List ℕ} → Put t 0 new r u → r ≤ length t → ((r ≡ length new) × (u ≡ new ++ drop r t)) × Counts r u
 put-start {t} {u} {r} {new} a l =
-    let is : r ≡ length new = a .place ∙ zero-add (length new) in
-    let inside : r ≤ length u = omega (arith, put-length a) in
-    ((is, a .text ∙ sets-eq new t 0 (omega (arith, is)) ∙ ap (λ (n : ℕ). new ++ drop n t) (sym (a .place))), (inside, sym (length-take-le r u inside)))
+    let is : r ≡ length new = a .end ∙ zero-add (length new) in
+    let inside : r ≤ length u = omega (arith, ap length (a .text), length-sets t 0 new) in
+    ((is, a .text ∙ sets-eq new t 0 (omega (arith, is)) ∙ ap (λ (n : ℕ). new ++ drop n t) (sym (a .end))), (inside, sym (length-take-le r u inside)))
 
 -- ---- a number's digits
 
 digit-decimal : (n : ℕ) → glyph (n % 10) ≡ 48 + n % 10
 digit-decimal n = cond-yes (ltb (n % 10) 10) _ _ (lt-ltb (n % 10) 10 (omega arith))
 
--- the fewest digits that hold a number are its decimal digits
-digits-spelled : (most k n : ℕ) → Fewest 10 1 n k → k ≤ most → digits 10 k n ≡ spelled most n
+-- the fewest digits that hold a number, which are those that `io::decimal` answers, are the number in decimal
+pub digits-spelled : (most k n : ℕ) → Fewest 10 1 n k → k ≤ most → digits 10 k n ≡ spelled most n
 unfolding spelled
 digits-spelled zero k n h l = absurd (omega (arith, h .0))
 digits-spelled (suc most) zero n h l = absurd (omega (arith, h .0))
@@ -83,86 +77,3 @@ digits-spelled (suc most) (suc (suc k)) n h l =
     ap (λ (x : List ℕ). x ++ glyph (n % 10) ∷ []) (digits-spelled most (suc k) (n / 10) fewest (omega arith))
     ∙ ap (λ (d : ℕ). spelled most (n / 10) ++ d ∷ []) (digit-decimal n)
     ∙ sym (ap (λ (x : List ℕ). x ++ (48 + n % 10) ∷ []) (cond-no (ltb n 10) [] (spelled most (n / 10)) (le-ltb n 10 (omega (arith, above, low, some)))))
-
--- 20 digits hold a number of 64 bits
-fewest-most : (n k : ℕ) → n < 2 ^ 64 → Fewest 10 1 n k → k ≤ 20
-fewest-most n k small h = go (decLe k 20)
-  where
-    go : Dec (k ≤ 20) → k ≤ 20
-    go (yes l) = l
-    go (no l) =
-        let far : 20 ≤ k - 1 = omega arith in
-        let some : 0 < 10 = omega arith in
-        let more : 10 ^ 20 ≤ 10 ^ (k - 1) = pow-le-pow-right some far in
-        let above : 10 ^ (k - 1) ≤ n = h .2 (omega arith) in
-        absurd (omega (arith, more, above, small))
-
--- the digits that `io::decimal` answers are the number in decimal
-pub digits-decimal : (n k : ℕ) → n < 2 ^ 64 → Fewest 10 1 n k → digits 10 k n ≡ decimalOf n
-digits-decimal n k small h = digits-spelled 20 k n h (fewest-most n k small h)
-
--- a number below 10 ^ (k + 1) has at most k + 1 digits
-pub spelled-short : (most k n : ℕ) → n < 10 ^ suc k → length (spelled most n) ≤ suc k
-unfolding spelled
-spelled-short zero k n h = omega arith
-spelled-short (suc most) zero n h = rw (lt-ltb n 10 h) (omega arith)
-spelled-short (suc most) (suc k) n h =
-    cond-either (λ (x : List ℕ). length (x ++ (48 + n % 10) ∷ []) ≤ suc (suc k)) (ltb n 10) [] (spelled most (n / 10))
-    (λ _. omega arith)
-    (λ _. omega (arith, length-append (spelled most (n / 10)) ((48 + n % 10) ∷ []), spelled-short most k (n / 10) (omega (arith, h, pow-suc 10 (suc k)))))
-
--- no number has more than 20
-pub spelled-most : (most n : ℕ) → length (spelled most n) ≤ most
-unfolding spelled
-spelled-most zero n = omega arith
-spelled-most (suc most) n =
-    cond-either (λ (x : List ℕ). length (x ++ (48 + n % 10) ∷ []) ≤ suc most) (ltb n 10) [] (spelled most (n / 10))
-    (λ _. omega arith)
-    (λ _. omega (arith, length-append (spelled most (n / 10)) ((48 + n % 10) ∷ []), spelled-most most (n / 10)))
-
-pub decimal-most : (n : ℕ) → length (decimalOf n) ≤ 20
-decimal-most n = spelled-most 20 n
-
--- ---- how long a line is
-
--- the numbers of a record are bytes
-abbrev pub Bytes : Record → Type 0
-Bytes Nothing = Unit {0}
-Bytes Floating = Unit {0}
-Bytes (Driven b) = b < 256
-Bytes (Verdict v) = v < 256
-
-pub word-short : (said : Record) → Bytes said → length (wordOf said) ≤ 4
-word-short Nothing h = omega arith
-word-short Floating h = omega arith
-word-short (Driven b) h = omega arith
-word-short (Verdict v) h = omega (arith, spelled-short 20 2 v (omega arith))
-
-pub line-length : (offset : ℕ) (said : Record) → length (lineOf offset said) ≡ length (decimalOf offset) + length (wordOf said) + 2
-unfolding lineOf
-line-length offset said = simp length-append (omega arith)
-
-pub part-length : (n : ℕ) → length (partLine n) ≡ length (decimalOf n) + 6
-unfolding partLine
-part-length n = simp length-append (omega arith)
-
-pub done-length : (ticks : ℕ) → length (doneLine ticks) ≡ length (decimalOf ticks) + 16
-unfolding doneLine
-done-length ticks = simp length-append (omega arith)
-
-pub refused-length : (number offset : ℕ) → length (refusedLine number offset) ≡ length (decimalOf number) + length (decimalOf offset) + 12
-unfolding refusedLine
-refused-length number offset = simp length-append (omega arith)
-
--- the line of an offset below 10,000
-pub line-short : (offset : ℕ) (said : Record) → offset < 10000 → Bytes said → length (lineOf offset said) ≤ 10
-line-short offset said h b = omega (arith, line-length offset said, spelled-short 20 3 offset h, word-short said b)
-
-pub part-short : (n : ℕ) → length (partLine n) ≤ 26
-part-short n = omega (arith, part-length n, decimal-most n)
-
-pub done-short : (ticks : ℕ) → length (doneLine ticks) ≤ 36
-done-short ticks = omega (arith, done-length ticks, decimal-most ticks)
-
-pub refused-short : (number offset : ℕ) → length (refusedLine number offset) ≤ 52
-refused-short number offset = omega (arith, refused-length number offset, decimal-most number, decimal-most offset)

@@ -1,41 +1,67 @@
--- `chip_event` is right: a kind over 5 is refused before anything else happens, and otherwise the event by value answers for the chip that the numbers mean.
-use borrow.Author.Tests.{le-leb, lt-leb}
+use mathlib.Core.Path.{sym, _∙_, _≡_}
+use mathlib.Core.Bool.{true, false}
+use borrow.Author.Tests.{not-true, not-false}
+use Rattle.boundary.specs.Numbers.{isState}
 use Rattle.boundary.specs.Laws.{event-no-state, event-memory-no-state, event-state, event-memory-state}
 use borrow.Author.Needs.{needs}
 use Rattle.boundary.proofs.chip_event.Statement.{statement}
 use Rattle.boundary.proofs.chip_event.Tie as tie
+use Rattle.boundary.proofs.chip_event.Reads as reads
+use Rattle.boundary.proofs.chip_event.Lts as lts
+use Rattle.boundary.proofs.chip_of.Reads as chip-of-reads
+use Rattle.boundary.proofs.event_numbers.Reads as event-numbers-reads
+use Rattle.boundary.proofs.is_state.Reads as is-state-reads
+use Rattle.boundary.proofs.no_state.Reads as no-state-reads
+use Rattle.boundary.proofs.refuse_event.Reads as refuse-event-reads
+use Rattle.event.proofs.event.Reads as event-reads
 
+-- src/lib.rt:313:9
+is-state-requires : tie.Need-is-state-requires
+is-state-requires c κs = search needs
+
+-- src/lib.rt:314:32
 no-state-requires : tie.Need-no-state-requires
 no-state-requires c κs = search needs
 
+-- src/lib.rt:314:9
 refuse-event-requires : tie.Need-refuse-event-requires
 refuse-event-requires c κs = search needs
 
+-- src/lib.rt:314:9
 returns : tie.Need-returns
-returns c = (event-no-state _ _ _ _ _ _ (lt-leb _ _ (c .before .before .if1 .taken)) (c .before .no-state .ensures) (c .refuse-event .ensures), event-memory-no-state _ _ _ _ (lt-leb _ _ (c .before .before .if1 .taken)))
+returns c =
+    let no : isState (c .before .before .before .before .before .args .c) ≡ false = sym (c .before .before .before .is-state .ensures) ∙ not-true _ (c .before .before .if1 .taken) in
+    (event-no-state _ _ _ _ _ _ no (c .before .no-state .ensures) (c .refuse-event .ensures), event-memory-no-state _ _ _ _ no)
 
+-- src/lib.rt:316:35
 chip-of-requires : tie.Need-chip-of-requires
 chip-of-requires c κs = search needs
 
+-- src/lib.rt:316:22
 event-requires : tie.Need-event-requires
 event-requires c κs = search needs
 
+-- src/lib.rt:316:5
 event-numbers-requires : tie.Need-event-numbers-requires
 event-numbers-requires c κs = search needs
 
+-- src/lib.rt:309:1
 same-length : tie.Need-same-length
 same-length c = search needs
 
+-- src/lib.rt:309:1
 returns-2 : tie.Need-returns-2
-returns-2 c = (
-  event-state _ _ _ _ _ _ _ (le-leb _ _ (c .before .before .before .before .before .before .if1 .left)) (c .before .before .before .before .before .chip-of .ensures) (c .before .before .before .event .ensures .0) (c .event-numbers .ensures),
-  event-memory-state _ _ _ _ _ _ (le-leb _ _ (c .before .before .before .before .before .before .if1 .left)) (c .before .before .before .before .before .chip-of .ensures) (c .before .before .before .event .ensures .1),
-)
+returns-2 c =
+    let is : isState (c .before .before .before .before .before .before .before .before .before .args .c) ≡ true = sym (c .before .before .before .before .before .before .before .is-state .ensures) ∙ not-false _ (c .before .before .before .before .before .before .if1 .left) in (
+      event-state _ _ _ _ _ _ _ is (c .before .before .before .before .before .chip-of .ensures) (c .before .before .before .event .ensures .0) (c .event-numbers .ensures),
+      event-memory-state _ _ _ _ _ _ is (c .before .before .before .before .before .chip-of .ensures) (c .before .before .before .event .ensures .1),
+    )
 
 pub chip-event-spec : {M : Type 1} → statement M
 chip-event-spec =
     tie.close
     (tie.spec
+    is-state-requires
     no-state-requires
     refuse-event-requires
     returns

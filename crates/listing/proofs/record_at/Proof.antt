@@ -1,57 +1,46 @@
--- `record_at` reads what the definition reads: past the end a byte counts as 0, which begins no record, and each of the three first bytes picks its record.
-use lib.ListN.{List·getD-eq-default}
-use borrow.Author.Tests.{ne-eqb}
-use Rattle.listing.specs.Output.{recordAt}
 use borrow.Author.Needs.{needs}
 use Rattle.listing.proofs.record_at.Statement.{statement}
 use Rattle.listing.proofs.record_at.Tie as tie
+use Rattle.listing.proofs.record_at.Reads as reads
+use Rattle.listing.proofs.record_at.Lts as lts
+use Rattle.cells.proofs.byte_at.Reads as byte-at-reads
 
-returns : tie.Need-returns
-unfolding recordAt
-returns c = rw (List·getD-eq-default (c .before .before .args .out .now) 0 (c .if1 .taken))
-
-shared-slice-read-match : tie.Need-shared-slice-read-match
-shared-slice-read-match c = search needs
-
-add-byte-at : tie.Need-add-byte-at
-add-byte-at c = search needs
-
+-- src/lib.rt:26:9
 byte-at-requires : tie.Need-byte-at-requires
 byte-at-requires c κs = search needs
 
-add-byte-at-2 : tie.Need-add-byte-at-2
-add-byte-at-2 c = search needs
+-- src/lib.rt:27:38
+add-byte-at : tie.Need-add-byte-at
+add-byte-at c = search needs
 
+-- src/lib.rt:27:9
 byte-at-requires-2 : tie.Need-byte-at-requires-2
 byte-at-requires-2 c κs = search needs
 
+-- src/lib.rt:22:1
+returns : tie.Need-returns
+returns c = search needs
+
+-- src/lib.rt:22:1
 returns-2 : tie.Need-returns-2
-unfolding recordAt
-returns-2 c = rw (c .match .keys1)
+returns-2 c = search needs
 
+-- src/lib.rt:22:1
 returns-3 : tie.Need-returns-3
-unfolding recordAt
-returns-3 c = rw (c .before .match .keys2, c .byte-at .ensures)
+returns-3 c = search needs
 
+-- src/lib.rt:22:1
 returns-4 : tie.Need-returns-4
-unfolding recordAt
-returns-4 c = rw (c .before .match .keys3, c .byte-at2 .ensures)
-
-returns-5 : tie.Need-returns-5
-unfolding recordAt
-returns-5 c = rw (ne-eqb _ _ (c .match .rest .0 .0 .1), ne-eqb _ _ (c .match .rest .0 .1), ne-eqb _ _ (c .match .rest .1))
+returns-4 c = search needs
 
 pub record-at-spec : {M : Type 1} → statement M
 record-at-spec =
     tie.close
     (tie.spec
-    returns
-    shared-slice-read-match
-    add-byte-at
     byte-at-requires
-    add-byte-at-2
+    add-byte-at
     byte-at-requires-2
+    returns
     returns-2
     returns-3
-    returns-4
-    returns-5)
+    returns-4)

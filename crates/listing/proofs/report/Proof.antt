@@ -1,44 +1,43 @@
--- `report` goes by the script's length: over 4,096 bytes only `too long`, else the run's text; either stands at the start of the text.
-use Prim.Native.Nat.{_≤_}
-use mathlib.Core.Path.{sym, ap, _∙_}
-use native.Mathlib.Omega.{arith}
-use lib.ListN.{length, replicate}
-use Rattle.part.specs.Part.{sector}
-use Rattle.chip.specs.declared.Chip.{Chip}
-use Rattle.listing.specs.Report.{runText}
-use Rattle.listing.specs.TextLaws.{put-as, put-start}
-use Rattle.listing.specs.ReportLaws.{report-long, report-run}
 use borrow.Author.Needs.{needs}
 use Rattle.listing.proofs.report.Statement.{statement}
 use Rattle.listing.proofs.report.Tie as tie
+use Rattle.listing.proofs.report.Reads as reads
+use Rattle.listing.proofs.report.Lts as lts
+use Rattle.chip.proofs.Chip.fresh.Reads as fresh-reads
+use Rattle.listing.proofs.put.Reads as put-reads
+use Rattle.listing.proofs.put_run.Reads as put-run-reads
 
+-- src/lib.rt:137:29
 slice-aggregate-put : tie.Need-slice-aggregate-put
 slice-aggregate-put c = search needs
 
+-- src/lib.rt:137:9
 put-requires : tie.Need-put-requires
 put-requires c κs = search needs
 
+-- src/lib.rt:137:9
 returns : tie.Need-returns
-returns c =
-    let n : 65536 ≤ length (c .before .before .before .before .before .args .text .now) = search needs in
-    put-start (put-as (report-long _ (c .before .before .before .if1 .taken)) (c .put .ensures)) (omega (arith, n, c .put .ensures .place))
+returns c = search needs
 
+-- src/lib.rt:141:19
 fresh-requires : tie.Need-fresh-requires
 fresh-requires c κs = search needs
 
+-- src/lib.rt:141:35
 slice-aggregate-put-run : tie.Need-slice-aggregate-put-run
 slice-aggregate-put-run c = search needs
 
+-- src/lib.rt:141:48
 slice-aggregate-put-run-2 : tie.Need-slice-aggregate-put-run-2
 slice-aggregate-put-run-2 c = search needs
 
+-- src/lib.rt:141:5
 put-run-requires : tie.Need-put-run-requires
 put-run-requires c κs = search needs
 
+-- src/lib.rt:132:1
 returns-2 : tie.Need-returns-2
-returns-2 c =
-    let n : 65536 ≤ length (c .before .before .before .before .before .before .before .before .before .args .text .now) = search needs in
-    put-start (put-as (report-run _ (c .before .before .before .before .before .before .before .if1 .left) ∙ ap (λ (k : Chip). runText k (replicate sector 255) (c .before .before .before .before .before .before .before .before .before .args .s .now) (replicate 8192 0)) (sym (c .before .before .before .before .before .fresh .ensures))) (c .before .before .put-run .ensures .0)) (omega (arith, n, c .before .before .put-run .ensures .1))
+returns-2 c = search needs
 
 pub report-spec : {M : Type 1} → statement M
 report-spec =
