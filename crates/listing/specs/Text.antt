@@ -58,7 +58,7 @@ doneLine ticks = ascii "answer 0 ticks " ++ decimalOf ticks ++ ascii "\n"
 
 -- the last line of a script that was refused: the number and the offset
 unfoldable pub refusedLine : ℕ → ℕ → List ℕ
-refusedLine number offset = ascii "answer " ++ (decimalOf number ++ ascii " at ") ++ (decimalOf offset ++ ascii "\n")
+refusedLine number offset = ascii "answer " ++ decimalOf number ++ ascii " at " ++ (decimalOf offset ++ ascii "\n")
 
 -- the only line for a script that is too long to be run
 abbrev pub tooLong : List ℕ

@@ -2,9 +2,10 @@
 use Prim.Native.Nat.{ℕ, zero, suc, _+_, _*_, _/_, _%_, _^_, _-_, _<_, _≤_}
 use mathlib.Core.List.{List, [], _∷_, _++_}
 use mathlib.Core.Path.{_≡_, refl, sym, ap, _∙_}
-use native.Mathlib.Nat.{add-zero, zero-add, add-suc, suc-add, pow-suc, one-le-pow}
+use native.Mathlib.Nat.{add-zero, zero-add, add-suc, suc-add, pow-suc, one-le-pow, pow-le-pow-right}
 use native.Mathlib.Numerals.{add-one}
 use native.Mathlib.Omega.{arith}
+use native.Mathlib.Decide.{decLe}
 use lib.Dec.{ltb}
 use lib.ListN.{length, getD, set, take, drop, length-append}
 use lib.Seq.{sets, length-sets, sets-eq, take-suc, length-take-le}
@@ -45,11 +46,10 @@ pub put-as : {t u : List ℕ} {p q : ℕ} {xs ys : List ℕ} → ys ≡ xs → P
 put-as e a = rw e a
 
 -- what is put at the start of a text stands there, and the rest is as it was
-pub put-start : {t u : List ℕ} {r : ℕ} {new : List ℕ} → Put t 0 new r u → r ≤ length t → ((r ≡ length new) × (u ≡ new ++ drop r t)) × Counts r u
-put-start {t} {u} {r} {new} a l =
+pub put-start : {t u : List ℕ} {r : ℕ} {new : List ℕ} → Put t 0 new r u → r ≤ length u → ((r ≡ length new) × (u ≡ new ++ drop r t)) × Counts r u
+put-start {t} {u} {r} {new} a inside =
     let is : r ≡ length new = a .end ∙ zero-add (length new) in
-    let inside : r ≤ length u = omega (arith, ap length (a .text), length-sets t 0 new) in
-    ((is, a .text ∙ sets-eq new t 0 (omega (arith, is)) ∙ ap (λ (n : ℕ). new ++ drop n t) (sym (a .end))), (inside, sym (length-take-le r u inside)))
+    ((is, a .text ∙ sets-eq new t 0 (omega (arith, is, inside, ap length (a .text), length-sets t 0 new)) ∙ ap (λ (n : ℕ). new ++ drop n t) (sym (a .end))), (inside, sym (length-take-le r u inside)))
 
 -- ---- a number's digits
 
@@ -77,3 +77,16 @@ digits-spelled (suc most) (suc (suc k)) n h l =
     ap (λ (x : List ℕ). x ++ glyph (n % 10) ∷ []) (digits-spelled most (suc k) (n / 10) fewest (omega arith))
     ∙ ap (λ (d : ℕ). spelled most (n / 10) ++ d ∷ []) (digit-decimal n)
     ∙ sym (ap (λ (x : List ℕ). x ++ (48 + n % 10) ∷ []) (cond-no (ltb n 10) [] (spelled most (n / 10)) (le-ltb n 10 (omega (arith, above, low, some)))))
+
+-- 20 digits hold a number of 64 bits
+pub fewest-most : (n k : ℕ) → n < 2 ^ 64 → Fewest 10 1 n k → k ≤ 20
+fewest-most n k small h = go (decLe k 20)
+  where
+    go : Dec (k ≤ 20) → k ≤ 20
+    go (yes l) = l
+    go (no l) =
+        let far : 20 ≤ k - 1 = omega arith in
+        let some : 0 < 10 = omega arith in
+        let more : 10 ^ 20 ≤ 10 ^ (k - 1) = pow-le-pow-right some far in
+        let above : 10 ^ (k - 1) ≤ n = h .2 (omega arith) in
+        absurd (omega (arith, more, above, small))

@@ -34,8 +34,8 @@ fn record_at(out: &[u8], at: usize) -> Record
 }
 
 // Puts bytes into a text at a place; the answer is the place after them.
-fn put(text: &mut [u8; ROOM], at: usize, bytes: &[u8]) -> usize
-    requires { ⌜ at + length (now bytes) ≤ textRoom ⌝ }
+fn put(text: &mut [u8], at: usize, bytes: &[u8]) -> usize
+    requires { ⌜ at + length (now bytes) ≤ length (now text) ⌝ }
     ensures { λ r. ⌜ Put (now (text .entry)) at (now (bytes .entry)) r (now (text .exit)) ⌝ }
 {
     let mut i = 0;
@@ -46,15 +46,18 @@ fn put(text: &mut [u8; ROOM], at: usize, bytes: &[u8]) -> usize
     at + bytes.len()
 }
 
-// Puts a number in decimal, and some bytes after it.
-fn put_number(text: &mut [u8; ROOM], at: usize, n: u64, bytes: &[u8]) -> usize
-    requires { ⌜ at + 20 + length (now bytes) ≤ textRoom ⌝ }
-    ensures { λ r. ⌜ Put (now (text .entry)) at (decimalOf n ++ now (bytes .entry)) r (now (text .exit)) × (r ≤ at + 20 + length (now (bytes .entry))) ⌝ }
+// Puts a number in decimal, with bytes before it and after it.
+fn put_number(text: &mut [u8; ROOM], at: usize, before: &[u8], n: u64, after: &[u8]) -> usize
+    requires { ⌜ at + length (now before) + 20 + length (now after) ≤ textRoom ⌝ }
+    ensures { λ r. ⌜ Put (now (text .entry)) at (now (before .entry) ++ decimalOf n ++ now (after .entry)) r (now (text .exit))
+        × (r ≤ at + length (now (before .entry)) + 20 + length (now (after .entry)))
+        × (r ≤ length (now (text .exit))) ⌝ }
 {
     let mut digits = [0u8; 20];
     let k = io::decimal(n, &mut digits);
-    let end = put(text, at, &digits[..k]);
-    put(text, end, bytes)
+    let number = put(text, at, before);
+    let end = put(text, number, &digits[..k]);
+    put(text, end, after)
 }
 
 // An upper-case hex digit.
@@ -73,7 +76,7 @@ fn put_line(text: &mut [u8; ROOM], at: usize, offset: usize, said: Record) -> us
     requires { ⌜ at + longestLine ≤ textRoom ⌝ }
     ensures { λ r. ⌜ Put (now (text .entry)) at (lineOf offset said) r (now (text .exit)) × (r ≤ at + longestLine) ⌝ }
 {
-    let word = put_number(text, at, offset as u64, b" ");
+    let word = put_number(text, at, b"", offset as u64, b" ");
     match said {
         Record::Nothing => put(text, word, b"\n"),
         Record::Floating => put(text, word, b"--\n"),
@@ -81,10 +84,7 @@ fn put_line(text: &mut [u8; ROOM], at: usize, offset: usize, said: Record) -> us
             let digits = [hex_digit(b / 16), hex_digit(b % 16), b'\n'];
             put(text, word, &digits)
         }
-        Record::Verdict(v) => {
-            let number = put(text, word, b"V");
-            put_number(text, number, v as u64, b"\n")
-        }
+        Record::Verdict(v) => put_number(text, word, b"V", v as u64, b"\n"),
     }
 }
 
@@ -113,19 +113,16 @@ fn put_lines(text: &mut [u8; ROOM], at: usize, s: &[u8], out: &[u8]) -> usize
 // Runs a script, and puts what is printed of the run.
 fn put_run(text: &mut [u8; ROOM], chip: Chip, mem: &mut [u8], s: &[u8], out: &mut [u8]) -> usize
     requires { ⌜ length (now s) ≤ longestScript ⌝ }
-    ensures { λ r. ⌜ Put (now (text .entry)) 0 (runText chip (now (mem .entry)) (now (s .entry)) (now (out .entry))) r (now (text .exit)) × (r ≤ textRoom) ⌝ }
+    ensures { λ r. ⌜ Put (now (text .entry)) 0 (runText chip (now (mem .entry)) (now (s .entry)) (now (out .entry))) r (now (text .exit)) × (r ≤ length (now (text .exit))) ⌝ }
 {
-    let size = put(text, 0, b"part ");
-    let first = put_number(text, size, mem.len() as u64, b"\n");
+    let first = put_number(text, 0, b"part ", mem.len() as u64, b"\n");
     let r = script::run(chip, mem, s, out);
     if r.refusal != 0 {
-        let refusal = put(text, first, b"answer ");
-        let offset = put_number(text, refusal, r.refusal as u64, b" at ");
-        return put_number(text, offset, r.offset as u64, b"\n");
+        let offset = put_number(text, first, b"answer ", r.refusal as u64, b" at ");
+        return put_number(text, offset, b"", r.offset as u64, b"\n");
     }
     let last = put_lines(text, first, s, out);
-    let ticks = put(text, last, b"answer 0 ticks ");
-    put_number(text, ticks, r.ticks, b"\n")
+    put_number(text, last, b"answer 0 ticks ", r.ticks, b"\n")
 }
 
 // What the program prints for a script: it stands at the start of the text, and the answer is its length.

@@ -1,3 +1,6 @@
+use mathlib.Core.Path.{sym}
+use borrow.Author.Tests.{lt-ltb, le-ltb}
+use Rattle.cells.specs.Choice.{cond-yes, cond-no}
 use borrow.Author.Needs.{needs}
 use Rattle.listing.proofs.hex_digit.Statement.{statement}
 use Rattle.listing.proofs.hex_digit.Tie as tie
@@ -10,7 +13,7 @@ add-result c = search needs
 
 -- src/lib.rt:66:9
 returns : tie.Need-returns
-returns c = search needs
+returns c = sym (cond-yes _ _ _ (lt-ltb _ _ (c .if1 .taken)))
 
 -- src/lib.rt:68:5
 add-result-2 : tie.Need-add-result-2
@@ -18,7 +21,7 @@ add-result-2 c = search needs
 
 -- src/lib.rt:61:1
 returns-2 : tie.Need-returns-2
-returns-2 c = search needs
+returns-2 c = sym (cond-no _ _ _ (le-ltb _ _ (c .if1 .left)))
 
 pub hex-digit-spec : {M : Type 1} → statement M
 hex-digit-spec = tie.close (tie.spec add-result returns add-result-2 returns-2)

@@ -1,3 +1,5 @@
+use borrow.Author.Tests.{ne-eqb}
+use Rattle.listing.specs.Output.{recordAt}
 use borrow.Author.Needs.{needs}
 use Rattle.listing.proofs.record_at.Statement.{statement}
 use Rattle.listing.proofs.record_at.Tie as tie
@@ -19,19 +21,23 @@ byte-at-requires-2 c κs = search needs
 
 -- src/lib.rt:22:1
 returns : tie.Need-returns
-returns c = search needs
+unfolding recordAt
+returns c = rw (← c .before .before .byte-at .ensures, c .match .keys1)
 
 -- src/lib.rt:22:1
 returns-2 : tie.Need-returns-2
-returns-2 c = search needs
+unfolding recordAt
+returns-2 c = rw (← c .before .before .byte-at .ensures, c .match .keys2, c .before .byte-at2 .ensures)
 
 -- src/lib.rt:22:1
 returns-3 : tie.Need-returns-3
-returns-3 c = search needs
+unfolding recordAt
+returns-3 c = rw (← c .before .before .byte-at .ensures, c .match .keys3, c .before .byte-at2 .ensures)
 
 -- src/lib.rt:22:1
 returns-4 : tie.Need-returns-4
-returns-4 c = search needs
+unfolding recordAt
+returns-4 c = rw (← c .before .before .byte-at .ensures, ne-eqb _ _ (c .match .rest .0 .0 .1), ne-eqb _ _ (c .match .rest .0 .1), ne-eqb _ _ (c .match .rest .1))
 
 pub record-at-spec : {M : Type 1} → statement M
 record-at-spec =
