@@ -13,24 +13,27 @@ use Rattle.script.specs.Script.{Event, events}
 use Rattle.script.specs.Run.{World, world, does, onward, answerOf}
 use Rattle.listing.specs.Text.{lineOf, partLine, doneLine, refusedLine, tooLong}
 
+-- the longest script that is run, and the room for what is printed of it: for each of its bytes more than a line needs
+abbrev pub longestScript : ℕ
+longestScript = 4096
+
+abbrev pub textRoom : ℕ
+textRoom = 64 * longestScript
+
 -- a line for each record, as the events happen (RULES, The program)
 unfoldable pub linesOf : Setting → List Event → World → List ℕ
 linesOf T [] w = []
 linesOf T (e ∷ es) w = cond (yields (e .kind)) (lineOf (e .offset) (does T e w .said)) [] ++ linesOf T es (onward T e w)
 
--- what follows line 1: the records and the last line, or the refusal (RULES, The program)
-unfoldable pub answerText : Chip → List ℕ → List ℕ → Ran → List ℕ
-answerText c m s r =
-    cond (eqb (r .refusal) 0) (linesOf (settingOf (length m)) (events s) (world c m [] 0) ++ doneLine (r .ticks))
-    (refusedLine (r .refusal) (r .offset))
+-- what follows line 1: the records' lines and the last line, or the refusal (RULES, The program)
+unfoldable pub answerText : List ℕ → ℕ → ℕ → ℕ → List ℕ
+answerText lines refusal offset ticks = cond (eqb refusal 0) (lines ++ doneLine ticks) (refusedLine refusal offset)
 
 -- the text of a run of s on a chip c and a memory m, with an output `out` lent
 unfoldable pub runText : Chip → List ℕ → List ℕ → List ℕ → List ℕ
-runText c m s out = partLine (length m) ++ answerText c m s (answerOf c m s out)
-
--- the longest script that is run
-abbrev pub longestScript : ℕ
-longestScript = 4096
+runText c m s out =
+    let r : Ran = answerOf c m s out in
+    partLine (length m) ++ answerText (linesOf (settingOf (length m)) (events s) (world c m [] 0)) (r .refusal) (r .offset) (r .ticks)
 
 -- a script on a blank part of one sector, fresh from status 00h, with two bytes of output for each of its own (RULES, The program)
 unfoldable pub reportOf : List ℕ → List ℕ

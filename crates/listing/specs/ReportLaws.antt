@@ -1,10 +1,12 @@
 -- What is true of what the program prints: each way that it goes, with the lines read from the run's output.
-use Prim.Native.Nat.{ℕ, _*_, _<_, _≤_}
+use Prim.Native.Nat.{ℕ, zero, suc, _*_, _<_, _≤_}
+use mathlib.Core.Bool.{false}
 use mathlib.Core.List.{List, [], _++_}
-use mathlib.Core.Path.{_≡_, sym, ap, _∙_}
+use mathlib.Core.Path.{_≡_, refl, sym, ap, _∙_}
 use native.Mathlib.Omega.{arith}
+use lib.Dec.{eqb}
 use lib.ListN.{length, drop, replicate}
-use borrow.Author.Tests.{eq-eqb, ne-eqb, lt-ltb, le-ltb}
+use borrow.Author.Tests.{ne-eqb, lt-ltb, le-ltb}
 use Rattle.cells.specs.Choice.{cond-yes, cond-no}
 use Rattle.part.specs.Part.{sector, settingOf}
 use Rattle.chip.specs.declared.Chip.{Chip}
@@ -13,7 +15,7 @@ use Rattle.script.specs.declared.Ran.{Ran}
 use Rattle.script.specs.Script.{events}
 use Rattle.script.specs.Run.{world, refusal, outcome, answerOf, outputOf}
 use Rattle.script.specs.Laws.{accepted, answer-number, output-done}
-use Rattle.listing.specs.Text.{partLine, doneLine, refusedLine, tooLong}
+use Rattle.listing.specs.Text.{partLine, doneLine, tooLong}
 use Rattle.listing.specs.Output.{readLines}
 use Rattle.listing.specs.OutputLaws.{known-events, read-lines}
 use Rattle.listing.specs.Report.{linesOf, answerText, runText, longestScript, reportOf}
@@ -30,21 +32,24 @@ read-run c m s out h =
     ∙ read-lines (settingOf (length m)) (drop (length (outcome c m s .written)) out) (events s) (world c m [] 0)
     (known-events s (length s) 0 (omega arith) (accepted c (length m) s (length out) ok .script-playable .clean))
 
--- ---- the text of a run, from its answer and its output
+-- ---- the text of a run
 
-module _ (c : Chip) (m s out : List ℕ) (r : Ran) (is : r ≡ answerOf c m s out) where
-  pub text-refused : (r .refusal ≡ 0 → ⊥) → runText c m s out ≡ partLine (length m) ++ refusedLine (r .refusal) (r .offset)
-  unfolding runText answerText
-  text-refused some = ap (λ (a : Ran). partLine (length m) ++ answerText c m s a) (sym is) ∙ ap (λ (t : List ℕ). partLine (length m) ++ t) (cond-no _ _ _ (ne-eqb _ _ some))
+-- the records' lines matter only where nothing is refused
+answer-lines : (lines lines′ : List ℕ) (refusal offset ticks : ℕ) → (refusal ≡ 0 → lines ≡ lines′) → answerText lines refusal offset ticks ≡ answerText lines′ refusal offset ticks
+unfolding answerText
+answer-lines lines lines′ zero offset ticks same = ap (λ (l : List ℕ). l ++ doneLine ticks) (same refl)
+answer-lines lines lines′ (suc n) offset ticks same = let some : eqb (suc n) 0 ≡ false = ne-eqb (suc n) 0 (λ e. omega arith) in cond-no _ _ _ some ∙ sym (cond-no _ _ _ some)
 
-  pub text-done : r .refusal ≡ 0 → (out′ : List ℕ) → out′ ≡ outputOf c m s out → runText c m s out ≡ partLine (length m) ++ (readLines (events s) out′ 0 ++ doneLine (r .ticks))
-  unfolding runText answerText
-  text-done ok out′ e =
-      let lines : readLines (events s) out′ 0 ≡ linesOf (settingOf (length m)) (events s) (world c m [] 0) =
-      ap (λ (o : List ℕ). readLines (events s) o 0) e ∙ read-run c m s out (ap (λ (a : Ran). a .refusal) (sym is) ∙ ok) in
-      ap (λ (a : Ran). partLine (length m) ++ answerText c m s a) (sym is)
-      ∙ ap (λ (t : List ℕ). partLine (length m) ++ t) (cond-yes _ _ _ (eq-eqb _ _ ok))
-      ∙ ap (λ (l : List ℕ). partLine (length m) ++ (l ++ doneLine (r .ticks))) (sym lines)
+-- the text of a run, from its answer and its output
+pub text-run : (c : Chip) (m s out : List ℕ) (r : Ran) (out′ : List ℕ) → r ≡ answerOf c m s out → out′ ≡ outputOf c m s out
+    → runText c m s out ≡ partLine (length m) ++ answerText (readLines (events s) out′ 0) (r .refusal) (r .offset) (r .ticks)
+unfolding runText
+text-run c m s out r out′ is e =
+    let lines : List ℕ = linesOf (settingOf (length m)) (events s) (world c m [] 0) in
+    ap (λ (a : Ran). partLine (length m) ++ answerText lines (a .refusal) (a .offset) (a .ticks)) (sym is)
+    ∙ ap (λ (t : List ℕ). partLine (length m) ++ t)
+    (answer-lines lines (readLines (events s) out′ 0) (r .refusal) (r .offset) (r .ticks)
+    (λ ok. sym (ap (λ (o : List ℕ). readLines (events s) o 0) e ∙ read-run c m s out (ap (λ (a : Ran). a .refusal) (sym is) ∙ ok))))
 
 -- ---- what the program prints
 

@@ -1,4 +1,4 @@
--- Scripts and what is printed for them, by the definition: the sample that the program is run on, and a refusal.
+-- Scripts and what is printed for them, by the definition: the sample that the program is run on, and a refusal (RULES, The program; Refusals).
 use mathlib.Core.List.{[], _∷_}
 use mathlib.Core.Path.{_≡_, refl}
 use Rattle.part.specs.Part.{permitted}

@@ -58,7 +58,7 @@ doneLine ticks = ascii "answer 0 ticks " ++ decimalOf ticks ++ ascii "\n"
 
 -- the last line of a script that was refused: the number and the offset
 unfoldable pub refusedLine : ℕ → ℕ → List ℕ
-refusedLine number offset = ascii "answer " ++ decimalOf number ++ ascii " at " ++ (decimalOf offset ++ ascii "\n")
+refusedLine number offset = ascii "answer " ++ decimalOf number ++ ascii " " ++ (ascii "at " ++ decimalOf offset ++ ascii "\n")
 
 -- the only line for a script that is too long to be run
 abbrev pub tooLong : List ℕ
@@ -69,10 +69,6 @@ abbrev pub longestLine : ℕ
 longestLine = 43
 
 -- ---- bytes put into a text
-
--- the length of the text that the program prints into
-abbrev pub textRoom : ℕ
-textRoom = 262144
 
 -- what putting `new` into a text t at a place p leaves: the place after it, and the text
 pub record Put (t : List ℕ) (p : ℕ) (new : List ℕ) (p′ : ℕ) (t′ : List ℕ) : Type 0 where

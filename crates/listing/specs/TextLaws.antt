@@ -35,6 +35,9 @@ sets-more t p xs i h =
 pub put-none : (t : List ℕ) (p : ℕ) → Put t p [] p t
 put-none t p = record { end = sym (add-zero p); text = refl }
 
+pub put-byte : (t : List ℕ) (p b : ℕ) → Put t p (b ∷ []) (p + 1) (set t p b)
+put-byte t p b = record { end = refl; text = refl }
+
 pub put-then : {t u v : List ℕ} {p q r : ℕ} {xs ys : List ℕ} → Put t p xs q u → Put u q ys r v → Put t p (xs ++ ys) r v
 put-then {t} {u} {v} {p} {q} {r} {xs} {ys} a b =
     record {

@@ -1,13 +1,13 @@
 // What the program prints: a run on a blank part, with its records read back from the output, as text.
 ghost use mathlib.Core.Path.{_≡_};
-ghost use mathlib.Core.List.{_++_};
+ghost use mathlib.Core.List.{[], _∷_, _++_};
 ghost use Prim.Native.Nat.{_+_, _*_, _<_, _≤_};
 ghost use lib.ListN.{length, drop};
 ghost use Rattle.io.specs.Counts.{Counts};
 ghost use Rattle.script.specs.Script.{events};
-ghost use Rattle.listing.specs.Text.{decimalOf, hexDigit, lineOf, longestLine, textRoom, Put};
+ghost use Rattle.listing.specs.Text.{decimalOf, hexDigit, lineOf, longestLine, Put};
 ghost use Rattle.listing.specs.Output.{recordAt, readLines};
-ghost use Rattle.listing.specs.Report.{longestScript, runText, reportOf};
+ghost use Rattle.listing.specs.Report.{longestScript, textRoom, answerText, runText, reportOf};
 use chip::Chip;
 use chip::Record;
 use part::Part;
@@ -15,7 +15,7 @@ use part::Part;
 // The longest script that is run.
 pub const LONGEST: usize = 4096;
 
-// Room for all that is printed of a script: for each of its bytes more than any line has.
+// Room for all that is printed of a script: for each of its bytes more than a line needs.
 pub const ROOM: usize = 64 * LONGEST;
 
 // The record that stands at a place of a run's output.
@@ -46,18 +46,19 @@ fn put(text: &mut [u8], at: usize, bytes: &[u8]) -> usize
     at + bytes.len()
 }
 
-// Puts a number in decimal, with bytes before it and after it.
-fn put_number(text: &mut [u8; ROOM], at: usize, before: &[u8], n: u64, after: &[u8]) -> usize
-    requires { ⌜ at + length (now before) + 20 + length (now after) ≤ textRoom ⌝ }
-    ensures { λ r. ⌜ Put (now (text .entry)) at (now (before .entry) ++ decimalOf n ++ now (after .entry)) r (now (text .exit))
-        × (r ≤ at + length (now (before .entry)) + 20 + length (now (after .entry)))
+// Puts a label, a number in decimal, and a byte after it.
+fn put_number(text: &mut [u8; ROOM], at: usize, label: &[u8], n: u64, stop: u8) -> usize
+    requires { ⌜ at + length (now label) + 21 ≤ textRoom ⌝ }
+    ensures { λ r. ⌜ Put (now (text .entry)) at (now (label .entry) ++ decimalOf n ++ (stop ∷ [])) r (now (text .exit))
+        × (r ≤ at + length (now (label .entry)) + 21)
         × (r ≤ length (now (text .exit))) ⌝ }
 {
     let mut digits = [0u8; 20];
     let k = io::decimal(n, &mut digits);
-    let number = put(text, at, before);
+    let number = put(text, at, label);
     let end = put(text, number, &digits[..k]);
-    put(text, end, after)
+    text[end] = stop;
+    end + 1
 }
 
 // An upper-case hex digit.
@@ -76,7 +77,7 @@ fn put_line(text: &mut [u8; ROOM], at: usize, offset: usize, said: Record) -> us
     requires { ⌜ at + longestLine ≤ textRoom ⌝ }
     ensures { λ r. ⌜ Put (now (text .entry)) at (lineOf offset said) r (now (text .exit)) × (r ≤ at + longestLine) ⌝ }
 {
-    let word = put_number(text, at, b"", offset as u64, b" ");
+    let word = put_number(text, at, b"", offset as u64, b' ');
     match said {
         Record::Nothing => put(text, word, b"\n"),
         Record::Floating => put(text, word, b"--\n"),
@@ -84,7 +85,7 @@ fn put_line(text: &mut [u8; ROOM], at: usize, offset: usize, said: Record) -> us
             let digits = [hex_digit(b / 16), hex_digit(b % 16), b'\n'];
             put(text, word, &digits)
         }
-        Record::Verdict(v) => put_number(text, word, b"V", v as u64, b"\n"),
+        Record::Verdict(v) => put_number(text, word, b"V", v as u64, b'\n'),
     }
 }
 
@@ -110,19 +111,36 @@ fn put_lines(text: &mut [u8; ROOM], at: usize, s: &[u8], out: &[u8]) -> usize
     end
 }
 
+// Puts what follows line 1: the lines of the records and the last line, or the refusal.
+fn put_answer(
+    text: &mut [u8; ROOM],
+    at: usize,
+    s: &[u8],
+    out: &[u8],
+    refusal: u8,
+    offset: usize,
+    ticks: u64,
+) -> usize
+    requires { ⌜ (length (now s) ≤ longestScript) × (at ≤ longestLine) ⌝ }
+    ensures { λ r. ⌜ Put (now (text .entry)) at (answerText (readLines (events (now (s .entry))) (now (out .entry)) 0) refusal offset ticks) r (now (text .exit))
+        × (r ≤ length (now (text .exit))) ⌝ }
+{
+    if refusal != 0 {
+        let end = put_number(text, at, b"answer ", refusal as u64, b' ');
+        return put_number(text, end, b"at ", offset as u64, b'\n');
+    }
+    let end = put_lines(text, at, s, out);
+    put_number(text, end, b"answer 0 ticks ", ticks, b'\n')
+}
+
 // Runs a script, and puts what is printed of the run.
 fn put_run(text: &mut [u8; ROOM], chip: Chip, mem: &mut [u8], s: &[u8], out: &mut [u8]) -> usize
     requires { ⌜ length (now s) ≤ longestScript ⌝ }
     ensures { λ r. ⌜ Put (now (text .entry)) 0 (runText chip (now (mem .entry)) (now (s .entry)) (now (out .entry))) r (now (text .exit)) × (r ≤ length (now (text .exit))) ⌝ }
 {
-    let first = put_number(text, 0, b"part ", mem.len() as u64, b"\n");
+    let at = put_number(text, 0, b"part ", mem.len() as u64, b'\n');
     let r = script::run(chip, mem, s, out);
-    if r.refusal != 0 {
-        let offset = put_number(text, first, b"answer ", r.refusal as u64, b" at ");
-        return put_number(text, offset, b"", r.offset as u64, b"\n");
-    }
-    let last = put_lines(text, first, s, out);
-    put_number(text, last, b"answer 0 ticks ", r.ticks, b"\n")
+    put_answer(text, at, s, out, r.refusal, r.offset, r.ticks)
 }
 
 // What the program prints for a script: it stands at the start of the text, and the answer is its length.

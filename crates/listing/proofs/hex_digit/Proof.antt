@@ -1,25 +1,20 @@
+-- `hex_digit` takes the two sides of the definition: below ten a figure, from ten on a letter.
 use mathlib.Core.Path.{sym}
 use borrow.Author.Tests.{lt-ltb, le-ltb}
 use Rattle.cells.specs.Choice.{cond-yes, cond-no}
 use borrow.Author.Needs.{needs}
 use Rattle.listing.proofs.hex_digit.Statement.{statement}
 use Rattle.listing.proofs.hex_digit.Tie as tie
-use Rattle.listing.proofs.hex_digit.Reads as reads
-use Rattle.listing.proofs.hex_digit.Lts as lts
 
--- src/lib.rt:66:16
 add-result : tie.Need-add-result
 add-result c = search needs
 
--- src/lib.rt:66:9
 returns : tie.Need-returns
 returns c = sym (cond-yes _ _ _ (lt-ltb _ _ (c .if1 .taken)))
 
--- src/lib.rt:68:5
 add-result-2 : tie.Need-add-result-2
 add-result-2 c = search needs
 
--- src/lib.rt:61:1
 returns-2 : tie.Need-returns-2
 returns-2 c = sym (cond-no _ _ _ (le-ltb _ _ (c .if1 .left)))
 

@@ -1,3 +1,4 @@
+-- `put_lines` puts a line at each event that yields a record: at every turn, whoever puts those that are left has put them all (`Listing`).
 use Prim.Native.Nat.{ℕ, _+_, _-_}
 use mathlib.Core.Path.{sym, ap, _∙_}
 use native.Mathlib.Omega.{arith}
@@ -7,13 +8,6 @@ use Rattle.listing.proofs.Listing.{Listing, starts, ends, forward, sile
 use borrow.Author.Needs.{needs}
 use Rattle.listing.proofs.put_lines.Statement.{statement}
 use Rattle.listing.proofs.put_lines.Tie as tie
-use Rattle.listing.proofs.put_lines.Reads as reads
-use Rattle.listing.proofs.put_lines.Lts as lts
-use Rattle.chip.proofs.record_length.Reads as record-length-reads
-use Rattle.kinds.proofs.next_at.Reads as next-at-reads
-use Rattle.kinds.proofs.yields.Reads as yields-reads
-use Rattle.listing.proofs.put_line.Reads as put-line-reads
-use Rattle.listing.proofs.record_at.Reads as record-at-reads
 
 abbrev Inv-loop : tie.InvT-loop
 Inv-loop text₀ at s out end₀ offset₀ place₀ text end offset place = Listing s out text₀ at text end offset place
@@ -21,65 +15,50 @@ Inv-loop text₀ at s out end₀ offset₀ place₀ text end offset place = List
 abbrev μ-loop : tie.MeasureT-loop
 μ-loop text₀ at s out end₀ offset₀ place₀ text end offset place = length s - offset
 
--- src/lib.rt:100:5
 loop-holds : tie.Need-loop-holds Inv-loop μ-loop
 loop-holds c = starts _ _ _ _
 
--- src/lib.rt:101:27
 shared-slice-read-yields : tie.Need-shared-slice-read-yields Inv-loop μ-loop
 shared-slice-read-yields c = search needs
 
--- src/lib.rt:101:27
 cast-yields : tie.Need-cast-yields Inv-loop μ-loop
 cast-yields c = omega (arith, c .shared-slice-known3 .given (c .before .before .loop .offset))
 
--- src/lib.rt:101:13
 yields-requires : tie.Need-yields-requires Inv-loop μ-loop
 yields-requires c κs = search needs
 
--- src/lib.rt:102:13
 next-at-requires : tie.Need-next-at-requires Inv-loop μ-loop
 next-at-requires c κs = search needs
 
--- src/lib.rt:100:5
 loop-less : tie.Need-loop-less Inv-loop μ-loop
 loop-less c = omega (arith, forward (c .before .before .before .before .before .loop .inv) (c .before .before .before .before .loop-test .taken) _ (c .next-at .ensures), c .before .before .before .before .loop-test .taken)
 
--- src/lib.rt:100:5
 loop-again : tie.Need-loop-again Inv-loop μ-loop
 loop-again c = silent (c .before .before .before .before .before .loop .inv) (c .before .before .before .before .loop-test .taken) _ (c .next-at .ensures) (sym (c .before .before .yields .ensures) ∙ not-true _ (c .before .if1 .taken))
 
--- src/lib.rt:105:13
 record-at-requires : tie.Need-record-at-requires Inv-loop μ-loop
 record-at-requires c κs = omega (arith, c .before .before .before .before .loop .inv .read, c .before .before .before .loop-test .taken, c .before .before .before .before .before .before .before .pre .0)
 
--- src/lib.rt:106:9
 put-line-requires : tie.Need-put-line-requires Inv-loop μ-loop
 put-line-requires c κs = omega (arith, c .before .before .before .before .before .before .loop .inv .reached, c .before .before .before .before .before .loop-test .taken, c .before .before .before .before .before .before .before .before .before .pre .1)
 
--- src/lib.rt:107:18
 record-length-requires : tie.Need-record-length-requires Inv-loop μ-loop
 record-length-requires c κs = search needs
 
--- src/lib.rt:107:9
 add-place : tie.Need-add-place Inv-loop μ-loop
 add-place c = omega (arith, c .before .before .before .before .before .before .before .before .loop .inv .read, c .before .before .before .before .before .before .before .loop-test .taken, c .before .before .before .before .before .before .before .before .before .before .before .pre .0, c .record-length .ensures .1)
 
--- src/lib.rt:108:9
 next-at-requires-2 : tie.Need-next-at-requires-2 Inv-loop μ-loop
 next-at-requires-2 c κs = search needs
 
--- src/lib.rt:100:5
 loop-less-2 : tie.Need-loop-less-2 Inv-loop μ-loop
 loop-less-2 c = omega (arith, forward (c .before .before .before .before .before .before .before .before .before .loop .inv) (c .before .before .before .before .before .before .before .before .loop-test .taken) _ (c .next-at2 .ensures), c .before .before .before .before .before .before .before .before .loop-test .taken)
 
--- src/lib.rt:100:5
 loop-again-2 : tie.Need-loop-again-2 Inv-loop μ-loop
 loop-again-2 c =
     spoken (c .before .before .before .before .before .before .before .before .before .loop .inv) (c .before .before .before .before .before .before .before .before .loop-test .taken) _ (c .next-at2 .ensures) (sym (c .before .before .before .before .before .before .yields .ensures) ∙ not-false _ (c .before .before .before .before .before .if1 .left)) _ (c .before .before .before .before .record-at .ensures) _ _ _ (c .before .before .put-line .ensures)
     (ap (λ (n : ℕ). c .before .before .before .before .before .before .before .before .before .loop .place + n) (c .before .record-length .ensures .0))
 
--- src/lib.rt:92:1
 returns : tie.Need-returns Inv-loop μ-loop
 returns c = (ends (c .before .loop .inv) (c .loop-test .left), c .before .loop .inv .inside)
 

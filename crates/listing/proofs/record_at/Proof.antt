@@ -1,40 +1,31 @@
+-- `record_at` reads what the definition reads: each of the three first bytes picks its record.
 use borrow.Author.Tests.{ne-eqb}
 use Rattle.listing.specs.Output.{recordAt}
 use borrow.Author.Needs.{needs}
 use Rattle.listing.proofs.record_at.Statement.{statement}
 use Rattle.listing.proofs.record_at.Tie as tie
-use Rattle.listing.proofs.record_at.Reads as reads
-use Rattle.listing.proofs.record_at.Lts as lts
-use Rattle.cells.proofs.byte_at.Reads as byte-at-reads
 
--- src/lib.rt:26:9
 byte-at-requires : tie.Need-byte-at-requires
 byte-at-requires c κs = search needs
 
--- src/lib.rt:27:38
 add-byte-at : tie.Need-add-byte-at
 add-byte-at c = search needs
 
--- src/lib.rt:27:9
 byte-at-requires-2 : tie.Need-byte-at-requires-2
 byte-at-requires-2 c κs = search needs
 
--- src/lib.rt:22:1
 returns : tie.Need-returns
 unfolding recordAt
 returns c = rw (← c .before .before .byte-at .ensures, c .match .keys1)
 
--- src/lib.rt:22:1
 returns-2 : tie.Need-returns-2
 unfolding recordAt
 returns-2 c = rw (← c .before .before .byte-at .ensures, c .match .keys2, c .before .byte-at2 .ensures)
 
--- src/lib.rt:22:1
 returns-3 : tie.Need-returns-3
 unfolding recordAt
 returns-3 c = rw (← c .before .before .byte-at .ensures, c .match .keys3, c .before .byte-at2 .ensures)
 
--- src/lib.rt:22:1
 returns-4 : tie.Need-returns-4
 unfolding recordAt
 returns-4 c = rw (← c .before .before .byte-at .ensures, ne-eqb _ _ (c .match .rest .0 .0 .1), ne-eqb _ _ (c .match .rest .0 .1), ne-eqb _ _ (c .match .rest .1))

@@ -1,3 +1,4 @@
+-- `report` goes by the script's length: too long, only that line, else the run's text; either stands at the start of the text.
 use Prim.Native.Nat.{_*_}
 use mathlib.Core.Path.{sym, ap, _∙_}
 use native.Mathlib.Omega.{arith}
@@ -10,41 +11,28 @@ use Rattle.listing.specs.ReportLaws.{report-long, report-run}
 use borrow.Author.Needs.{needs}
 use Rattle.listing.proofs.report.Statement.{statement}
 use Rattle.listing.proofs.report.Tie as tie
-use Rattle.listing.proofs.report.Reads as reads
-use Rattle.listing.proofs.report.Lts as lts
-use Rattle.chip.proofs.Chip.fresh.Reads as fresh-reads
-use Rattle.listing.proofs.put.Reads as put-reads
-use Rattle.listing.proofs.put_run.Reads as put-run-reads
 
--- src/lib.rt:134:29
 slice-aggregate-put : tie.Need-slice-aggregate-put
 slice-aggregate-put c = search needs
 
--- src/lib.rt:134:9
 put-requires : tie.Need-put-requires
 put-requires c κs = search needs
 
--- src/lib.rt:134:9
 returns : tie.Need-returns
 returns c = put-start (put-as (report-long _ (c .before .before .before .if1 .taken)) (c .put .ensures)) (omega (arith, c .put .ensures .end, c .put .kept .0, c .before .before .put-arg .given .0))
 
--- src/lib.rt:138:19
 fresh-requires : tie.Need-fresh-requires
 fresh-requires c κs = search needs
 
--- src/lib.rt:138:35
 slice-aggregate-put-run : tie.Need-slice-aggregate-put-run
 slice-aggregate-put-run c = search needs
 
--- src/lib.rt:138:48
 slice-aggregate-put-run-2 : tie.Need-slice-aggregate-put-run-2
 slice-aggregate-put-run-2 c = search needs
 
--- src/lib.rt:138:5
 put-run-requires : tie.Need-put-run-requires
 put-run-requires c κs = search needs
 
--- src/lib.rt:129:1
 returns-2 : tie.Need-returns-2
 returns-2 c = put-start (put-as (report-run _ (c .before .before .before .before .before .before .before .if1 .left) ∙ ap (λ (k : Chip). runText k (replicate sector 255) (c .before .before .before .before .before .before .before .before .before .args .s .now) (replicate (2 * longestScript) 0)) (sym (c .before .before .before .before .before .fresh .ensures))) (c .before .before .put-run .ensures .0)) (c .before .before .put-run .ensures .1)
 
