@@ -5,7 +5,6 @@ use mathlib.Core.List.{List, _++_}
 use lib.Dec.{eqb}
 use lib.ListN.{length, take, replicate}
 use Rattle.part.specs.Part.{permitted}
-use Rattle.chip.specs.declared.Chip.{Chip}
 use Rattle.chip.specs.declared.Record.{Record}
 use Rattle.chip.specs.declared.Record.the-variants.{Nothing}
 use Rattle.chip.specs.Record.{recordBytes, longestRecord}
@@ -22,22 +21,21 @@ use Rattle.boundary.specs.Numbers.{isState, chipOf, numbersOf}
 abbrev pub padded : Record → List ℕ
 padded said = take longestRecord (recordBytes said ++ replicate longestRecord 0)
 
--- refused, the numbers are those given, to the last one; otherwise those of the new chip
-unfoldable pub numbersAfter : ChipNumbers → Chip → ℕ → ChipNumbers
-numbersAfter given chip refusal = cond (eqb refusal 0) (numbersOf chip) given
-
 -- numbers that are no state are refused by 2, after 1
 unfoldable pub noState : ℕ → ℕ
 noState n = cond (permitted n) 2 1
 
 -- ---- one event
 
+-- refused, the numbers are those given, to the last one; done, they are the new chip's
 abbrev pub refusedEvent : ChipNumbers → ℕ → EventNumbers
 refusedEvent given number = record { chip = given; refusal = number; size = 0; bytes = padded Nothing; ticks = 0 }
 
-abbrev pub eventNumbers : ChipNumbers → Answer → EventNumbers
-eventNumbers given a =
-    record { chip = numbersAfter given (a .chip) (a .refusal); refusal = a .refusal; size = length (recordBytes (a .said)); bytes = padded (a .said); ticks = a .ticks }
+abbrev pub doneEvent : Answer → EventNumbers
+doneEvent a = record { chip = numbersOf (a .chip); refusal = 0; size = length (recordBytes (a .said)); bytes = padded (a .said); ticks = a .ticks }
+
+unfoldable pub eventNumbers : ChipNumbers → Answer → EventNumbers
+eventNumbers given a = cond (eqb (a .refusal) 0) (doneEvent a) (refusedEvent given (a .refusal))
 
 -- the whole answer, and the memory afterwards
 unfoldable pub eventOf : ChipNumbers → List ℕ → ℕ → ℕ → EventNumbers
@@ -48,16 +46,18 @@ eventMemory c m kind body = cond (isState c) (alone.memoryOf (chipOf c) m kind b
 
 -- ---- a run
 
-abbrev pub refusedRun : ChipNumbers → ℕ → RunNumbers
-refusedRun given number = record { chip = given; refusal = number; offset = 0; written = 0; ticks = 0 }
+abbrev pub refusedRun : ChipNumbers → ℕ → ℕ → RunNumbers
+refusedRun given number offset = record { chip = given; refusal = number; offset = offset; written = 0; ticks = 0 }
 
-abbrev pub runNumbers : ChipNumbers → Ran → RunNumbers
-runNumbers given a =
-    record { chip = numbersAfter given (a .chip) (a .refusal); refusal = a .refusal; offset = a .offset; written = a .written; ticks = a .ticks }
+abbrev pub doneRun : Ran → RunNumbers
+doneRun a = record { chip = numbersOf (a .chip); refusal = 0; offset = 0; written = a .written; ticks = a .ticks }
+
+unfoldable pub runNumbers : ChipNumbers → Ran → RunNumbers
+runNumbers given a = cond (eqb (a .refusal) 0) (doneRun a) (refusedRun given (a .refusal) (a .offset))
 
 -- the whole answer, and the memory and the output afterwards
 unfoldable pub runOf : ChipNumbers → List ℕ → List ℕ → List ℕ → RunNumbers
-runOf c m s out = cond (isState c) (runNumbers c (script.answerOf (chipOf c) m s out)) (refusedRun c (noState (length m)))
+runOf c m s out = cond (isState c) (runNumbers c (script.answerOf (chipOf c) m s out)) (refusedRun c (noState (length m)) 0)
 
 unfoldable pub runMemory : ChipNumbers → List ℕ → List ℕ → List ℕ → List ℕ
 runMemory c m s out = cond (isState c) (script.memoryOf (chipOf c) m s out) m

@@ -1,16 +1,17 @@
 -- What is true of the numbers: a chip comes back from its numbers, and each answer by whether the numbers given are a state.
 use Prim.Native.Nat.{ℕ}
-use mathlib.Core.Bool.{Bool, true, false, cond, _&&_}
+use mathlib.Core.Bool.{Bool, true, false, _&&_}
 use mathlib.Core.List.{List}
 use mathlib.Core.Path.{_≡_, refl, sym, ap, _∙_}
-use lib.Dec.{leb}
+use lib.Dec.{eqb, leb}
+use borrow.Author.Tests.{eq-eqb, ne-eqb}
 use lib.ListN.{length}
 use Rattle.cells.specs.Choice.{cond-yes, cond-no}
 use Rattle.chip.specs.declared.Chip.{Chip}
 use Rattle.chip.specs.declared.JobKind.{JobKind}
 use Rattle.chip.specs.declared.JobKind.the-variants.{Idle, WriteStatus, Program, SmallErase, SectorErase, ChipErase}
 use Rattle.chip.specs.Fields.{withSelected}
-use Rattle.chip.specs.Legal.{legal}
+use Rattle.legal.specs.Legal.{legal}
 use Rattle.event.specs.declared.Answer.{Answer}
 use Rattle.event.specs.Alone as alone
 use Rattle.script.specs.declared.Ran.{Ran}
@@ -18,8 +19,8 @@ use Rattle.script.specs.Run as script
 use Rattle.boundary.specs.declared.ChipNumbers.{ChipNumbers}
 use Rattle.boundary.specs.declared.EventNumbers.{EventNumbers}
 use Rattle.boundary.specs.declared.RunNumbers.{RunNumbers}
-use Rattle.boundary.specs.Numbers.{kindNumber, kindValue, kindOf, flagNumber, flagOf, isState, chipOf, numbersOf, legalNumbers}
-use Rattle.boundary.specs.Answers.{noState, refusedEvent, eventNumbers, eventOf, eventMemory, refusedRun, runNumbers, runOf, runMemory, runOutput}
+use Rattle.boundary.specs.Numbers.{kindNumber, kindValue, kindOf, flagNumber, flagOf, isStateOf, isState, chipOf, numbersOf, legalNumbers}
+use Rattle.boundary.specs.Answers.{noState, refusedEvent, doneEvent, eventNumbers, eventOf, eventMemory, refusedRun, doneRun, runNumbers, runOf, runMemory, runOutput}
 
 -- ---- a chip comes back from its numbers
 
@@ -71,11 +72,31 @@ flag-small true = refl
 flag-small false = refl
 
 pub numbers-are-state : (c : Chip) → isState (numbersOf c) ≡ true
-unfolding isState numbersOf
+unfolding isStateOf numbersOf
 numbers-are-state c =
     rw
     (flag-small (c .core .tb), flag-small (c .core .srwp), flag-small (c .core .wen), flag-small (c .core .suspended), flag-small (c .core .wp), flag-small (c .core .deep), flag-small (c .core .armed), flag-small (c .frame .selected))
     (kind-small (c .core .job .kind))
+
+-- ---- an answer as numbers
+
+module _ (c : ChipNumbers) (a : Answer) where
+  pub event-refused : (a .refusal ≡ 0 → ⊥) → eventNumbers c a ≡ refusedEvent c (a .refusal)
+  unfolding eventNumbers
+  event-refused h = cond-no (eqb (a .refusal) 0) _ _ (ne-eqb _ _ h)
+
+  pub event-done : a .refusal ≡ 0 → eventNumbers c a ≡ doneEvent a
+  unfolding eventNumbers
+  event-done h = cond-yes (eqb (a .refusal) 0) _ _ (eq-eqb _ _ h)
+
+module _ (c : ChipNumbers) (a : Ran) where
+  pub run-refused : (a .refusal ≡ 0 → ⊥) → runNumbers c a ≡ refusedRun c (a .refusal) (a .offset)
+  unfolding runNumbers
+  run-refused h = cond-no (eqb (a .refusal) 0) _ _ (ne-eqb _ _ h)
+
+  pub run-done : a .refusal ≡ 0 → runNumbers c a ≡ doneRun a
+  unfolding runNumbers
+  run-done h = cond-yes (eqb (a .refusal) 0) _ _ (eq-eqb _ _ h)
 
 -- ---- legality; h is the chip that the numbers mean
 
@@ -112,9 +133,9 @@ module _ (c : ChipNumbers) (m : List ℕ) (kind body : ℕ) where
 -- ---- a run; a is its answer, z the memory and o the output afterwards
 
 module _ (c : ChipNumbers) (m s out : List ℕ) where
-  pub run-no-state : (v : ℕ) (r : RunNumbers) → isState c ≡ false → v ≡ noState (length m) → r ≡ refusedRun c v → r ≡ runOf c m s out
+  pub run-no-state : (v : ℕ) (r : RunNumbers) → isState c ≡ false → v ≡ noState (length m) → r ≡ refusedRun c v 0 → r ≡ runOf c m s out
   unfolding runOf
-  run-no-state v r over e p = p ∙ ap (refusedRun c) e ∙ sym (cond-no (isState c) (runNumbers c (script.answerOf (chipOf c) m s out)) (refusedRun c (noState (length m))) over)
+  run-no-state v r over e p = p ∙ ap (λ (n : ℕ). refusedRun c n 0) e ∙ sym (cond-no (isState c) (runNumbers c (script.answerOf (chipOf c) m s out)) (refusedRun c (noState (length m)) 0) over)
 
   pub run-memory-no-state : isState c ≡ false → m ≡ runMemory c m s out
   unfolding runMemory
@@ -128,7 +149,7 @@ module _ (c : ChipNumbers) (m s out : List ℕ) where
   unfolding runOf
   run-state h a r is e q p =
       p ∙ ap (runNumbers c) (q ∙ ap (λ (x : Chip). script.answerOf x m s out) e)
-      ∙ sym (cond-yes (isState c) (runNumbers c (script.answerOf (chipOf c) m s out)) (refusedRun c (noState (length m))) is)
+      ∙ sym (cond-yes (isState c) (runNumbers c (script.answerOf (chipOf c) m s out)) (refusedRun c (noState (length m)) 0) is)
 
   pub run-memory-state : (h : Chip) (z : List ℕ) → isState c ≡ true → h ≡ chipOf c → z ≡ script.memoryOf h m s out → z ≡ runMemory c m s out
   unfolding runMemory

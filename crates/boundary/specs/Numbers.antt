@@ -5,8 +5,9 @@ use lib.Dec.{eqb, leb}
 use Rattle.chip.specs.declared.Chip.{Chip}
 use Rattle.chip.specs.declared.JobKind.{JobKind}
 use Rattle.chip.specs.declared.JobKind.the-variants.{Idle, WriteStatus, Program, SmallErase, SectorErase, ChipErase}
-use Rattle.chip.specs.Legal.{legal}
+use Rattle.legal.specs.Legal.{legal}
 use Rattle.boundary.specs.declared.ChipNumbers.{ChipNumbers}
+use Rattle.boundary.specs.declared.FlagNumbers.{FlagNumbers}
 
 -- the numbers of the job kinds: 0 none, 1 write status, 2 program, 3 small sector erase, 4 sector erase, 5 chip erase
 abbrev pub kindNumber : JobKind → ℕ
@@ -43,10 +44,13 @@ abbrev pub flagOf : ℕ → Bool
 flagOf v = eqb v 1
 
 -- whether numbers are a state at all: no flag over 1, and over 5 no kind has a number
-unfoldable pub isState : ChipNumbers → Bool
-isState c =
-    leb (c .tb) 1 && leb (c .srwp) 1 && leb (c .wen) 1 && leb (c .suspended) 1 && leb (c .wp) 1 && leb (c .deep) 1 && leb (c .armed) 1 && leb (c .selected) 1
-    && leb (c .kind) 5
+unfoldable pub isStateOf : FlagNumbers → ℕ → Bool
+isStateOf f kind =
+    leb (f .tb) 1 && leb (f .srwp) 1 && leb (f .wen) 1 && leb (f .suspended) 1 && leb (f .wp) 1 && leb (f .deep) 1 && leb (f .armed) 1 && leb (f .selected) 1
+    && leb kind 5
+
+abbrev pub isState : ChipNumbers → Bool
+isState c = isStateOf (c .flags) (c .kind)
 
 -- the chip that numbers mean
 unfoldable pub chipOf : ChipNumbers → Chip
@@ -55,18 +59,18 @@ chipOf c =
       core =
           record {
             level = c .level;
-            tb = flagOf (c .tb);
-            srwp = flagOf (c .srwp);
-            wen = flagOf (c .wen);
-            suspended = flagOf (c .suspended);
-            wp = flagOf (c .wp);
-            deep = flagOf (c .deep);
-            armed = flagOf (c .armed);
+            tb = flagOf (c .flags .tb);
+            srwp = flagOf (c .flags .srwp);
+            wen = flagOf (c .flags .wen);
+            suspended = flagOf (c .flags .suspended);
+            wp = flagOf (c .flags .wp);
+            deep = flagOf (c .flags .deep);
+            armed = flagOf (c .flags .armed);
             job = record { kind = kindOf (c .kind) (c .value); start = c .start; done = c .done };
           };
       frame =
           record {
-            selected = flagOf (c .selected);
+            selected = flagOf (c .flags .selected);
             opcode = c .opcode;
             address = c .address;
             place = c .place;
@@ -82,14 +86,17 @@ chipOf c =
 unfoldable pub numbersOf : Chip → ChipNumbers
 numbersOf c =
     record {
-      tb = flagNumber (c .core .tb);
-      srwp = flagNumber (c .core .srwp);
-      wen = flagNumber (c .core .wen);
-      suspended = flagNumber (c .core .suspended);
-      wp = flagNumber (c .core .wp);
-      deep = flagNumber (c .core .deep);
-      armed = flagNumber (c .core .armed);
-      selected = flagNumber (c .frame .selected);
+      flags =
+          record {
+            tb = flagNumber (c .core .tb);
+            srwp = flagNumber (c .core .srwp);
+            wen = flagNumber (c .core .wen);
+            suspended = flagNumber (c .core .suspended);
+            wp = flagNumber (c .core .wp);
+            deep = flagNumber (c .core .deep);
+            armed = flagNumber (c .core .armed);
+            selected = flagNumber (c .frame .selected);
+          };
       level = c .core .level;
       kind = kindNumber (c .core .job .kind);
       value = kindValue (c .core .job .kind);

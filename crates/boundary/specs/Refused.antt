@@ -1,12 +1,10 @@
 -- A refusal touches nothing (RULES, Refusals): an answer that refuses has exactly the numbers that were given, the free ones too.
 use Prim.Native.Nat.{ℕ}
-use mathlib.Core.Bool.{Bool, true, cond}
+use mathlib.Core.Bool.{true}
 use mathlib.Core.List.{List}
 use mathlib.Core.Path.{_≡_, refl, sym, ap, _∙_}
-use lib.Dec.{eqb}
 use lib.ListN.{length}
-use borrow.Author.Tests.{ne-eqb, eqb-true}
-use Rattle.cells.specs.Choice.{cond-no, cond-either}
+use Rattle.cells.specs.Choice.{cond-either, chosen-number}
 use Rattle.chip.specs.declared.Chip.{Chip}
 use Rattle.event.specs.declared.Answer.{Answer}
 use Rattle.event.specs.Alone as alone
@@ -18,12 +16,17 @@ use Rattle.boundary.specs.declared.ChipNumbers.{ChipNumbers}
 use Rattle.boundary.specs.declared.EventNumbers.{EventNumbers}
 use Rattle.boundary.specs.declared.RunNumbers.{RunNumbers}
 use Rattle.boundary.specs.Numbers.{isState, chipOf}
-use Rattle.boundary.specs.Answers.{numbersAfter, eventOf, eventMemory, runOf, runMemory, runOutput}
-use Rattle.boundary.specs.Laws.{event-state, run-state}
+use Rattle.boundary.specs.Answers.{refusedEvent, doneEvent, eventNumbers, eventOf, eventMemory, refusedRun, doneRun, runNumbers, runOf, runMemory, runOutput}
+use Rattle.boundary.specs.Laws.{event-state, event-refused, run-state, run-refused}
 
-after-refusal : (given : ChipNumbers) (chip : Chip) (refusal : ℕ) → (refusal ≡ 0 → ⊥) → numbersAfter given chip refusal ≡ given
-unfolding numbersAfter
-after-refusal given chip refusal h = cond-no _ _ _ (ne-eqb _ _ h)
+-- the number in an answer's numbers is the answer's
+event-number : (c : ChipNumbers) (a : Answer) → eventNumbers c a .refusal ≡ a .refusal
+unfolding eventNumbers
+event-number c a = chosen-number (λ (r : EventNumbers). r .refusal) (a .refusal) (doneEvent a) (refusedEvent c (a .refusal)) refl refl
+
+run-number : (c : ChipNumbers) (a : Ran) → runNumbers c a .refusal ≡ a .refusal
+unfolding runNumbers
+run-number c a = chosen-number (λ (r : RunNumbers). r .refusal) (a .refusal) (doneRun a) (refusedRun c (a .refusal) (a .offset)) refl refl
 
 -- ---- one event
 
@@ -31,11 +34,11 @@ module _ (c : ChipNumbers) (m : List ℕ) (kind body : ℕ) (no : eventOf c m ki
   pub event-numbers-as-given : eventOf c m kind body .chip ≡ c
   unfolding eventOf
   event-numbers-as-given =
-      cond-either (λ (r : EventNumbers). (r .refusal ≡ 0 → ⊥) → r .chip ≡ c) (isState c) _ _ (λ _ h. after-refusal c _ _ h) (λ _ _. refl) no
+      cond-either (λ (r : EventNumbers). (r .refusal ≡ 0 → ⊥) → r .chip ≡ c) (isState c) _ _ (λ _ h. ap (λ (r : EventNumbers). r .chip) (event-refused c _ (λ z. h (event-number c _ ∙ z)))) (λ _ _. refl) no
 
   event-refused-inside : isState c ≡ true → alone.refusal (chipOf c) (length m) kind body ≡ 0 → ⊥
   event-refused-inside is e =
-      no (ap (λ (r : EventNumbers). r .refusal) (sym (event-state c m kind body (chipOf c) _ _ is refl refl refl)) ∙ alone-laws.answer-number (chipOf c) m kind body ∙ e)
+      no (ap (λ (r : EventNumbers). r .refusal) (sym (event-state c m kind body (chipOf c) _ _ is refl refl refl)) ∙ event-number c _ ∙ alone-laws.answer-number (chipOf c) m kind body ∙ e)
 
   pub event-memory-as-given : eventMemory c m kind body ≡ m
   unfolding eventMemory
@@ -48,11 +51,11 @@ module _ (c : ChipNumbers) (m s out : List ℕ) (no : runOf c m s out .refusal �
   pub run-numbers-as-given : runOf c m s out .chip ≡ c
   unfolding runOf
   run-numbers-as-given =
-      cond-either (λ (r : RunNumbers). (r .refusal ≡ 0 → ⊥) → r .chip ≡ c) (isState c) _ _ (λ _ h. after-refusal c _ _ h) (λ _ _. refl) no
+      cond-either (λ (r : RunNumbers). (r .refusal ≡ 0 → ⊥) → r .chip ≡ c) (isState c) _ _ (λ _ h. ap (λ (r : RunNumbers). r .chip) (run-refused c _ (λ z. h (run-number c _ ∙ z)))) (λ _ _. refl) no
 
   run-refused-inside : isState c ≡ true → script.refusal (chipOf c) (length m) s (length out) .number ≡ 0 → ⊥
   run-refused-inside is e =
-      no (ap (λ (r : RunNumbers). r .refusal) (sym (run-state c m s out (chipOf c) _ _ is refl refl refl)) ∙ script-laws.answer-number (chipOf c) m s out ∙ e)
+      no (ap (λ (r : RunNumbers). r .refusal) (sym (run-state c m s out (chipOf c) _ _ is refl refl refl)) ∙ run-number c _ ∙ script-laws.answer-number (chipOf c) m s out ∙ e)
 
   pub run-memory-as-given : runMemory c m s out ≡ m
   unfolding runMemory

@@ -6,8 +6,8 @@
 // is promised where it does not hold. Any number may stand in any field: what is no state is refused by 2.
 ghost use mathlib.Core.Path.{_≡_};
 ghost use Rattle.chip.specs.Chip.{fresh};
-ghost use Rattle.boundary.specs.Numbers.{kindOf, kindNumber, kindValue, flagNumber, isState, chipOf, numbersOf, legalNumbers};
-ghost use Rattle.boundary.specs.Answers.{padded, numbersAfter, noState, refusedEvent, eventNumbers, eventOf, eventMemory, refusedRun, runNumbers, runOf, runMemory, runOutput};
+ghost use Rattle.boundary.specs.Numbers.{kindOf, kindNumber, kindValue, flagNumber, isStateOf, chipOf, numbersOf, legalNumbers};
+ghost use Rattle.boundary.specs.Answers.{padded, noState, refusedEvent, doneEvent, eventOf, eventMemory, refusedRun, doneRun, runOf, runMemory, runOutput};
 use chip::Chip;
 use chip::Core;
 use chip::Frame;
@@ -17,10 +17,9 @@ use chip::Record;
 use event::Answer;
 use script::Ran;
 
-// A chip: `kind`, `value`, `start` and `done` are its job, `place` is the read place and `slot` the load place of its frame.
-// The first eight are flags: 1 for true, 0 for false. Kinds: 0 no job, 1 write status of `value`, 2 program, 3 small sector erase, 4 sector erase, 5 chip erase.
+// The flags of a chip: 1 for true, 0 for false.
 #[repr(C)]
-pub struct ChipNumbers {
+pub struct FlagNumbers {
     pub tb: u8,
     pub srwp: u8,
     pub wen: u8,
@@ -29,6 +28,13 @@ pub struct ChipNumbers {
     pub deep: u8,
     pub armed: u8,
     pub selected: u8,
+}
+
+// A chip: `kind`, `value`, `start` and `done` are its job, `place` is the read place and `slot` the load place of its frame.
+// Kinds: 0 no job, 1 write status of `value`, 2 program, 3 small sector erase, 4 sector erase, 5 chip erase.
+#[repr(C)]
+pub struct ChipNumbers {
+    pub flags: FlagNumbers,
     pub level: u8,
     pub kind: u8,
     pub value: u8,
@@ -115,38 +121,39 @@ fn flag_number(set: bool) -> u8
     0
 }
 
-// Whether numbers are a state at all.
-fn is_state(c: ChipNumbers) -> bool
-    ensures { λ r. ⌜ r ≡ isState c ⌝ }
+// Whether numbers are a state at all: their flags, and the kind of their job.
+fn is_state(flags: FlagNumbers, kind: u8) -> bool
+    ensures { λ r. ⌜ r ≡ isStateOf flags kind ⌝ }
 {
-    (c.tb <= 1)
-        & (c.srwp <= 1)
-        & (c.wen <= 1)
-        & (c.suspended <= 1)
-        & (c.wp <= 1)
-        & (c.deep <= 1)
-        & (c.armed <= 1)
-        & (c.selected <= 1)
-        & (c.kind <= 5)
+    (flags.tb <= 1)
+        & (flags.srwp <= 1)
+        & (flags.wen <= 1)
+        & (flags.suspended <= 1)
+        & (flags.wp <= 1)
+        & (flags.deep <= 1)
+        & (flags.armed <= 1)
+        & (flags.selected <= 1)
+        & (kind <= 5)
 }
 
 // The chip that numbers mean.
 fn chip_of(c: ChipNumbers) -> Chip
     ensures { λ r. ⌜ r ≡ chipOf c ⌝ }
 {
+    let flags = c.flags;
     let kind = kind_of(c.kind, c.value);
     let load = c.load;
     let held = c.held;
     Chip {
         core: Core {
             level: c.level,
-            tb: c.tb == 1,
-            srwp: c.srwp == 1,
-            wen: c.wen == 1,
-            suspended: c.suspended == 1,
-            wp: c.wp == 1,
-            deep: c.deep == 1,
-            armed: c.armed == 1,
+            tb: flags.tb == 1,
+            srwp: flags.srwp == 1,
+            wen: flags.wen == 1,
+            suspended: flags.suspended == 1,
+            wp: flags.wp == 1,
+            deep: flags.deep == 1,
+            armed: flags.armed == 1,
             job: Job {
                 kind: kind,
                 start: c.start,
@@ -154,7 +161,7 @@ fn chip_of(c: ChipNumbers) -> Chip
             },
         },
         frame: Frame {
-            selected: c.selected == 1,
+            selected: flags.selected == 1,
             opcode: c.opcode,
             address: c.address,
             place: c.place,
@@ -178,14 +185,16 @@ fn numbers_of(chip: Chip) -> ChipNumbers
     let load = chip.load;
     let held = chip.held;
     ChipNumbers {
-        tb: flag_number(core.tb),
-        srwp: flag_number(core.srwp),
-        wen: flag_number(core.wen),
-        suspended: flag_number(core.suspended),
-        wp: flag_number(core.wp),
-        deep: flag_number(core.deep),
-        armed: flag_number(core.armed),
-        selected: flag_number(frame.selected),
+        flags: FlagNumbers {
+            tb: flag_number(core.tb),
+            srwp: flag_number(core.srwp),
+            wen: flag_number(core.wen),
+            suspended: flag_number(core.suspended),
+            wp: flag_number(core.wp),
+            deep: flag_number(core.deep),
+            armed: flag_number(core.armed),
+            selected: flag_number(frame.selected),
+        },
         level: core.level,
         kind: kind_number(kind),
         value: kind_value(kind),
@@ -200,16 +209,6 @@ fn numbers_of(chip: Chip) -> ChipNumbers
         load: load,
         held: held,
     }
-}
-
-// The numbers that an answer comes with: refused, exactly those given; otherwise the new chip's.
-fn numbers_after(given: ChipNumbers, chip: Chip, refusal: u8) -> ChipNumbers
-    ensures { λ r. ⌜ r ≡ numbersAfter given chip refusal ⌝ }
-{
-    if refusal != 0 {
-        return given;
-    }
-    numbers_of(chip)
 }
 
 // What refuses numbers that are no state, on a memory of n cells.
@@ -246,41 +245,40 @@ fn refuse_event(given: ChipNumbers, number: u8) -> EventNumbers
     }
 }
 
-fn event_numbers(given: ChipNumbers, a: Answer) -> EventNumbers
-    ensures { λ r. ⌜ r ≡ eventNumbers given a ⌝ }
+fn event_done(a: Answer) -> EventNumbers
+    ensures { λ r. ⌜ r ≡ doneEvent a ⌝ }
 {
     let chip = a.chip;
     let said = a.said;
-    let number = a.refusal;
     EventNumbers {
-        chip: numbers_after(given, chip, number),
-        refusal: number,
+        chip: numbers_of(chip),
+        refusal: 0,
         size: chip::record_length(said) as u8,
         bytes: bytes_of(said),
         ticks: a.ticks,
     }
 }
 
-fn refuse_run(given: ChipNumbers, number: u8) -> RunNumbers
-    ensures { λ r. ⌜ r ≡ refusedRun given number ⌝ }
+fn refuse_run(given: ChipNumbers, number: u8, offset: usize) -> RunNumbers
+    ensures { λ r. ⌜ r ≡ refusedRun given number offset ⌝ }
 {
     RunNumbers {
         chip: given,
         refusal: number,
-        offset: 0,
+        offset: offset,
         written: 0,
         ticks: 0,
     }
 }
 
-fn run_numbers(given: ChipNumbers, a: Ran) -> RunNumbers
-    ensures { λ r. ⌜ r ≡ runNumbers given a ⌝ }
+fn run_done(a: Ran) -> RunNumbers
+    ensures { λ r. ⌜ r ≡ doneRun a ⌝ }
 {
     let chip = a.chip;
     RunNumbers {
-        chip: numbers_after(given, chip, a.refusal),
-        refusal: a.refusal,
-        offset: a.offset,
+        chip: numbers_of(chip),
+        refusal: 0,
+        offset: 0,
         written: a.written,
         ticks: a.ticks,
     }
@@ -299,10 +297,10 @@ pub extern "C" fn chip_fresh(status: u8) -> ChipNumbers
 pub extern "C" fn chip_legal(c: ChipNumbers, n: usize) -> bool
     ensures { λ r. ⌜ r ≡ legalNumbers c n ⌝ }
 {
-    if !is_state(c) {
+    if !is_state(c.flags, c.kind) {
         return false;
     }
-    chip::is_legal(chip_of(c), n)
+    legal::is_legal(chip_of(c), n)
 }
 
 // One event alone, for every kind, body, state and memory length.
@@ -310,10 +308,14 @@ pub extern "C" fn chip_legal(c: ChipNumbers, n: usize) -> bool
 pub extern "C" fn chip_event(c: ChipNumbers, mem: &mut [u8], kind: u64, body: u64) -> EventNumbers
     ensures { λ r. ⌜ (r ≡ eventOf c (now (mem .entry)) kind body) × (now (mem .exit) ≡ eventMemory c (now (mem .entry)) kind body) ⌝ }
 {
-    if !is_state(c) {
+    if !is_state(c.flags, c.kind) {
         return refuse_event(c, no_state(mem.len()));
     }
-    event_numbers(c, event::event(chip_of(c), mem, kind, body))
+    let a = event::event(chip_of(c), mem, kind, body);
+    if a.refusal != 0 {
+        return refuse_event(c, a.refusal);
+    }
+    event_done(a)
 }
 
 // The same event, on a chip that is lent.
@@ -326,10 +328,14 @@ pub extern "C" fn chip_event_lent(
 ) -> EventNumbers
     ensures { λ r. ⌜ (r ≡ eventOf c (now (mem .entry)) kind body) × (now (mem .exit) ≡ eventMemory c (now (mem .entry)) kind body) ⌝ }
 {
-    if !is_state(c) {
+    if !is_state(c.flags, c.kind) {
         return refuse_event(c, no_state(mem.len()));
     }
-    event_numbers(c, lent::event_by_lending(chip_of(c), mem, kind, body))
+    let a = lent::event_by_lending(chip_of(c), mem, kind, body);
+    if a.refusal != 0 {
+        return refuse_event(c, a.refusal);
+    }
+    event_done(a)
 }
 
 // A script run, for every state, memory, script and output.
@@ -344,8 +350,12 @@ pub extern "C" fn chip_run(
         × (now (mem .exit) ≡ runMemory c (now (mem .entry)) (now (script .entry)) (now (out .entry)))
         × (now (out .exit) ≡ runOutput c (now (mem .entry)) (now (script .entry)) (now (out .entry))) ⌝ }
 {
-    if !is_state(c) {
-        return refuse_run(c, no_state(mem.len()));
+    if !is_state(c.flags, c.kind) {
+        return refuse_run(c, no_state(mem.len()), 0);
     }
-    run_numbers(c, script::run(chip_of(c), mem, script, out))
+    let a = script::run(chip_of(c), mem, script, out);
+    if a.refusal != 0 {
+        return refuse_run(c, a.refusal, a.offset);
+    }
+    run_done(a)
 }

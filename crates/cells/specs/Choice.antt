@@ -16,11 +16,6 @@ pub cond-either : {A : Type 0} (P : A → Type 0) (b : Bool) (x y : A) → (b �
 cond-either P true x y p q = p refl
 cond-either P false x y p q = q refl
 
--- a function of a choice is the choice of its values
-pub cond-ap : {A B : Type 0} (f : A → B) (b : Bool) (x y : A) → f (cond b x y) ≡ cond b (f x) (f y)
-cond-ap f true x y = refl
-cond-ap f false x y = refl
-
 -- an answer chosen by a refusal's number, 0 for done, has that number
 pub chosen-number : {A : Type 0} (number : A → ℕ) (n : ℕ) (done refused : A) → number done ≡ 0 → number refused ≡ n → number (cond (eqb n 0) done refused) ≡ n
 chosen-number number n done refused d r = cond-either (λ a. number a ≡ n) (eqb n 0) done refused (λ e. d ∙ sym (eqb-true n 0 e)) (λ _. r)

@@ -1,7 +1,7 @@
 // The cells of the array: what the steps of a job write, each function with the whole memory in its contract.
 ghost use mathlib.Core.Path.{_≡_};
-ghost use Prim.Native.Nat.{_-_, min};
-ghost use lib.ListN.{length, getD};
+ghost use Prim.Native.Nat.{min, _-_};
+ghost use lib.ListN.{getD};
 ghost use Rattle.cells.specs.Cells.{sweep, blanked, anded, later};
 
 // The byte at a place, or 0 past the end.

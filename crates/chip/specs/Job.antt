@@ -1,6 +1,6 @@
 -- A job: its size, its steps, what a step does to a cell (RULES, Jobs).
 use Prim.Native.Nat.{ℕ, _+_, _*_}
-use mathlib.Core.Bool.{Bool, true, false, not}
+use mathlib.Core.Bool.{Bool, true, false}
 use mathlib.Core.List.{List}
 use Rattle.cells.specs.Cells.{Rule, sweep, image, blanked, anded, later}
 use Rattle.part.specs.Part.{page, smallSector, sector, lengthOf}

@@ -9,15 +9,15 @@ use native.Mathlib.Omega.{arith}
 use lib.Dec.{eqb, ltb}
 use lib.ListN.{length, getD, length-append, List·getD-append}
 use lib.Seq.{getD-append-add}
-use borrow.Author.Tests.{eq-eqb, ne-eqb, eqb-false, lt-ltb, le-ltb}
-use Rattle.cells.specs.Choice.{cond-yes, cond-no}
+use borrow.Author.Tests.{ne-eqb, eqb-false, lt-ltb, le-ltb}
+use Rattle.cells.specs.Choice.{cond-no}
 use Rattle.part.specs.Part.{permitted, sectors, Setting, settingOf}
 use Rattle.kinds.specs.Kinds.{knownKind, bodyLength, inRange, roomOf}
 use Rattle.kinds.specs.Body.{numberAt, bodyAt, nextAt}
 use Rattle.chip.specs.declared.Chip.{Chip}
 use Rattle.chip.specs.Chip.{NoLeftovers}
 use Rattle.chip.specs.Record.{recordBytes}
-use Rattle.chip.specs.Legal.{legal}
+use Rattle.legal.specs.Legal.{legal}
 use Rattle.event.specs.Event.{Outcome, applied}
 use Rattle.event.specs.Alone.{bodyUsed}
 use Rattle.event.specs.Alone as Alone

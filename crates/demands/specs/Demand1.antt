@@ -1,6 +1,6 @@
 -- Demand 1. Whatever comes in is answered, and in one way only: events, scripts, memories of any length, chips in any state. What is wrong is turned away by its
 -- number (RULES, Refusals), and nothing that was lent has changed.
-use Prim.Native.Nat.{ℕ, zero, suc, _<_, _≤_, zero-le}
+use Prim.Native.Nat.{ℕ, zero, suc, _≤_, zero-le}
 use mathlib.Core.Bool.{Bool, true, false, cond, not, _||_, true≢false, false≢true}
 use mathlib.Core.List.{List, [], _∷_, _++_}
 use mathlib.Core.Path.{_≡_, refl, sym, ap, subst, _∙_}
@@ -9,18 +9,16 @@ use native.Mathlib.Decide.{ℕ-discrete}
 use native.Mathlib.Omega.{arith}
 use lib.Dec.{eqb, ltb, leb}
 use lib.ListN.{length, getD}
-use borrow.Author.Tests.{eq-eqb, ne-eqb, eqb-true, eqb-false, ltb-true, ltb-false, lt-ltb, le-ltb}
+use borrow.Author.Tests.{eq-eqb, ne-eqb, eqb-true, eqb-false, ltb-true, ltb-false}
 use Rattle.cells.specs.Choice.{cond-yes, cond-no, cond-either}
 use Rattle.part.specs.Part.{permitted}
 use Rattle.chip.specs.declared.Chip.{Chip}
 use Rattle.chip.specs.declared.Record.the-variants.{Nothing}
-use Rattle.chip.specs.Legal.{legal}
-use Rattle.event.specs.declared.Answer.{Answer}
+use Rattle.legal.specs.Legal.{legal}
 use Rattle.kinds.specs.Kinds.{knownKind, inRange}
 use Rattle.kinds.specs.Body.{bodyAt, nextAt}
 use Rattle.event.specs.Alone as Alone
 use Rattle.event.specs.Laws as EventLaws
-use Rattle.script.specs.declared.Ran.{Ran}
 use Rattle.script.specs.Script.{Event, faultAt, eventAt, Refusal, refusalOf, events, eventsFrom, walk, firstBad, room}
 use Rattle.script.specs.Run as Run
 use Rattle.script.specs.Laws as ScriptLaws

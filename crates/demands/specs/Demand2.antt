@@ -1,10 +1,9 @@
 -- Demand 2. Each event does what the part does, as the rule book has it. The engine equals the definitions by its contracts (`event::event`, `script::run`);
 -- here stands what a reader of the datasheet looks for in them.
-use Prim.Native.Nat.{ℕ, zero, suc, _+_, _*_, _-_, _/_, _%_, _<_, _≤_}
+use Prim.Native.Nat.{ℕ, zero, suc, _+_, _*_, _/_, _%_, _<_, _≤_, _-_}
 use mathlib.Core.Bool.{Bool, true, false, cond, not, _&&_, _||_, false≢true}
 use mathlib.Core.List.{List, [], _∷_}
 use mathlib.Core.Path.{_≡_, refl, sym, ap, _∙_}
-use mathlib.Core.Logic.{_⊎_, inl, inr}
 use native.Mathlib.Nat.{add-zero, mul-one, mul-zero, mod-lt, mod-self, mod-eq-of-lt, mod-add-mod}
 use native.Mathlib.Decide.{decLt}
 use native.Mathlib.Omega.{arith}
@@ -13,10 +12,10 @@ use lib.ListN.{length, getD, set, length-set}
 use lib.Seq.{getD-set-same, getD-set-other}
 use borrow.Author.Tests.{lt-ltb, le-ltb, le-leb, lt-leb, leb-true, eqb-true, eq-eqb, ne-eqb}
 use Rattle.cells.specs.Choice.{cond-yes, cond-no, cond-either, and-left, and-right, and-both}
-use Rattle.part.specs.Part.{Setting, lengthOf, sector, jedecByte, deviceByte}
-use Rattle.part.specs.Table.{rowOf, fitsRule, isRead, isProgram, pageProgram, pageProgram′, lowPowerRead, highSpeedRead, jedecId, wake}
+use Rattle.part.specs.Part.{permitted, Setting, settingOf, lengthOf, sector, jedecByte, deviceByte}
+use Rattle.part.specs.Laws.{permitted-whole}
+use Rattle.commands.specs.Table.{rowOf, fitsRule, isRead, isProgram, pageProgram, pageProgram′, lowPowerRead, highSpeedRead, jedecId, wake}
 use Rattle.part.specs.Protection.{protectedCount, protectedSector}
-use Rattle.part.specs.Laws.{protectedCount-le}
 use Rattle.chip.specs.declared.Core.{Core}
 use Rattle.chip.specs.declared.Frame.{Frame}
 use Rattle.chip.specs.declared.JobKind.{JobKind}
@@ -270,21 +269,27 @@ device-byte T k f load m b e h =
     taken-device T k f load m b (ap (λ (q : ℕ). eqb q lowPowerRead && leb 4 (f .count) || eqb q highSpeedRead && leb 5 (f .count)) e) (ap (λ (q : ℕ). isProgram q && leb 4 (f .count)) e) (λ x. omega arith) (λ x. omega arith)
     (and-both (eqb (f .opcode) wake) (leb 4 (f .count)) (eq-eqb _ _ e) (le-leb _ _ h))
 
+-- ---- the part and its memory
+
+-- The part that a memory goes with has as many cells as the memory, so that addresses and reads go round at the memory's end.
+pub part-is-memory : (m : List ℕ) → permitted (length m) ≡ true → lengthOf (settingOf (length m) .sectors) ≡ length m
+part-is-memory m p = permitted-whole (length m) p
+
 -- ---- protection by address: the two ends of the protected range
 
--- A place is protected exactly when its sector is among the first (TB 1) or the last (TB 0) of the level's count.
-pub protected-bottom : (L S place : ℕ) → place < protectedCount L S * sector → protectedSector L true S (place / sector) ≡ true
+-- A cell is protected exactly when its sector is among the first (TB 1) or the last (TB 0) of the level's count.
+pub protected-bottom : (L S cell : ℕ) → cell < protectedCount L S * sector → protectedSector L true S (cell / sector) ≡ true
 unfolding protectedSector
-protected-bottom L S place h = lt-ltb (place / sector) (protectedCount L S) (omega arith)
+protected-bottom L S cell h = lt-ltb (cell / sector) (protectedCount L S) (omega arith)
 
-pub free-above : (L S place : ℕ) → protectedCount L S * sector ≤ place → protectedSector L true S (place / sector) ≡ false
+pub free-above : (L S cell : ℕ) → protectedCount L S * sector ≤ cell → protectedSector L true S (cell / sector) ≡ false
 unfolding protectedSector
-free-above L S place h = le-ltb (place / sector) (protectedCount L S) (omega arith)
+free-above L S cell h = le-ltb (cell / sector) (protectedCount L S) (omega arith)
 
-pub protected-top : (L S place : ℕ) → (S - protectedCount L S) * sector ≤ place → protectedSector L false S (place / sector) ≡ true
+pub protected-top : (L S cell : ℕ) → (S - protectedCount L S) * sector ≤ cell → protectedSector L false S (cell / sector) ≡ true
 unfolding protectedSector
-protected-top L S place h = le-leb (S - protectedCount L S) (place / sector) (omega arith)
+protected-top L S cell h = le-leb (S - protectedCount L S) (cell / sector) (omega arith)
 
-pub free-below : (L S place : ℕ) → place < (S - protectedCount L S) * sector → protectedSector L false S (place / sector) ≡ false
+pub free-below : (L S cell : ℕ) → cell < (S - protectedCount L S) * sector → protectedSector L false S (cell / sector) ≡ false
 unfolding protectedSector
-free-below L S place h = lt-leb (S - protectedCount L S) (place / sector) (omega arith)
+free-below L S cell h = lt-leb (S - protectedCount L S) (cell / sector) (omega arith)

@@ -1,26 +1,25 @@
 -- Demand 3. However a job is cut up by suspends, resumes and reads, the memory that it ends with is the one that it found, changed by its whole image and by nothing
 -- else. Before that the steps done are the first k, one for each tick that found it running, and those k are what a reset or a power cut leaves (RULES, Jobs).
-use Prim.Native.Nat.{ℕ, zero, suc, _+_, _*_, _<_, _≤_}
-use mathlib.Core.Bool.{Bool, true, false}
-use mathlib.Core.List.{List, [], _∷_, _++_}
+use Prim.Native.Nat.{ℕ, _+_, _*_, _<_, _≤_}
+use mathlib.Core.List.{List, [], _∷_}
 use mathlib.Core.Path.{_≡_, refl, sym, ap, subst, fun-ext, _∙_}
 use mathlib.Core.Logic.{_⊎_, inl, inr, ⊎-elim}
 use native.Mathlib.Nat.{add-zero, zero-add, add-assoc, zero-mul, add-mul, mul-le-mul-right}
 use native.Mathlib.Omega.{arith}
-use lib.ListN.{length, getD}
-use Rattle.cells.specs.Cells.{Rule, sweep, image, later}
-use Rattle.cells.specs.Laws.{sweep-image, sweep-outside, image-outside}
-use Rattle.cells.specs.Stepping.{laid, Machine, Stands, stands}
+use lib.ListN.{getD}
+use Rattle.cells.specs.Cells.{Rule, sweep, later}
+use Rattle.cells.specs.Laws.{sweep-image, sweep-outside}
+use Rattle.cells.specs.Stepping.{Stands, stands}
 use Rattle.cells.specs.Stepping as Stepping
 use Rattle.part.specs.Part.{Setting}
 use Rattle.kinds.specs.Kinds.{TICK, TICKS}
 use Rattle.chip.specs.declared.JobKind.{JobKind}
 use Rattle.chip.specs.declared.JobKind.the-variants.{Idle, WriteStatus, Program, SmallErase, SectorErase, ChipErase}
-use Rattle.chip.specs.Job.{isJob, total, unit, span, rule, steps, wholeImage}
+use Rattle.chip.specs.Job.{total, unit, span, rule, steps, wholeImage}
 use Rattle.event.specs.Keeps.{cells-stay}
 use Rattle.script.specs.Script.{Event}
 use Rattle.script.specs.Run.{World, does, onward, runs}
-use Rattle.demands.specs.JobSteps.{Bits, bitsOf, bitsAfter, Spares, AtStep, JobOver, stepOf, laid-steps, machine}
+use Rattle.demands.specs.JobSteps.{Bits, bitsOf, Spares, AtStep, JobOver, laid-steps, machine}
 
 -- ---- the words
 

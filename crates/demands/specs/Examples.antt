@@ -3,18 +3,17 @@ use Prim.Native.Nat.{ℕ, zero, suc, _+_, _%_, _<_, _≤_, zero-le}
 use mathlib.Core.Bool.{Bool, true, false}
 use mathlib.Core.List.{List, [], _∷_, _++_}
 use mathlib.Core.Path.{_≡_, refl, sym, ap, subst, _∙_}
-use mathlib.Core.Logic.{inl, inr}
+use mathlib.Core.Logic.{inr}
 use native.Mathlib.Nat.{zero-add, add-zero}
 use native.Mathlib.Omega.{arith}
 use lib.Bits.{bitAnd}
-use lib.Dec.{eqb, ltb, leb}
 use lib.ListN.{length, getD}
 use borrow.Author.Tests.{lt-ltb, le-leb}
 use Rattle.cells.specs.Cells.{sweep, later, blanked, anded}
 use Rattle.cells.specs.Laws.{sweep-changes, sweep-outside}
 use Rattle.part.specs.Part.{Setting, setting}
 use Rattle.kinds.specs.Kinds.{SELECT, EXCHANGE, DESELECT, TICK, TICKS, POWER, LOOSE, knownIn, kindRowIn, knownKind, kindRow}
-use Rattle.part.specs.Table.{rowOf, rowIn, fitsRule, isRead, isProgram}
+use Rattle.commands.specs.Table.{rowOf, rowIn, fitsRule, isRead, isProgram}
 use Rattle.part.specs.Protection.{protectedCount, protectedSector}
 use Rattle.chip.specs.declared.Chip.{Chip}
 use Rattle.chip.specs.declared.Core.{Core}
@@ -22,7 +21,7 @@ use Rattle.chip.specs.declared.Frame.{Frame}
 use Rattle.chip.specs.declared.JobKind.{JobKind}
 use Rattle.chip.specs.Job.{steps, wholeImage}
 use Rattle.chip.specs.Chip.{whole, fresh, emptyFrame, blankLoad, statusByte}
-use Rattle.job.specs.Tick.{tickCore, tickMemory, ticksCore, ticksMemory, worked}
+use Rattle.job.specs.Tick.{tickCore, ticksCore, worked}
 use Rattle.frame.specs.Frame.{judge, taken, exchanged}
 use Rattle.verdict.specs.Verdict.{jobOf, jobVerdict, commandVerdict, listed, verdict}
 use Rattle.verdict.specs.Effect.{instantly, acted, settled, heldAfter}

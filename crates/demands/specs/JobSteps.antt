@@ -1,8 +1,8 @@
 -- The part as a machine with a job under way: what spares the job, and that each event then does exactly the steps of its working ticks.
 -- `Demand3` draws the conclusions.
-use Prim.Native.Nat.{ℕ, zero, suc, _+_, _-_, _*_, _/_, _%_, _<_, _≤_, max}
-use mathlib.Core.Bool.{Bool, true, false, cond, not, _&&_, _||_, false≢true}
-use mathlib.Core.List.{List, [], _∷_}
+use Prim.Native.Nat.{ℕ, zero, suc, _+_, _/_, _%_, _<_, _≤_, max, _-_}
+use mathlib.Core.Bool.{Bool, true, false, not, _&&_, _||_, false≢true}
+use mathlib.Core.List.{List}
 use mathlib.Core.Path.{_≡_, refl, sym, ap, subst, _∙_}
 use mathlib.Core.Logic.{_⊎_, inl, inr, ⊎-elim}
 use native.Mathlib.Nat.{add-zero}
@@ -10,23 +10,21 @@ use native.Mathlib.Numerals.{add-one}
 use native.Mathlib.Decide.{decLt, ℕ-discrete}
 use native.Mathlib.Omega.{arith}
 use lib.Dec.{eqb}
-use lib.ListN.{length}
-use borrow.Author.Tests.{eq-eqb, ne-eqb, eqb-true, eqb-false}
-use Rattle.cells.specs.Choice.{cond-either, cond-yes, cond-no, and-left, and-right, and-both, not-so}
+use borrow.Author.Tests.{eq-eqb, ne-eqb}
+use Rattle.cells.specs.Choice.{cond-either, cond-yes, cond-no, and-both}
 use Rattle.cells.specs.Stepping.{Steps, laid, Machine}
 use Rattle.part.specs.Part.{Setting}
-use Rattle.part.specs.Table.{reset}
+use Rattle.commands.specs.Table.{reset}
 use Rattle.kinds.specs.Kinds.{DESELECT, POWER, LOOSE, knownKind}
 use Rattle.chip.specs.declared.Chip.{Chip}
 use Rattle.chip.specs.declared.Core.{Core}
-use Rattle.chip.specs.declared.Frame.{Frame}
 use Rattle.chip.specs.declared.Job.{Job}
 use Rattle.chip.specs.declared.JobKind.{JobKind}
 use Rattle.chip.specs.declared.JobKind.the-variants.{Idle, WriteStatus, Program, SmallErase, SectorErase, ChipErase}
 use Rattle.chip.specs.Fields.{withDone}
 use Rattle.chip.specs.Job.{isJob, total, steps, noJob}
 use Rattle.chip.specs.Chip.{running, blankLoad}
-use Rattle.job.specs.Tick.{ticksLeft, ticksCore, ticksMemory, worked, endedAs, ended, advanced}
+use Rattle.job.specs.Tick.{ticksLeft, ticksCore, worked, endedAs, advanced}
 use Rattle.job.specs.Laws.{steps-none, steps-add, ticks-rest, ticksLoad-rest, ticksMemory-rest, worked-rest, ticks-go, ticksLoad-go, ticksMemory-go, worked-go, ticks-over, ticksLoad-over, ticksMemory-over, worked-over}
 use Rattle.verdict.specs.Verdict.{verdict}
 use Rattle.verdict.specs.Effect.{acted, settled}

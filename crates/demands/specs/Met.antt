@@ -1,15 +1,14 @@
 -- The hypotheses of the theorems are met: for each kind of them a closed example. Demand 3's are met in `Examples` (P5, P9, `cut-and-ended`).
-use Prim.Native.Nat.{ℕ, _<_}
-use mathlib.Core.Bool.{true, false}
-use mathlib.Core.List.{List, [], _∷_}
+use Prim.Native.Nat.{ℕ}
+use mathlib.Core.Bool.{true}
+use mathlib.Core.List.{[], _∷_}
 use mathlib.Core.Path.{_≡_, refl}
-use native.Mathlib.Omega.{arith}
 use Rattle.part.specs.Part.{permitted}
-use Rattle.part.specs.Table.{isProgram}
+use Rattle.commands.specs.Table.{isProgram}
 use Rattle.chip.specs.declared.Chip.{Chip}
 use Rattle.chip.specs.declared.Frame.{Frame}
 use Rattle.chip.specs.Chip.{fresh}
-use Rattle.chip.specs.Legal.{legalJob, legalCore, legalFrame, isEmpty, isBlank, legal}
+use Rattle.legal.specs.Legal.{legalJob, legalCore, legalFrame, isEmpty, isBlank, legal}
 use Rattle.frame.specs.Frame.{readsCell, takesData}
 use Rattle.kinds.specs.Kinds.{SELECT, EXCHANGE, DESELECT, TICK, WP, knownIn, kindRowIn, knownKind, kindRow}
 use Rattle.event.specs.Alone.{refusal}

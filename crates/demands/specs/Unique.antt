@@ -9,7 +9,7 @@ use Rattle.chip.specs.declared.Chip.{Chip}
 use Rattle.chip.specs.declared.Core.{Core}
 use Rattle.chip.specs.declared.Frame.{Frame}
 use Rattle.chip.specs.Chip.{fresh}
-use Rattle.chip.specs.Legal.{legal}
+use Rattle.legal.specs.Legal.{legal}
 use Rattle.job.specs.Tick.{TicksAnswer}
 use Rattle.frame.specs.Frame.{Exchange, exchange, exchanged}
 use Rattle.frame.specs.Stream.{streamed}

@@ -1,6 +1,6 @@
 -- One event alone: its answer for every kind, body, state and memory length (RULES, Events; Refusals).
 use Prim.Native.Nat.{ℕ}
-use mathlib.Core.Bool.{Bool, cond, not}
+use mathlib.Core.Bool.{cond, not}
 use mathlib.Core.List.{List}
 use lib.Dec.{eqb}
 use lib.ListN.{length}
@@ -8,7 +8,7 @@ use Rattle.part.specs.Part.{permitted, settingOf}
 use Rattle.kinds.specs.Kinds.{knownKind, bodyLength, inRange}
 use Rattle.chip.specs.declared.Chip.{Chip}
 use Rattle.chip.specs.declared.Record.the-variants.{Nothing}
-use Rattle.chip.specs.Legal.{legal}
+use Rattle.legal.specs.Legal.{legal}
 use Rattle.event.specs.declared.Answer.{Answer}
 use Rattle.event.specs.Event.{Outcome, applied}
 

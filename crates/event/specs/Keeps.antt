@@ -1,8 +1,8 @@
 -- What an event leaves alone: the memory's length, the cells and the count of working ticks at every kind but ticks, and all but arming at verdicts 3 to 12.
 use Prim.Native.Nat.{ℕ}
-use mathlib.Core.Bool.{Bool, true, false, cond}
+use mathlib.Core.Bool.{Bool, true, false}
 use mathlib.Core.List.{List}
-use mathlib.Core.Path.{_≡_, refl, sym, ap, _∙_}
+use mathlib.Core.Path.{_≡_, refl, ap}
 use lib.Dec.{eqb}
 use lib.ListN.{length}
 use Rattle.cells.specs.Choice.{cond-either}
@@ -16,7 +16,7 @@ use Rattle.job.specs.Laws.{length-ticks}
 use Rattle.verdict.specs.Verdict.{verdict}
 use Rattle.verdict.specs.Effect.{settled}
 use Rattle.verdict.specs.Laws.{acted-nothing}
-use Rattle.event.specs.Event.{Outcome, deselect, tick, applied}
+use Rattle.event.specs.Event.{Outcome, deselect, applied}
 use Rattle.event.specs.Laws.{applied-each}
 
 -- the outcome of a deselect has the memory as it was, and no working tick

@@ -14,7 +14,7 @@ use Rattle.part.specs.Part.{permitted, Setting, setting, sectors}
 use Rattle.kinds.specs.Kinds.{SELECT, EXCHANGE, DESELECT, TICK, TICKS, WP, POWER, LOOSE, Says, KindRow, kindRowIn, kindRow, knownKind, bodyLength, inRange, saysOf, isSaid, roomOf}
 use Rattle.kinds.specs.Laws.{kind-each, last-kind, range-small}
 use Rattle.chip.specs.declared.Chip.{Chip}
-use Rattle.chip.specs.Legal.{legal}
+use Rattle.legal.specs.Legal.{legal}
 use Rattle.chip.specs.declared.Core.{Core}
 use Rattle.chip.specs.declared.Frame.{Frame}
 use Rattle.chip.specs.declared.Record.{Record}

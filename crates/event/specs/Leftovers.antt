@@ -1,16 +1,16 @@
 -- A gone job leaves nothing behind (RULES, Jobs): what each event does to the job and its load, and that a state without leftovers stays so.
-use Prim.Native.Nat.{ℕ, _≤_, _<_}
-use mathlib.Core.Bool.{Bool, true, false, cond, _&&_, false≢true}
+use Prim.Native.Nat.{ℕ, _<_}
+use mathlib.Core.Bool.{Bool, true, false, cond, false≢true}
 use mathlib.Core.List.{List}
 use mathlib.Core.Path.{_≡_, refl, sym, ap, subst, _∙_}
 use native.Mathlib.Omega.{arith}
 use native.Mathlib.Decide.{ℕ-discrete, decLt}
 use lib.Dec.{eqb}
 use lib.ListN.{length}
-use borrow.Author.Tests.{eq-eqb, ne-eqb, eqb-true}
+use borrow.Author.Tests.{eq-eqb, ne-eqb}
 use Rattle.cells.specs.Choice.{cond-yes, cond-no, cond-either, not-so}
 use Rattle.part.specs.Part.{Setting, settingOf}
-use Rattle.part.specs.Table.{isProgram, writeStatus, reset}
+use Rattle.commands.specs.Table.{isProgram, writeStatus, reset}
 use Rattle.chip.specs.declared.Chip.{Chip}
 use Rattle.chip.specs.declared.Core.{Core}
 use Rattle.chip.specs.declared.Frame.{Frame}
@@ -19,15 +19,15 @@ use Rattle.chip.specs.declared.JobKind.{JobKind}
 use Rattle.chip.specs.declared.JobKind.the-variants.{Idle, WriteStatus, Program, SmallErase, SectorErase, ChipErase}
 use Rattle.chip.specs.Job.{isJob, hasLoad, noJob}
 use Rattle.chip.specs.Chip.{blankLoad, fresh, running, NoLeftovers}
-use Rattle.chip.specs.Legal.{legal, judgementKnown}
-use Rattle.chip.specs.Legality.{chip-facts}
-use Rattle.job.specs.Tick.{endedAs, ended, advanced, ticksCore, ticksLoad, ticksLeft}
+use Rattle.legal.specs.Legal.{legal, judgementKnown}
+use Rattle.legal.specs.Legality.{chip-facts}
+use Rattle.job.specs.Tick.{endedAs, ticksCore, ticksLoad, ticksLeft}
 use Rattle.job.specs.Laws.{ticks-rest, ticksLoad-rest, ticks-go, ticksLoad-go, ticks-over, ticksLoad-over}
 use Rattle.job.specs.Legality.{running-job}
 use Rattle.verdict.specs.Verdict.{jobOf, jobAsked, verdict}
 use Rattle.verdict.specs.Effect.{instantly, acted, settled, heldAfter}
 use Rattle.verdict.specs.Laws.{Begins, verdict-two, acted-nothing, instantly-each, held-begun, held-reset, held-stays}
-use Rattle.event.specs.Event.{Outcome, deselect, tick, applied}
+use Rattle.event.specs.Event.{Outcome, deselect, applied}
 use Rattle.event.specs.Laws.{applied-each}
 
 -- What an event does to the job and its load: both stay; both are gone; the job moves on with its load; or another begins, and holds a load only if it is a program.
@@ -90,9 +90,6 @@ module _ (S : ℕ) (k : Core) (f : Frame) (loose : Bool) (known : judgementKnown
   acted-job : (v ≡ 0 → ⊥) → settled S k f v .job ≡ acted S k f v .job
   unfolding settled
   acted-job n = ap (λ (q : Core). q .job) (cond-no (eqb (f .count) 0) _ _ (some-byte n))
-
-  same-job : Core → Type 0
-  same-job q = q .job ≡ k .job
 
   still : (v ≡ 2 → ⊥) → (v ≡ 1 → f .opcode ≡ reset → ⊥) → Dec (v ≡ 1) → settled S k f v .job ≡ k .job
   unfolding settled acted

@@ -12,8 +12,8 @@ use Rattle.part.specs.Laws.{permitted-some}
 use Rattle.chip.specs.declared.Chip.{Chip}
 use Rattle.chip.specs.declared.Frame.{Frame}
 use Rattle.chip.specs.Fields.{withSelected, withWp}
-use Rattle.chip.specs.Legal.{legal, isEmpty, isBlank, tidy}
-use Rattle.chip.specs.Legality.{LegalCore, LegalFrame, LegalChip, chip-facts, chip-legal, empty-legal, empty-tidy}
+use Rattle.legal.specs.Legal.{legal, isEmpty, isBlank, tidy}
+use Rattle.legal.specs.Legality.{LegalCore, LegalFrame, LegalChip, chip-facts, chip-legal, empty-legal, empty-tidy}
 use Rattle.job.specs.Legality.{ticks-legal}
 use Rattle.frame.specs.Frame.{exchanged}
 use Rattle.frame.specs.Legality.{LegalExchange, exchange-legal}

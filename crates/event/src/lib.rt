@@ -164,7 +164,7 @@ fn refuses(chip: Chip, n: usize, kind: u64, body: u64) -> u8
     if part::sectors_of(n) == 0 {
         return 1;
     }
-    if !chip::is_legal(chip, n) {
+    if !legal::is_legal(chip, n) {
         return 2;
     }
     if !kinds::is_known(kind) {

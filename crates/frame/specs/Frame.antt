@@ -1,11 +1,11 @@
 -- A frame: the judgement at the opcode byte, and what each exchange drives, takes and leaves (RULES, Commands; Verdicts).
 use Prim.Native.Nat.{ℕ, _+_, _*_, _%_}
-use mathlib.Core.Bool.{Bool, true, cond, not, _&&_, _||_}
+use mathlib.Core.Bool.{Bool, cond, not, _&&_, _||_}
 use mathlib.Core.List.{List}
 use lib.Dec.{eqb, ltb, leb}
 use lib.ListN.{getD, set}
 use Rattle.part.specs.Part.{Setting, lengthOf, reduced, jedecByte, jedecCycle, deviceByte}
-use Rattle.part.specs.Table.{rowOf, isProgram, readStatus, lowPowerRead, highSpeedRead, jedecId, wake}
+use Rattle.commands.specs.Table.{rowOf, isProgram, readStatus, lowPowerRead, highSpeedRead, jedecId, wake}
 use Rattle.chip.specs.declared.Core.{Core}
 use Rattle.chip.specs.declared.Frame.{Frame}
 use Rattle.chip.specs.declared.Record.{Record}

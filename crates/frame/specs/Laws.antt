@@ -1,5 +1,5 @@
 -- What is true of a frame: each way that an exchange goes, and what it leaves alone.
-use Prim.Native.Nat.{ℕ, _+_, _<_, _≤_}
+use Prim.Native.Nat.{ℕ}
 use mathlib.Core.Bool.{Bool, true, false, cond, not, _&&_, false≢true}
 use mathlib.Core.List.{List}
 use mathlib.Core.Path.{_≡_, refl, sym, ap, _∙_}
@@ -9,13 +9,12 @@ use lib.ListN.{getD, set}
 use borrow.Author.Tests.{eq-eqb, ne-eqb, eqb-true}
 use Rattle.cells.specs.Choice.{cond-yes, cond-no}
 use Rattle.part.specs.Part.{Setting, lengthOf, jedecByte, jedecCycle, deviceByte}
-use Rattle.part.specs.Table.{rowOf, readStatus, jedecId, wake}
+use Rattle.commands.specs.Table.{rowOf, readStatus, jedecId, wake}
 use Rattle.chip.specs.declared.Core.{Core}
 use Rattle.chip.specs.declared.Frame.{Frame}
-use Rattle.chip.specs.declared.Record.{Record}
 use Rattle.chip.specs.declared.Record.the-variants.{Floating, Driven}
 use Rattle.chip.specs.Chip.{running, statusByte}
-use Rattle.frame.specs.Frame.{judge, Exchange, exchange, opened, counting, reading, loading, addressing, readsCell, takesData, taken, exchanged}
+use Rattle.frame.specs.Frame.{judge, exchange, opened, counting, reading, loading, addressing, readsCell, takesData, taken, exchanged}
 
 -- ---- byte 2 and up, by what the frame is
 

@@ -1,22 +1,22 @@
 -- A legal frame stays legal under an exchange.
-use Prim.Native.Nat.{ℕ, _+_, _*_, _%_, _<_, _≤_, _^_}
-use mathlib.Core.Bool.{Bool, true, false, cond, not, _&&_, _||_, false≢true}
+use Prim.Native.Nat.{ℕ, _+_, _<_, _≤_, _^_}
+use mathlib.Core.Bool.{Bool, true, false, not, _&&_, _||_, false≢true}
 use mathlib.Core.List.{List}
-use mathlib.Core.Path.{_≡_, refl, sym, ap, subst, _∙_}
+use mathlib.Core.Path.{_≡_, refl, sym, subst}
 use native.Mathlib.Nat.{mod-lt}
 use native.Mathlib.Omega.{arith}
 use lib.Dec.{eqb, ltb, leb}
 use lib.ListN.{getD, set}
-use borrow.Author.Tests.{eqb-true, eqb-false, eq-eqb, ne-eqb, not-true, not-false, ltb-true, ltb-false}
+use borrow.Author.Tests.{eqb-true, eqb-false, eq-eqb, ne-eqb, not-true, not-false, ltb-true}
 use Rattle.cells.specs.Choice.{cond-either, cond-yes, cond-no, and-left, and-right}
 use Rattle.part.specs.Part.{Setting, lengthOf, reduced, jedecByte, jedecCycle, deviceByte}
-use Rattle.part.specs.Table.{rowOf, lowPowerRead, highSpeedRead, readStatus, jedecId, wake}
+use Rattle.commands.specs.Table.{rowOf, lowPowerRead, highSpeedRead, readStatus, jedecId, wake}
 use Rattle.chip.specs.declared.Core.{Core}
 use Rattle.chip.specs.declared.Frame.{Frame}
 use Rattle.chip.specs.declared.Record.the-variants.{Floating, Driven}
 use Rattle.chip.specs.Chip.{running, statusByte}
-use Rattle.chip.specs.Legal.{judgementKnown, readPlaces, isEmpty, isBlank, begun, tidy}
-use Rattle.chip.specs.Legality.{LegalFrame, unbegun-empty}
+use Rattle.legal.specs.Legal.{judgementKnown, readPlaces, isEmpty, isBlank, tidy}
+use Rattle.legal.specs.Legality.{LegalFrame, unbegun-empty}
 use Rattle.frame.specs.Frame.{judge, counted, shifted, nextPlace, opened, counting, reading, loading, addressing, readsCell, takesData, Exchange, exchange, taken, exchanged}
 
 -- ---- a judgement is none, 3, 5, 6 or 7

@@ -8,7 +8,7 @@ use lib.ListN.{getD, set}
 use borrow.Author.Tests.{eqb-true}
 use Rattle.cells.specs.Choice.{cond-yes, cond-no, and-left, and-right}
 use Rattle.part.specs.Part.{Setting, lengthOf}
-use Rattle.part.specs.Table.{isProgram, lowPowerRead, highSpeedRead}
+use Rattle.commands.specs.Table.{isProgram, lowPowerRead, highSpeedRead}
 use Rattle.chip.specs.declared.Core.{Core}
 use Rattle.chip.specs.declared.Frame.{Frame}
 use Rattle.chip.specs.declared.Record.the-variants.{Floating, Driven}

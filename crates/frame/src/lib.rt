@@ -1,7 +1,6 @@
 // A frame: the judgement at its opcode byte, and one exchange.
 ghost use mathlib.Core.Path.{_≡_};
-ghost use mathlib.Core.Bool.{cond, not, _&&_};
-ghost use Prim.Native.Nat.{_%_, _*_, _+_, _<_, _≤_};
+ghost use Prim.Native.Nat.{_%_, _*_, _+_, _<_};
 ghost use Rattle.part.specs.Part.{setting};
 ghost use Rattle.chip.specs.declared.Record.{Record};
 ghost use Rattle.frame.specs.Frame.{judge, counted, shifted, nextPlace, nextSlot, opened, counting, reading, loading, addressing, readsCell, takesData, exchange, taken, exchanged};
@@ -9,6 +8,7 @@ ghost use Rattle.frame.specs.Stream.{isData, streams, streamed};
 use chip::Core;
 use chip::Frame;
 use chip::Record;
+use commands::Command;
 use part::Part;
 
 // What an exchange says, and the frame that it leaves.
@@ -21,11 +21,11 @@ pub struct Exchanged {
 pub fn judge(core: Core, opcode: u8) -> u8
     ensures { λ r. ⌜ r ≡ judge core opcode ⌝ }
 {
-    let row = part::row_of(opcode);
+    let row = commands::row_of(opcode);
     if !row.known {
         return 3;
     }
-    if core.deep & !(opcode == Part::WAKE) {
+    if core.deep & !(opcode == Command::WAKE) {
         return 5;
     }
     let runs = chip::is_running(core);
@@ -135,14 +135,14 @@ fn address(sectors: u8, b: u8, f: Frame) -> Frame
 fn reads_cell(f: Frame) -> bool
     ensures { λ r. ⌜ r ≡ readsCell f ⌝ }
 {
-    ((f.opcode == Part::LOW_POWER_READ) & (4 <= f.count))
-        | ((f.opcode == Part::HIGH_SPEED_READ) & (5 <= f.count))
+    ((f.opcode == Command::LOW_POWER_READ) & (4 <= f.count))
+        | ((f.opcode == Command::HIGH_SPEED_READ) & (5 <= f.count))
 }
 
 fn takes_data(f: Frame) -> bool
     ensures { λ r. ⌜ r ≡ takesData f ⌝ }
 {
-    part::is_program(f.opcode) & (4 <= f.count)
+    commands::is_program(f.opcode) & (4 <= f.count)
 }
 
 fn floats(f: Frame) -> Exchanged
@@ -192,26 +192,19 @@ pub fn stream(f: Frame, load: &mut [u8; 256], mem: &[u8], sectors: u8, b: u8) ->
 }
 
 // Byte 2 and up of a frame with judgement none.
-fn take(
-    core: Core,
-    f: Frame,
-    load: &mut [u8; 256],
-    mem: &[u8],
-    sectors: u8,
-    b: u8,
-) -> Exchanged
+fn take(core: Core, f: Frame, load: &mut [u8; 256], mem: &[u8], sectors: u8, b: u8) -> Exchanged
     ensures { λ r. ⌜ exchange (r .said) (r .frame) (now (load .exit)) ≡ taken (setting sectors) core f (now (load .entry)) (now (mem .entry)) b ⌝ }
 {
     if is_data(f) {
         return stream(f, load, mem, sectors, b);
     }
-    if f.opcode == Part::READ_STATUS {
+    if f.opcode == Command::READ_STATUS {
         return drives(chip::status_byte(core), count(f));
     }
-    if f.opcode == Part::JEDEC_ID {
+    if f.opcode == Command::JEDEC_ID {
         return drives(part::jedec_byte(f.place), read(Part::JEDEC_CYCLE, f));
     }
-    if (f.opcode == Part::WAKE) & (4 <= f.count) {
+    if (f.opcode == Command::WAKE) & (4 <= f.count) {
         return drives(Part::DEVICE, count(f));
     }
     floats(address(sectors, b, f))

@@ -1,12 +1,11 @@
 -- What is true of ticks: n of them in closed form, n + m of them in two parts, and what they leave alone.
-use Prim.Native.Nat.{ℕ, zero, suc, _+_, _*_, _-_, _<_, _≤_, max}
-use mathlib.Core.Bool.{Bool, true, false, cond, not, _&&_}
+use Prim.Native.Nat.{ℕ, zero, suc, _+_, _*_, _<_, _≤_, _-_}
+use mathlib.Core.Bool.{true, false, cond}
 use mathlib.Core.List.{List}
 use mathlib.Core.Path.{_≡_, refl, sym, ap, _∙_}
-use native.Mathlib.Nat.{add-zero, zero-add, add-suc, add-assoc, zero-mul, mul-zero, add-mul}
+use native.Mathlib.Nat.{add-zero, add-suc, add-assoc, zero-mul, mul-zero, add-mul}
 use native.Mathlib.Numerals.{add-one}
 use native.Mathlib.Omega.{arith}
-use native.Mathlib.Decide.{decLt}
 use lib.Dec.{ltb}
 use lib.ListN.{length}
 use borrow.Author.Tests.{lt-ltb, le-ltb}
@@ -16,7 +15,7 @@ use Rattle.cells.specs.Laws.{sweep-none, sweep-add, later-later, length-sweep}
 use Rattle.chip.specs.declared.Core.{Core}
 use Rattle.chip.specs.declared.JobKind.{JobKind}
 use Rattle.chip.specs.declared.JobKind.the-variants.{Idle, WriteStatus, Program, SmallErase, SectorErase, ChipErase}
-use Rattle.chip.specs.Job.{steps, total, unit, rule, noJob}
+use Rattle.chip.specs.Job.{steps, total, unit, rule}
 use Rattle.chip.specs.Chip.{running, blankLoad}
 use Rattle.job.specs.Tick.{atStep, advanced, ended, endedAs, tickCore, tickLoad, tickMemory, ticksCore, ticksLoad, ticksMemory, worked, ticksLeft}
 
@@ -55,10 +54,6 @@ ticksCore-more S n k = rw add-one
 pub ticksLoad-more : (S n : ℕ) (k : Core) (held : List ℕ) → ticksLoad S (n + 1) k held ≡ tickLoad S (ticksCore S n k) (ticksLoad S n k held)
 unfolding ticksLoad
 ticksLoad-more S n k held = rw add-one
-
-pub worked-more : (S n : ℕ) (k : Core) → worked S (n + 1) k ≡ worked S n k + cond (running (ticksCore S n k)) 1 0
-unfolding worked
-worked-more S n k = rw add-one
 
 -- a tick that finds no job running does nothing
 pub tick-rests : (S : ℕ) (k : Core) → running k ≡ false → tickCore S k ≡ k

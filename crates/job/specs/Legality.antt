@@ -1,7 +1,7 @@
 -- A legal core stays legal under ticks.
-use Prim.Native.Nat.{ℕ, zero, suc, _+_, _<_, _≤_}
-use mathlib.Core.Bool.{Bool, true, false, not, _&&_, false≢true}
-use mathlib.Core.Path.{_≡_, refl, sym, ap, subst, _∙_}
+use Prim.Native.Nat.{ℕ, zero, suc, _+_, _<_}
+use mathlib.Core.Bool.{Bool, true, false, not, false≢true}
+use mathlib.Core.Path.{_≡_, refl, sym, subst, _∙_}
 use native.Mathlib.Omega.{arith}
 use native.Mathlib.Decide.{decLt}
 use borrow.Author.Tests.{not-true}
@@ -11,8 +11,8 @@ use Rattle.chip.specs.declared.JobKind.{JobKind}
 use Rattle.chip.specs.declared.JobKind.the-variants.{Idle, WriteStatus, Program, SmallErase, SectorErase, ChipErase}
 use Rattle.chip.specs.Job.{isJob, total}
 use Rattle.chip.specs.Chip.{withBits, running}
-use Rattle.chip.specs.Legality.{LegalCore}
-use Rattle.job.specs.Tick.{advanced, gone, endedAs, ended, tickCore, ticksCore}
+use Rattle.legal.specs.Legality.{LegalCore}
+use Rattle.job.specs.Tick.{advanced, gone, endedAs, tickCore, ticksCore}
 use Rattle.job.specs.Laws.{tick-rests, tick-goes, tick-ends}
 
 -- a running job is a job, and not suspended

@@ -1,6 +1,6 @@
 // Ticks: n of them in one go, as far as the job has steps left.
 ghost use mathlib.Core.Path.{_≡_};
-ghost use Prim.Native.Nat.{_+_, _*_, _≤_, _<_, _-_, _^_, max};
+ghost use Prim.Native.Nat.{_+_, _*_, _≤_, _<_, _^_, max, _-_};
 ghost use Rattle.cells.specs.Cells.{sweep, blanked};
 ghost use Rattle.chip.specs.declared.JobKind.{JobKind};
 ghost use Rattle.chip.specs.Job.{steps, total};
@@ -100,13 +100,7 @@ fn end(kind: JobKind, core: Core) -> Core
 }
 
 // n ticks: with no job running they do nothing; otherwise they do steps until n are done or the job ends, and its load with it.
-pub fn ticks(
-    core: Core,
-    held: &mut [u8; 256],
-    mem: &mut [u8],
-    sectors: u8,
-    n: u32,
-) -> Ticked
+pub fn ticks(core: Core, held: &mut [u8; 256], mem: &mut [u8], sectors: u8, n: u32) -> Ticked
     ensures { λ r. ⌜ TicksAnswer sectors n core (now (held .entry)) (now (mem .entry)) (r .core) (r .worked) (now (held .exit)) (now (mem .exit)) ⌝ }
 {
     if !chip::is_running(core) {

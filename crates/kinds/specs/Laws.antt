@@ -1,6 +1,6 @@
 -- What is true of the kinds: the table kind by kind, and an event's bytes in a script.
-use Prim.Native.Nat.{ℕ, zero, suc, _+_, _*_, _<_, _≤_, zero-le}
-use mathlib.Core.Bool.{Bool, true, false, cond, _&&_, _||_, false≢true}
+use Prim.Native.Nat.{ℕ, _+_, _*_, _<_, _≤_, zero-le}
+use mathlib.Core.Bool.{cond, _||_, Bool, true, false, _&&_, false≢true}
 use mathlib.Core.List.{List}
 use mathlib.Core.Path.{_≡_, refl, sym, ap, subst, _∙_}
 use mathlib.Core.Logic.{_⊎_, inl, inr}
@@ -62,11 +62,23 @@ no-record =
     (λ _ _ _. (refl, refl)) (λ n _ _. absurd (n refl)) (λ _ n _. absurd (n refl)) (λ _ _ _. (refl, refl)) (λ _ _ _. (refl, refl)) (λ _ _ _. (refl, refl)) (λ _ _ _. (refl, refl)) (λ _ _ n. absurd (n refl))
     (λ kind o _ _ _. (ap (λ (r : KindRow). isSaid (r .says)) (o .no-row), ap (λ (r : KindRow). r .room) (o .no-row)))
 
--- a kind is a byte
-pub kind-small : (kind : ℕ) → knownKind kind ≡ true → kind ≤ 255
-kind-small =
-    kind-each (λ kind. knownKind kind ≡ true → kind ≤ 255) (λ _. omega arith) (λ _. omega arith) (λ _. omega arith) (λ _. omega arith) (λ _. omega arith) (λ _. omega arith) (λ _. omega arith) (λ _. omega arith)
-    (λ kind o k. absurd (false≢true (sym (o .not-known) ∙ k)))
+-- as one test, and its room by that test
+pub yields-as : (kind : ℕ) → yields kind ≡ (eqb kind EXCHANGE || eqb kind DESELECT || eqb kind LOOSE)
+unfolding kindRow kindRowIn
+yields-as kind = go (ℕ-discrete kind EXCHANGE) (ℕ-discrete kind DESELECT) (ℕ-discrete kind LOOSE)
+  where
+    As : ℕ → Type 0
+    As k = yields k ≡ (eqb k EXCHANGE || eqb k DESELECT || eqb k LOOSE)
+
+    go : Dec (kind ≡ EXCHANGE) → Dec (kind ≡ DESELECT) → Dec (kind ≡ LOOSE) → As kind
+    go (yes e) d l = subst As (sym e) refl
+    go (no n) (yes e) l = subst As (sym e) refl
+    go (no n) (no m) (yes e) = subst As (sym e) refl
+    go (no n) (no m) (no o) = no-record kind n m o .0 ∙ sym (rw (ne-eqb _ _ n, ne-eqb _ _ m, ne-eqb _ _ o))
+
+pub room-as : (kind : ℕ) → roomOf kind ≡ cond (yields kind) 2 0
+unfolding kindRow kindRowIn
+room-as = kind-each (λ kind. roomOf kind ≡ cond (yields kind) 2 0) refl refl refl refl refl refl refl refl (λ kind o. ap (λ (r : KindRow). r .room) (o .no-row) ∙ sym (ap (λ (r : KindRow). cond (isSaid (r .says)) 2 0) (o .no-row)))
 
 -- a body in its range fits two bytes
 pub range-small : (kind body : ℕ) → inRange kind body ≡ true → (bodyLength kind ≡ 0) ⊎ (body ≤ 65535)

@@ -72,24 +72,17 @@ pub fn is_in_range(kind: u64, body: u64) -> bool
 pub fn yields(kind: u64) -> bool
     ensures { λ r. ⌜ r ≡ yields kind ⌝ }
 {
-    match kind {
-        Kind::EXCHANGE => true,
-        Kind::DESELECT => true,
-        Kind::LOOSE => true,
-        _ => false,
-    }
+    (kind == Kind::EXCHANGE) | (kind == Kind::DESELECT) | (kind == Kind::LOOSE)
 }
 
 // The room that a kind's record is given.
 pub fn room_of(kind: u64) -> usize
     ensures { λ r. ⌜ (r ≡ roomOf kind) × (r ≤ 2) ⌝ }
 {
-    match kind {
-        Kind::EXCHANGE => 2,
-        Kind::DESELECT => 2,
-        Kind::LOOSE => 2,
-        _ => 0,
+    if yields(kind) {
+        return 2;
     }
+    0
 }
 
 // The body of the event at an offset of a script.

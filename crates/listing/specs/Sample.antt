@@ -2,10 +2,10 @@
 use mathlib.Core.List.{[], _∷_}
 use mathlib.Core.Path.{_≡_, refl}
 use Rattle.part.specs.Part.{permitted}
-use Rattle.part.specs.Table.{rowIn, rowOf, fitsRule, isRead, isProgram}
+use Rattle.commands.specs.Table.{rowIn, rowOf, fitsRule, isRead, isProgram}
 use Rattle.kinds.specs.Kinds.{knownIn, kindRowIn, knownKind, kindRow}
 use Rattle.chip.specs.Chip.{fresh, statusByte}
-use Rattle.chip.specs.Legal.{legalJob, legalCore, legalFrame, isEmpty, isBlank, legal}
+use Rattle.legal.specs.Legal.{legalJob, legalCore, legalFrame, isEmpty, isBlank, legal}
 use Rattle.frame.specs.Frame.{judge, taken, exchanged}
 use Rattle.verdict.specs.Verdict.{jobOf, jobVerdict, commandVerdict, listed, verdict}
 use Rattle.verdict.specs.Effect.{instantly, acted, settled}

@@ -1,32 +1,13 @@
--- What is true of the part: its lengths, a look through its table, its protection.
-use Prim.Native.Nat.{ℕ, suc, zero, _+_, _*_, _-_, _/_, _≤_, _<_, min}
+-- What is true of the part: its lengths, and how many sectors are protected.
+use Prim.Native.Nat.{ℕ, _≤_}
 use mathlib.Core.Bool.{Bool, true, false, cond, _||_}
-use mathlib.Core.List.{List, [], _∷_}
-use mathlib.Core.Path.{_≡_, refl, sym, ap, _∙_}
-use mathlib.Core.Logic.{_⊎_, inl, inr, ⊎-elim}
-use native.Mathlib.Numerals.{add-one}
+use mathlib.Core.Path.{_≡_, refl, _∙_}
 use native.Mathlib.Omega.{arith}
 use lib.Dec.{eqb, ltb}
-use lib.ListN.{length, getD, drop}
-use lib.Seq.{drop-cons}
-use borrow.Author.Tests.{eq-eqb, ne-eqb, eqb-true}
+use borrow.Author.Tests.{eqb-true}
 use Rattle.cells.specs.Choice.{cond-yes, cond-no, cond-either}
-use Rattle.part.specs.declared.Row.{Row}
 use Rattle.part.specs.Part.{permitted, sectors, lengthOf}
-use Rattle.part.specs.Table.{rowIn, factsOf}
 use Rattle.part.specs.Protection.{protectedCount}
-
--- ---- the table
-
--- a look that starts at row i ends there, if the row has the opcode
-pub rowIn-hit : (rs : List (List ℕ)) (i opcode : ℕ) → i < length rs → getD (getD rs i []) 0 0 ≡ opcode → rowIn (drop i rs) opcode ≡ factsOf (getD rs i [])
-unfolding rowIn
-rowIn-hit rs i opcode h e = rw (drop-cons rs i [] h) (cond-yes _ _ _ (eq-eqb _ _ e))
-
--- and goes on at the next row, if it has not
-pub rowIn-miss : (rs : List (List ℕ)) (i opcode : ℕ) → i < length rs → (getD (getD rs i []) 0 0 ≡ opcode → ⊥) → rowIn (drop i rs) opcode ≡ rowIn (drop (i + 1) rs) opcode
-unfolding rowIn
-rowIn-miss rs i opcode h e = rw (add-one, drop-cons rs i [] h) (cond-no _ _ _ (ne-eqb _ _ e))
 
 -- ---- protection
 

@@ -1,4 +1,3 @@
 pub mod Part
-pub mod Table
 pub mod Protection
 pub mod Laws

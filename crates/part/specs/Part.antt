@@ -1,5 +1,5 @@
 -- The part: its sizes, its six lengths, what an event is given of it, what an address means, and its identity (RULES, The array; Commands).
-use Prim.Native.Nat.{ℕ, _/_, _%_, _-_, _*_}
+use Prim.Native.Nat.{ℕ, _/_, _%_, _*_, _-_}
 use mathlib.Core.Bool.{Bool, _||_}
 use mathlib.Core.List.{[], _∷_}
 use lib.Dec.{eqb}

@@ -1,5 +1,5 @@
 -- Which sectors are protected (RULES, Protection).
-use Prim.Native.Nat.{ℕ, _-_, _^_, min}
+use Prim.Native.Nat.{ℕ, _^_, min, _-_}
 use mathlib.Core.Bool.{Bool, cond}
 use lib.Dec.{eqb, ltb, leb}
 

@@ -4,7 +4,7 @@ use mathlib.Core.List.{List, [], _++_}
 use mathlib.Core.Path.{_≡_, refl, sym, ap, _∙_}
 use native.Mathlib.Nat.{add-zero}
 use native.Mathlib.Omega.{arith}
-use lib.ListN.{length, getD, take, drop, take-append-drop, length-take}
+use lib.ListN.{length, getD, take, drop, take-append-drop}
 use lib.Seq.{drop-drop, length-take-le}
 use Rattle.part.specs.Part.{Setting}
 use Rattle.kinds.specs.Kinds.{EXCHANGE, roomOf}

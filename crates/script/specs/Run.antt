@@ -1,6 +1,6 @@
 -- A run: the events of a script one after the other, and the whole answer with its refusals (RULES, Events; Refusals).
 use Prim.Native.Nat.{ℕ, _+_, _≤_}
-use mathlib.Core.Bool.{Bool, cond, not}
+use mathlib.Core.Bool.{cond, not}
 use mathlib.Core.List.{List, [], _∷_, _++_}
 use mathlib.Core.Path.{_≡_}
 use lib.Dec.{eqb, ltb}
@@ -9,7 +9,7 @@ use Rattle.part.specs.Part.{permitted, Setting, settingOf}
 use Rattle.chip.specs.declared.Chip.{Chip}
 use Rattle.chip.specs.declared.Record.{Record}
 use Rattle.chip.specs.Record.{recordBytes}
-use Rattle.chip.specs.Legal.{legal}
+use Rattle.legal.specs.Legal.{legal}
 use Rattle.event.specs.Event.{Outcome, applied}
 use Rattle.script.specs.declared.Ran.{Ran}
 use Rattle.script.specs.Script.{Event, Refusal, refusalOf, events, firstBad, room}

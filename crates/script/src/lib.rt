@@ -200,7 +200,7 @@ fn refuses(chip: Chip, n: usize, script: &[u8], space: usize) -> Refused
     if part::sectors_of(n) == 0 {
         return refuse(1);
     }
-    if !chip::is_legal(chip, n) {
+    if !legal::is_legal(chip, n) {
         return refuse(2);
     }
     if 65536 < script.len() {

@@ -1,9 +1,9 @@
 -- What a verdict does: a job begun, something done at once, arming and disarming, and what becomes of the job's load (RULES, Verdicts; Jobs).
 use Prim.Native.Nat.{ℕ}
-use mathlib.Core.Bool.{Bool, true, false, cond, _&&_}
+use mathlib.Core.Bool.{true, false, cond, _&&_}
 use mathlib.Core.List.{List}
 use lib.Dec.{eqb}
-use Rattle.part.specs.Table.{isProgram, writeEnable, writeDisable, suspend, resume, wake, deepPowerDown, resetEnable, reset}
+use Rattle.commands.specs.Table.{isProgram, writeEnable, writeDisable, suspend, resume, wake, deepPowerDown, resetEnable, reset}
 use Rattle.chip.specs.declared.Core.{Core}
 use Rattle.chip.specs.declared.Frame.{Frame}
 use Rattle.chip.specs.Fields.{withWen, withSuspended, withDeep, withArmed, withJob}

@@ -5,9 +5,9 @@ use mathlib.Core.List.{List}
 use mathlib.Core.Path.{_≡_, refl, sym, ap, subst, _∙_}
 use native.Mathlib.Omega.{arith}
 use lib.Dec.{eqb}
-use borrow.Author.Tests.{eq-eqb, ne-eqb, eqb-true, eqb-false}
+use borrow.Author.Tests.{eq-eqb, ne-eqb, eqb-true}
 use Rattle.cells.specs.Choice.{cond-yes, cond-no, cond-either, and-left, and-right, and-both, not-so}
-use Rattle.part.specs.Table.{rowOf, fitsRule, isRead, isProgram, writeEnable, writeDisable, suspend, resume, wake, deepPowerDown, reset}
+use Rattle.commands.specs.Table.{rowOf, fitsRule, isRead, isProgram, writeEnable, writeDisable, suspend, resume, wake, deepPowerDown, reset}
 use Rattle.chip.specs.declared.Core.{Core}
 use Rattle.chip.specs.declared.Frame.{Frame}
 use Rattle.chip.specs.declared.Job.{Job}
@@ -15,7 +15,7 @@ use Rattle.chip.specs.declared.JobKind.{JobKind}
 use Rattle.chip.specs.Fields.{withWen, withSuspended, withDeep}
 use Rattle.chip.specs.Job.{isJob, hasCells}
 use Rattle.chip.specs.Chip.{blankLoad}
-use Rattle.chip.specs.Legal.{judgementKnown}
+use Rattle.legal.specs.Legal.{judgementKnown}
 use Rattle.frame.specs.Frame.{judge}
 use Rattle.frame.specs.Legality.{judge-known}
 use Rattle.verdict.specs.Verdict.{jobOf, jobAsked, targetProtected, pointless, jobVerdict, commandVerdict, listed, verdict}

@@ -1,26 +1,24 @@
 -- A legal core stays legal under a deselect.
-use Prim.Native.Nat.{ℕ, _+_, _*_, _-_, _%_, _<_, _≤_}
-use mathlib.Core.Bool.{Bool, true, false, cond, not, _&&_, _||_, false≢true}
-use mathlib.Core.Path.{_≡_, refl, sym, ap, subst, _∙_}
+use Prim.Native.Nat.{ℕ, _+_, _%_, _<_, _≤_}
+use mathlib.Core.Bool.{Bool, true, false, not, _&&_, _||_, false≢true}
+use mathlib.Core.Path.{_≡_, refl, sym, subst, _∙_}
 use native.Mathlib.Nat.{mod-lt}
 use native.Mathlib.Omega.{arith}
 use native.Mathlib.Decide.{ℕ-discrete}
 use lib.Dec.{eqb, leb}
-use borrow.Author.Tests.{eq-eqb, ne-eqb, eqb-true, eqb-false, le-leb, not-true}
+use borrow.Author.Tests.{eq-eqb, ne-eqb, eqb-true, le-leb}
 use Rattle.cells.specs.Choice.{cond-either, cond-yes, cond-no, and-left, and-right, and-both, not-so}
 use Rattle.part.specs.Part.{lengthOf, page, smallSector, sector, reduced, roundedDown}
-use Rattle.part.specs.Table.{rowOf, rowIn, isProgram, writeEnable, writeDisable, suspend, resume, wake, deepPowerDown, resetEnable, reset}
+use Rattle.commands.specs.Table.{rowOf, rowIn, isProgram, writeDisable, suspend, wake, deepPowerDown, resetEnable}
 use Rattle.chip.specs.declared.Core.{Core}
 use Rattle.chip.specs.declared.Frame.{Frame}
-use Rattle.chip.specs.declared.Job.{Job}
 use Rattle.chip.specs.declared.JobKind.{JobKind}
 use Rattle.chip.specs.declared.JobKind.the-variants.{Idle, WriteStatus, Program, SmallErase, SectorErase, ChipErase}
 use Rattle.chip.specs.Fields.{withWen, withSuspended, withDeep, withArmed}
 use Rattle.chip.specs.Job.{isJob, hasCells, total}
 use Rattle.chip.specs.Chip.{running}
-use Rattle.chip.specs.Legal.{placed, alignedTo, judgementKnown}
-use Rattle.chip.specs.Legality.{LegalCore}
-use Rattle.frame.specs.Frame.{judge}
+use Rattle.legal.specs.Legal.{placed, alignedTo, judgementKnown}
+use Rattle.legal.specs.Legality.{LegalCore}
 use Rattle.frame.specs.Laws.{Allowed, allowed}
 use Rattle.verdict.specs.Verdict.{jobOf, startOf, pointless, verdict}
 use Rattle.verdict.specs.Effect.{begins, resets, instantly, acted, settled}

@@ -1,9 +1,9 @@
 -- The verdict at a deselect: the list, in its order (RULES, Verdicts).
 use Prim.Native.Nat.{ℕ, _/_, _%_}
-use mathlib.Core.Bool.{Bool, true, false, cond, not, _&&_, _||_}
+use mathlib.Core.Bool.{Bool, false, cond, not, _&&_, _||_}
 use lib.Dec.{eqb}
 use Rattle.part.specs.Part.{page, smallSector, sector, reduced, roundedDown}
-use Rattle.part.specs.Table.{rowOf, fitsRule, isRead, isProgram, writeStatus, smallSectorErase, smallSectorErase′, sectorErase, chipErase, chipErase′, suspend, resume, reset}
+use Rattle.commands.specs.Table.{rowOf, fitsRule, isRead, isProgram, writeStatus, smallSectorErase, smallSectorErase′, sectorErase, chipErase, chipErase′, suspend, resume, reset}
 use Rattle.part.specs.Protection.{protectedSector}
 use Rattle.chip.specs.declared.Core.{Core}
 use Rattle.chip.specs.declared.Frame.{Frame}

@@ -1,6 +1,6 @@
 // The verdict at a deselect, and what it does to the core.
 ghost use mathlib.Core.Path.{_≡_};
-ghost use Prim.Native.Nat.{_-_, _%_, _≤_, _<_};
+ghost use Prim.Native.Nat.{_%_, _<_};
 ghost use Rattle.part.specs.Part.{roundedDown, reduced};
 ghost use Rattle.chip.specs.declared.JobKind.{JobKind};
 ghost use Rattle.chip.specs.Fields.{withWen, withSuspended, withDeep};
@@ -10,6 +10,7 @@ use chip::Core;
 use chip::Frame;
 use chip::Job;
 use chip::JobKind;
+use commands::Command;
 use part::Part;
 
 // The job that an opcode begins, Idle for none.
@@ -17,14 +18,14 @@ fn job_of(opcode: u8, address: u32) -> JobKind
     ensures { λ r. ⌜ r ≡ jobOf opcode address ⌝ }
 {
     match opcode {
-        Part::WRITE_STATUS => JobKind::WriteStatus((address % 256) as u8),
-        Part::PAGE_PROGRAM => JobKind::Program,
-        Part::PAGE_PROGRAM_2 => JobKind::Program,
-        Part::SMALL_SECTOR_ERASE => JobKind::SmallErase,
-        Part::SMALL_SECTOR_ERASE_2 => JobKind::SmallErase,
-        Part::SECTOR_ERASE => JobKind::SectorErase,
-        Part::CHIP_ERASE => JobKind::ChipErase,
-        Part::CHIP_ERASE_2 => JobKind::ChipErase,
+        Command::WRITE_STATUS => JobKind::WriteStatus((address % 256) as u8),
+        Command::PAGE_PROGRAM => JobKind::Program,
+        Command::PAGE_PROGRAM_2 => JobKind::Program,
+        Command::SMALL_SECTOR_ERASE => JobKind::SmallErase,
+        Command::SMALL_SECTOR_ERASE_2 => JobKind::SmallErase,
+        Command::SECTOR_ERASE => JobKind::SectorErase,
+        Command::CHIP_ERASE => JobKind::ChipErase,
+        Command::CHIP_ERASE_2 => JobKind::ChipErase,
         _ => JobKind::Idle,
     }
 }
@@ -98,9 +99,9 @@ fn is_pointless(core: Core, opcode: u8) -> bool
     let job = core.job;
     let kind = job.kind;
     let can_suspend = chip::is_running(core) & chip::has_cells(kind);
-    ((opcode == Part::SUSPEND) & !can_suspend)
-        | ((opcode == Part::RESUME) & !core.suspended)
-        | ((opcode == Part::RESET) & !core.armed)
+    ((opcode == Command::SUSPEND) & !can_suspend)
+        | ((opcode == Command::RESUME) & !core.suspended)
+        | ((opcode == Command::RESET) & !core.armed)
 }
 
 // The verdict on a command that asks for a job.
@@ -147,11 +148,11 @@ fn list(sectors: u8, core: Core, f: Frame, loose: bool) -> u8
     if judged != 0 {
         return judged;
     }
-    if part::is_read(f.opcode) {
+    if commands::is_read(f.opcode) {
         return 0;
     }
-    let row = part::row_of(f.opcode);
-    let fits = part::fits_rule(row.rule, f.count);
+    let row = commands::row_of(f.opcode);
+    let fits = commands::fits_rule(row.rule, f.count);
     if loose | !fits {
         return 4;
     }
@@ -221,13 +222,13 @@ fn act_at_once(core: Core, opcode: u8) -> Core
     ensures { λ r. ⌜ r ≡ instantly core opcode ⌝ }
 {
     match opcode {
-        Part::WRITE_ENABLE => set_wen(true, core),
-        Part::WRITE_DISABLE => set_wen(false, core),
-        Part::SUSPEND => set_suspended(true, core),
-        Part::RESUME => set_suspended(false, core),
-        Part::WAKE => set_deep(false, core),
-        Part::DEEP_POWER_DOWN => set_deep(true, core),
-        Part::RESET => reset(core),
+        Command::WRITE_ENABLE => set_wen(true, core),
+        Command::WRITE_DISABLE => set_wen(false, core),
+        Command::SUSPEND => set_suspended(true, core),
+        Command::RESUME => set_suspended(false, core),
+        Command::WAKE => set_deep(false, core),
+        Command::DEEP_POWER_DOWN => set_deep(true, core),
+        Command::RESET => reset(core),
         _ => core,
     }
 }
@@ -252,7 +253,7 @@ pub fn settle(sectors: u8, core: Core, f: Frame, v: u8) -> Core
         return core;
     }
     let mut next = act(sectors, core, f, v);
-    next.armed = (f.opcode == Part::RESET_ENABLE) & (v == 1);
+    next.armed = (f.opcode == Command::RESET_ENABLE) & (v == 1);
     next
 }
 
@@ -261,14 +262,14 @@ pub fn hand_over(f: Frame, v: u8, load: &[u8; 256], held: &mut [u8; 256])
     ensures { λ r. ⌜ now (held .exit) ≡ heldAfter f v (now (load .entry)) (now (held .entry)) ⌝ }
 {
     if v == 2 {
-        if part::is_program(f.opcode) {
+        if commands::is_program(f.opcode) {
             *held = *load;
             return;
         }
         *held = [255; 256];
         return;
     }
-    if (v == 1) & (f.opcode == Part::RESET) {
+    if (v == 1) & (f.opcode == Command::RESET) {
         *held = [255; 256];
     }
 }

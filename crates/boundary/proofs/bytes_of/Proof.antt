@@ -1,38 +1,28 @@
 use borrow.Author.Needs.{needs}
 use Rattle.boundary.proofs.bytes_of.Statement.{statement}
 use Rattle.boundary.proofs.bytes_of.Tie as tie
-use Rattle.boundary.proofs.bytes_of.Reads as reads
-use Rattle.boundary.proofs.bytes_of.Lts as lts
 
--- src/lib.rt:230:28
 enum-told : tie.Need-enum-told
 enum-told c = search needs
 
--- src/lib.rt:231:29
 enum-told-2 : tie.Need-enum-told-2
 enum-told-2 c = search needs
 
--- src/lib.rt:232:24
 enum-known-said : tie.Need-enum-known-said
 enum-known-said c = search needs
 
--- src/lib.rt:233:25
 enum-known-said-2 : tie.Need-enum-known-said-2
 enum-known-said-2 c = search needs
 
--- src/lib.rt:226:1
 returns : tie.Need-returns
 returns c = search needs
 
--- src/lib.rt:226:1
 returns-2 : tie.Need-returns-2
 returns-2 c = rw (c .enum-told2 .given .1)
 
--- src/lib.rt:226:1
 returns-3 : tie.Need-returns-3
 returns-3 c = rw (c .before .said .given .1)
 
--- src/lib.rt:226:1
 returns-4 : tie.Need-returns-4
 returns-4 c = rw (c .before .said2 .given .1)
 

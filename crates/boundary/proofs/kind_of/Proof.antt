@@ -1,7 +1,6 @@
 -- `kind_of` is right: each arm is the choice of the definition with its number, and no arm means that no number of the definition fits.
 use borrow.Author.Tests.{ne-eqb}
 use Rattle.boundary.specs.Numbers.{kindOf}
-use borrow.Author.Needs.{needs}
 use Rattle.boundary.proofs.kind_of.Statement.{statement}
 use Rattle.boundary.proofs.kind_of.Tie as tie
 

@@ -2,53 +2,37 @@ use Rattle.boundary.specs.Numbers.{numbersOf}
 use borrow.Author.Needs.{needs}
 use Rattle.boundary.proofs.numbers_of.Statement.{statement}
 use Rattle.boundary.proofs.numbers_of.Tie as tie
-use Rattle.boundary.proofs.numbers_of.Reads as reads
-use Rattle.boundary.proofs.numbers_of.Lts as lts
-use Rattle.boundary.proofs.flag_number.Reads as flag-number-reads
-use Rattle.boundary.proofs.kind_number.Reads as kind-number-reads
-use Rattle.boundary.proofs.kind_value.Reads as kind-value-reads
 
--- src/lib.rt:181:13
 flag-number-requires : tie.Need-flag-number-requires
 flag-number-requires c κs = search needs
 
--- src/lib.rt:182:15
 flag-number-requires-2 : tie.Need-flag-number-requires-2
 flag-number-requires-2 c κs = search needs
 
--- src/lib.rt:183:14
 flag-number-requires-3 : tie.Need-flag-number-requires-3
 flag-number-requires-3 c κs = search needs
 
--- src/lib.rt:184:20
 flag-number-requires-4 : tie.Need-flag-number-requires-4
 flag-number-requires-4 c κs = search needs
 
--- src/lib.rt:185:13
 flag-number-requires-5 : tie.Need-flag-number-requires-5
 flag-number-requires-5 c κs = search needs
 
--- src/lib.rt:186:15
 flag-number-requires-6 : tie.Need-flag-number-requires-6
 flag-number-requires-6 c κs = search needs
 
--- src/lib.rt:187:16
 flag-number-requires-7 : tie.Need-flag-number-requires-7
 flag-number-requires-7 c κs = search needs
 
--- src/lib.rt:188:19
 flag-number-requires-8 : tie.Need-flag-number-requires-8
 flag-number-requires-8 c κs = search needs
 
--- src/lib.rt:190:15
 kind-number-requires : tie.Need-kind-number-requires
 kind-number-requires c κs = search needs
 
--- src/lib.rt:191:16
 kind-value-requires : tie.Need-kind-value-requires
 kind-value-requires c κs = search needs
 
--- src/lib.rt:171:1
 returns : tie.Need-returns
 unfolding numbersOf
 returns c = rw (c .before .before .before .before .before .before .before .before .before .flag-number .ensures, c .before .before .before .before .before .before .before .before .flag-number2 .ensures, c .before .before .before .before .before .before .before .flag-number3 .ensures, c .before .before .before .before .before .before .flag-number4 .ensures, c .before .before .before .before .before .flag-number5 .ensures, c .before .before .before .before .flag-number6 .ensures, c .before .before .before .flag-number7 .ensures, c .before .before .flag-number8 .ensures, c .before .kind-number .ensures, c .kind-value .ensures)

@@ -1,10 +1,10 @@
 -- `cells::blank` meets its contract. The loop has swept `i` cells; the range that lies inside is all that a sweep past the end changes (`sweep-inside`).
-use Prim.Native.Nat.{ℕ, _≤_, _-_, _+_, min}
+use Prim.Native.Nat.{_≤_, min, _-_}
 use mathlib.Core.Path.{_≡_, refl, sym, _∙_, ap}
 use native.Mathlib.Omega.{arith}
 use lib.ListN.{length, length-set}
 use Rattle.cells.specs.Cells.{sweep, blanked}
-use Rattle.cells.specs.Laws.{sweep-none, sweep-more, length-sweep, sweep-inside}
+use Rattle.cells.specs.Laws.{sweep-none, sweep-more, sweep-inside}
 use borrow.Author.Needs.{needs}
 use Rattle.cells.proofs.blank.Statement.{statement}
 use Rattle.cells.proofs.blank.Tie as tie

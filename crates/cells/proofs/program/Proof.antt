@@ -1,10 +1,10 @@
 -- `cells::program` meets its contract. The loop has swept `i` cells, each by the load byte at its own offset, (at + i) mod 256; a sweep past the end changes no more (`sweep-inside`).
-use Prim.Native.Nat.{ℕ, _≤_, _-_, _+_, _%_, min}
+use Prim.Native.Nat.{_≤_, _+_, _%_, min, _-_}
 use mathlib.Core.Path.{_≡_, refl, sym, _∙_, ap}
 use native.Mathlib.Omega.{arith}
 use lib.ListN.{length, length-set}
 use Rattle.cells.specs.Cells.{sweep, anded, later}
-use Rattle.cells.specs.Laws.{sweep-none, sweep-more, length-sweep, sweep-inside}
+use Rattle.cells.specs.Laws.{sweep-none, sweep-more, sweep-inside}
 use borrow.Author.Needs.{needs}
 use Rattle.cells.proofs.program.Statement.{statement}
 use Rattle.cells.proofs.program.Tie as tie

@@ -1,7 +1,5 @@
 -- `event::carry_out` meets its contract. The step's one equation, taken apart into the answer and the memory.
-use mathlib.Core.Path.{_≡_, refl, sym, _∙_, ap}
-use mathlib.Core.List.{List}
-use Prim.Native.Nat.{ℕ}
+use mathlib.Core.Path.{ap}
 use Rattle.event.specs.Event.{Outcome}
 use Rattle.event.specs.Alone.{done}
 use borrow.Author.Needs.{needs}

@@ -1,127 +1,92 @@
-use mathlib.Core.Path.{_≡_, refl, sym, _∙_, ap}
+use mathlib.Core.Path.{ap}
 use borrow.Author.Tests.{ne-eqb}
 use Rattle.chip.specs.Chip.{whole}
 use Rattle.event.specs.Event.{applied, settleExchange}
 use borrow.Author.Needs.{needs}
 use Rattle.event.proofs.step.Statement.{statement}
 use Rattle.event.proofs.step.Tie as tie
-use Rattle.event.proofs.step.Reads as reads
-use Rattle.event.proofs.step.Lts as lts
-use Rattle.chip.proofs.empty_frame.Reads as empty-frame-reads
-use Rattle.event.proofs.deselect.Reads as deselect-reads
-use Rattle.event.proofs.power_up.Reads as power-up-reads
-use Rattle.event.proofs.select_frame.Reads as select-frame-reads
-use Rattle.event.proofs.set_wp.Reads as set-wp-reads
-use Rattle.event.proofs.stays.Reads as stays-reads
-use Rattle.event.proofs.tick.Reads as tick-reads
-use Rattle.frame.proofs.exchange.Reads as exchange-reads
 
--- src/lib.rt:131:37
 select-frame-requires : tie.Need-select-frame-requires
 select-frame-requires c κs = search needs
 
--- src/lib.rt:131:25
 stays-requires : tie.Need-stays-requires
 stays-requires c κs = search needs
 
--- src/lib.rt:133:70
 cast-exchange : tie.Need-cast-exchange
 cast-exchange c = search needs
 
--- src/lib.rt:133:17
 exchange-requires : tie.Need-exchange-requires
 exchange-requires c κs = search needs
 
--- src/lib.rt:136:13
 stays-requires-2 : tie.Need-stays-requires-2
 stays-requires-2 c κs = search needs
 
--- src/lib.rt:138:27
 deselect-requires : tie.Need-deselect-requires
 deselect-requires c κs = search needs
 
--- src/lib.rt:139:23
 tick-requires : tie.Need-tick-requires
 tick-requires c κs = search needs
 
--- src/lib.rt:140:24
 tick-requires-2 : tie.Need-tick-requires-2
 tick-requires-2 c κs = search needs
 
--- src/lib.rt:141:27
 set-wp-requires : tie.Need-set-wp-requires
 set-wp-requires c κs = search needs
 
--- src/lib.rt:141:21
 stays-requires-3 : tie.Need-stays-requires-3
 stays-requires-3 c κs = search needs
 
--- src/lib.rt:145:19
 power-up-requires : tie.Need-power-up-requires
 power-up-requires c κs = search needs
 
--- src/lib.rt:145:35
 empty-frame-requires : tie.Need-empty-frame-requires
 empty-frame-requires c κs = search needs
 
--- src/lib.rt:145:13
 stays-requires-4 : tie.Need-stays-requires-4
 stays-requires-4 c κs = search needs
 
--- src/lib.rt:147:14
 deselect-requires-2 : tie.Need-deselect-requires-2
 deselect-requires-2 c κs = search needs
 
--- src/lib.rt:117:1
 returns : tie.Need-returns
 unfolding applied
 returns c = rw (c .before .before .match .keys1, c .stays .ensures, c .before .select-frame .ensures)
 
--- src/lib.rt:117:1
 same-length : tie.Need-same-length
 same-length c = search needs
 
--- src/lib.rt:117:1
 returns-2 : tie.Need-returns-2
 unfolding applied
 returns-2 c =
     rw (c .before .before .before .before .before .match .keys2, c .stays2 .ensures)
     (ap (settleExchange (whole (c .before .before .before .before .before .before .before .args .core) (c .before .before .before .before .before .before .before .args .frame) (c .before .before .before .before .before .before .before .args .load .now) (c .before .before .before .before .before .before .before .args .held .now)) (c .before .before .before .before .before .before .before .args .mem .now)) (c .before .before .exchange .ensures))
 
--- src/lib.rt:117:1
 returns-3 : tie.Need-returns-3
 unfolding applied
 returns-3 c = rw (c .before .before .before .match .keys3) (c .deselect .ensures _)
 
--- src/lib.rt:117:1
 same-length-2 : tie.Need-same-length-2
 same-length-2 c = search needs
 
--- src/lib.rt:117:1
 returns-4 : tie.Need-returns-4
 unfolding applied
 returns-4 c = rw (c .before .before .before .before .before .match .keys4) (c .before .before .tick .ensures _)
 
--- src/lib.rt:117:1
 same-length-3 : tie.Need-same-length-3
 same-length-3 c = search needs
 
--- src/lib.rt:117:1
 returns-5 : tie.Need-returns-5
 unfolding applied
 returns-5 c = rw (c .before .before .before .before .before .match .keys5) (c .before .before .tick2 .ensures _)
 
--- src/lib.rt:117:1
 returns-6 : tie.Need-returns-6
 unfolding applied
 returns-6 c = rw (c .before .before .match .keys6, c .stays3 .ensures, c .before .set-wp .ensures)
 
--- src/lib.rt:117:1
 returns-7 : tie.Need-returns-7
 unfolding applied
 returns-7 c = rw (c .before .before .before .before .before .match .keys7, c .stays4 .ensures, c .before .empty-frame .ensures, c .before .before .power-up .ensures)
 
--- src/lib.rt:117:1
 returns-8 : tie.Need-returns-8
 unfolding applied
 returns-8 c =

@@ -1,7 +1,6 @@
 -- `frame::address` meets its contract. From byte 5 on only the count moves; the bytes before shift in, and the last of them sets both places.
 use borrow.Author.Tests.{lt-ltb, le-ltb, eq-eqb, ne-eqb}
 use native.Mathlib.Omega.{arith}
-use Prim.Native.Nat.{_<_, _≤_}
 use borrow.Author.Needs.{needs}
 use Rattle.frame.proofs.address.Statement.{statement}
 use Rattle.frame.proofs.address.Tie as tie

@@ -1,5 +1,5 @@
 -- `frame::exchange` meets its contract. Unselected, the opcode byte, a judged frame, or a byte taken: each by its law.
-use mathlib.Core.Path.{_≡_, refl, sym, _∙_, ap}
+use mathlib.Core.Path.{sym, _∙_}
 use borrow.Author.Tests.{not-true, not-false}
 use Rattle.frame.specs.Laws.{exchanged-unselected, exchanged-opcode, exchanged-judged, exchanged-taken}
 use borrow.Author.Needs.{needs}

@@ -1,5 +1,5 @@
 -- `frame::stream` meets its contract. A cell is driven, or the byte goes into the load: each by its law.
-use mathlib.Core.Path.{_≡_, sym, _∙_}
+use mathlib.Core.Path.{sym, _∙_}
 use Rattle.frame.specs.Stream.{streamed-cell, streamed-load}
 use borrow.Author.Needs.{needs}
 use Rattle.frame.proofs.stream.Statement.{statement}

@@ -1,5 +1,5 @@
 -- `job::do_steps` meets its contract. By the kind: the kinds without cells change none (`steps-no-cells`), the others sweep their cells.
-use mathlib.Core.Path.{_≡_, refl, sym, _∙_, ap}
+use mathlib.Core.Path.{sym, ap}
 use Rattle.job.specs.Laws.{steps-no-cells}
 use Rattle.chip.specs.Job.{unit}
 use borrow.Author.Needs.{needs}

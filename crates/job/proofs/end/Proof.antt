@@ -4,64 +4,46 @@ use Rattle.chip.specs.Chip.{withBits}
 use borrow.Author.Needs.{needs}
 use Rattle.job.proofs.end.Statement.{statement}
 use Rattle.job.proofs.end.Tie as tie
-use Rattle.job.proofs.end.Reads as reads
-use Rattle.job.proofs.end.Lts as lts
-use Rattle.chip.proofs.set_bits.Reads as set-bits-reads
-use Rattle.job.proofs.clear.Reads as clear-reads
 
--- src/lib.rt:91:9
 clear-requires : tie.Need-clear-requires
 clear-requires c κs = search needs
 
--- src/lib.rt:93:30
 enum-known-kind : tie.Need-enum-known-kind
 enum-known-kind c = search needs
 
--- src/lib.rt:93:40
 set-bits-requires : tie.Need-set-bits-requires
 set-bits-requires c κs = search needs
 
--- src/lib.rt:94:26
 enum-told : tie.Need-enum-told
 enum-told c = search needs
 
--- src/lib.rt:95:29
 enum-told-2 : tie.Need-enum-told-2
 enum-told-2 c = search needs
 
--- src/lib.rt:96:32
 enum-told-3 : tie.Need-enum-told-3
 enum-told-3 c = search needs
 
--- src/lib.rt:97:33
 enum-told-4 : tie.Need-enum-told-4
 enum-told-4 c = search needs
 
--- src/lib.rt:98:31
 enum-told-5 : tie.Need-enum-told-5
 enum-told-5 c = search needs
 
--- src/lib.rt:88:1
 returns : tie.Need-returns
 returns c = rw (c .before .before .kind .given .1) (c .set-bits .ensures ∙ ap (withBits _) (c .before .before .before .before .clear .ensures))
 
--- src/lib.rt:88:1
 returns-2 : tie.Need-returns-2
 returns-2 c = rw (c .enum-told .given .1) (c .before .before .clear .ensures)
 
--- src/lib.rt:88:1
 returns-3 : tie.Need-returns-3
 returns-3 c = rw (c .enum-told2 .given .1) (c .before .before .clear .ensures)
 
--- src/lib.rt:88:1
 returns-4 : tie.Need-returns-4
 returns-4 c = rw (c .enum-told3 .given .1) (c .before .before .clear .ensures)
 
--- src/lib.rt:88:1
 returns-5 : tie.Need-returns-5
 returns-5 c = rw (c .enum-told4 .given .1) (c .before .before .clear .ensures)
 
--- src/lib.rt:88:1
 returns-6 : tie.Need-returns-6
 returns-6 c = rw (c .enum-told5 .given .1) (c .before .before .clear .ensures)
 

@@ -1,52 +1,38 @@
 -- `job::ticks` meets its contract. No job running: nothing happens. Fewer ticks than it takes to end: that many steps (`ticks-go`). Otherwise all that are left, the end, and a blank load (`ticks-over`).
 use borrow.Author.Tests.{not-true, not-false}
-use Prim.Native.Nat.{ℕ, _<_, _≤_, _+_, _^_}
+use Prim.Native.Nat.{_<_, _≤_, _^_}
 use mathlib.Core.Bool.{true, false}
 use native.Mathlib.Omega.{arith}
-use mathlib.Core.Path.{_≡_, refl, sym, _∙_, ap}
+use mathlib.Core.Path.{_≡_, sym, _∙_}
 use Rattle.chip.specs.Chip.{running}
 use Rattle.job.specs.Tick.{ticksLeft}
 use Rattle.job.specs.Laws.{ticks-rest, worked-rest, ticksLoad-rest, ticksMemory-rest, ticks-go, worked-go, ticksLoad-go, ticksMemory-go, ticks-over, worked-over, ticksLoad-over, ticksMemory-over}
 use borrow.Author.Needs.{needs}
 use Rattle.job.proofs.ticks.Statement.{statement}
 use Rattle.job.proofs.ticks.Tie as tie
-use Rattle.job.proofs.ticks.Reads as reads
-use Rattle.job.proofs.ticks.Lts as lts
-use Rattle.chip.proofs.is_running.Reads as is-running-reads
-use Rattle.job.proofs.advance.Reads as advance-reads
-use Rattle.job.proofs.do_steps.Reads as do-steps-reads
-use Rattle.job.proofs.end.Reads as end-reads
-use Rattle.job.proofs.ticks_left.Reads as ticks-left-reads
 
--- src/lib.rt:112:9
 is-running-requires : tie.Need-is-running-requires
 is-running-requires c κs = search needs
 
--- src/lib.rt:113:9
 returns : tie.Need-returns
 returns c =
     let h : running (c .before .before .before .args .core) ≡ false = sym (c .before .is-running .ensures) ∙ not-true _ (c .if1 .taken) in
     record { core = sym (ticks-rest _ _ _ h); working = sym (worked-rest _ _ _ h); load = sym (ticksLoad-rest _ _ _ _ h); memory = sym (ticksMemory-rest _ _ _ _ _ h) }
 
--- src/lib.rt:120:9
 ticks-left-requires : tie.Need-ticks-left-requires
 ticks-left-requires c κs = search needs
 
--- src/lib.rt:122:9
 do-steps-requires : tie.Need-do-steps-requires
 do-steps-requires c κs = search needs
 
--- src/lib.rt:124:19
 advance-requires : tie.Need-advance-requires
 advance-requires c κs =
     let d : c .before .before .before .before .before .before .before .before .before .before .before .args .core .job .done < 2 ^ 32 = search needs in
     omega (arith, c .before .before .before .before .before .if2 .taken, c .before .before .before .before .before .before .ticks-left .ensures .0, c .before .before .before .before .before .before .ticks-left .ensures .1)
 
--- src/lib.rt:123:9
 same-length : tie.Need-same-length
 same-length c = search needs
 
--- src/lib.rt:123:9
 returns-2 : tie.Need-returns-2
 returns-2 c =
     let h : running (c .before .before .before .before .before .before .before .before .before .before .before .before .args .core) ≡ true = sym (c .before .before .before .before .before .before .before .before .before .before .is-running .ensures) ∙ not-false _ (c .before .before .before .before .before .before .before .before .before .if1 .left) in
@@ -59,19 +45,15 @@ returns-2 c =
       memory = c .before .before .before .do-steps .ensures ∙ sym (ticksMemory-go _ _ h _ _ _ m);
     }
 
--- src/lib.rt:128:5
 do-steps-requires-2 : tie.Need-do-steps-requires-2
 do-steps-requires-2 c κs = search needs
 
--- src/lib.rt:131:15
 end-requires : tie.Need-end-requires
 end-requires c κs = search needs
 
--- src/lib.rt:103:1
 same-length-2 : tie.Need-same-length-2
 same-length-2 c = search needs
 
--- src/lib.rt:103:1
 returns-3 : tie.Need-returns-3
 returns-3 c =
     let h : running (c .before .before .before .before .before .before .before .before .before .before .before .before .before .args .core) ≡ true = sym (c .before .before .before .before .before .before .before .before .before .before .before .is-running .ensures) ∙ not-false _ (c .before .before .before .before .before .before .before .before .before .before .if1 .left) in

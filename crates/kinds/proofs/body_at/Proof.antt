@@ -7,80 +7,58 @@ use Rattle.kinds.specs.Laws.{body-past, body-one, body-two}
 use borrow.Author.Needs.{needs}
 use Rattle.kinds.proofs.body_at.Statement.{statement}
 use Rattle.kinds.proofs.body_at.Tie as tie
-use Rattle.kinds.proofs.body_at.Reads as reads
-use Rattle.kinds.proofs.body_at.Lts as lts
-use Rattle.cells.proofs.byte_at.Reads as byte-at-reads
-use Rattle.kinds.proofs.body_length.Reads as body-length-reads
 
--- src/lib.rt:100:9
 returns : tie.Need-returns
 returns c = (sym (body-past (c .before .before .args .s .now) (c .before .before .args .at) (c .if1 .taken)), search needs)
 
--- src/lib.rt:102:25
 shared-slice-read-body-length : tie.Need-shared-slice-read-body-length
 shared-slice-read-body-length c = search needs
 
--- src/lib.rt:102:25
 cast-body-length : tie.Need-cast-body-length
 cast-body-length c = omega (arith, c .before .before .shared-slice-known .given (c .before .before .before .args .at))
 
--- src/lib.rt:102:9
 body-length-requires : tie.Need-body-length-requires
 body-length-requires c κs = search needs
 
--- src/lib.rt:104:34
 add-byte-at : tie.Need-add-byte-at
 add-byte-at c = search needs
 
--- src/lib.rt:104:16
 byte-at-requires : tie.Need-byte-at-requires
 byte-at-requires c κs = search needs
 
--- src/lib.rt:104:16
 cast-result : tie.Need-cast-result
 cast-result c = search needs
 
--- src/lib.rt:104:9
 returns-2 : tie.Need-returns-2
 returns-2 c = (c .byte-at .ensures ∙ sym (body-one (c .before .before .before .before .before .before .args .s .now) (c .before .before .before .before .before .before .args .at) (sym (c .before .before .body-length .ensures .0) ∙ c .before .if2 .taken)), search needs)
 
--- src/lib.rt:107:38
 add-byte-at-2 : tie.Need-add-byte-at-2
 add-byte-at-2 c = search needs
 
--- src/lib.rt:107:20
 byte-at-requires-2 : tie.Need-byte-at-requires-2
 byte-at-requires-2 c κs = search needs
 
--- src/lib.rt:107:20
 cast-high : tie.Need-cast-high
 cast-high c = search needs
 
--- src/lib.rt:108:37
 add-byte-at-3 : tie.Need-add-byte-at-3
 add-byte-at-3 c = search needs
 
--- src/lib.rt:108:19
 byte-at-requires-3 : tie.Need-byte-at-requires-3
 byte-at-requires-3 c κs = search needs
 
--- src/lib.rt:108:19
 cast-low : tie.Need-cast-low
 cast-low c = search needs
 
--- src/lib.rt:109:16
 mul-result : tie.Need-mul-result
 mul-result c = search needs
 
--- src/lib.rt:109:16
 add-result : tie.Need-add-result
 add-result c = search needs
 
--- src/lib.rt:109:9
 returns-3 : tie.Need-returns-3
 returns-3 c = (rw (c .before .byte-at2 .ensures, c .byte-at3 .ensures) (sym (body-two (c .before .before .before .before .before .before .before .before .args .s .now) (c .before .before .before .before .before .before .before .before .args .at) (sym (c .before .before .before .before .body-length .ensures .0) ∙ c .before .before .if3 .taken))), search needs)
 
--- src/lib.rt:96:1
 returns-4 : tie.Need-returns-4
 returns-4 c =
     let none : c .before .before .body-length .result ≡ 0 = omega (arith, c .before .before .body-length .ensures .1, c .before .if2 .left, c .if3 .left) in

@@ -4,30 +4,23 @@ use mathlib.Core.Path.{sym}
 use borrow.Author.Needs.{needs}
 use Rattle.kinds.proofs.body_length.Statement.{statement}
 use Rattle.kinds.proofs.body_length.Tie as tie
-use Rattle.kinds.proofs.body_length.Reads as reads
-use Rattle.kinds.proofs.body_length.Lts as lts
 
--- src/lib.rt:46:1
 returns : tie.Need-returns
 unfolding kindRow kindRowIn
 returns c = (rw (c .match .keys1), search needs)
 
--- src/lib.rt:46:1
 returns-2 : tie.Need-returns-2
 unfolding kindRow kindRowIn
 returns-2 c = (rw (c .match .keys2), search needs)
 
--- src/lib.rt:46:1
 returns-3 : tie.Need-returns-3
 unfolding kindRow kindRowIn
 returns-3 c = (rw (c .match .keys3), search needs)
 
--- src/lib.rt:46:1
 returns-4 : tie.Need-returns-4
 unfolding kindRow kindRowIn
 returns-4 c = (rw (c .match .keys4), search needs)
 
--- src/lib.rt:46:1
 returns-5 : tie.Need-returns-5
 returns-5 c = (sym (no-body _ (c .match .rest .0 .0 .0 .1) (c .match .rest .0 .0 .1) (c .match .rest .0 .1) (c .match .rest .1)), search needs)
 

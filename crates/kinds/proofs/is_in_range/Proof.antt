@@ -1,31 +1,23 @@
 use Rattle.kinds.specs.Kinds.{kindRow, kindRowIn}
 use Rattle.kinds.specs.Laws.{no-body, exchange-range, wp-range}
-use mathlib.Core.Path.{sym, refl}
-use borrow.Author.Needs.{needs}
+use mathlib.Core.Path.{sym}
 use Rattle.kinds.proofs.is_in_range.Statement.{statement}
 use Rattle.kinds.proofs.is_in_range.Tie as tie
-use Rattle.kinds.proofs.is_in_range.Reads as reads
-use Rattle.kinds.proofs.is_in_range.Lts as lts
 
--- src/lib.rt:59:1
 returns : tie.Need-returns
 returns c = rw (c .match .keys1) (sym (exchange-range _))
 
--- src/lib.rt:59:1
 returns-2 : tie.Need-returns-2
 unfolding kindRow kindRowIn
 returns-2 c = rw (c .match .keys2)
 
--- src/lib.rt:59:1
 returns-3 : tie.Need-returns-3
 returns-3 c = rw (c .match .keys3) (sym (wp-range _))
 
--- src/lib.rt:59:1
 returns-4 : tie.Need-returns-4
 unfolding kindRow kindRowIn
 returns-4 c = rw (c .match .keys4)
 
--- src/lib.rt:59:1
 returns-5 : tie.Need-returns-5
 returns-5 c = rw (no-body _ (c .match .rest .0 .0 .0 .1) (c .match .rest .0 .0 .1) (c .match .rest .0 .1) (c .match .rest .1))
 

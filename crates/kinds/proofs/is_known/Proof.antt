@@ -1,52 +1,40 @@
 use borrow.Author.Tests.{ne-eqb}
 use Rattle.kinds.specs.Kinds.{knownKind, knownIn}
-use borrow.Author.Needs.{needs}
 use Rattle.kinds.proofs.is_known.Statement.{statement}
 use Rattle.kinds.proofs.is_known.Tie as tie
-use Rattle.kinds.proofs.is_known.Reads as reads
-use Rattle.kinds.proofs.is_known.Lts as lts
 
--- src/lib.rt:29:1
 returns : tie.Need-returns
 unfolding knownKind knownIn
 returns c = rw (c .match .keys1)
 
--- src/lib.rt:29:1
 returns-2 : tie.Need-returns-2
 unfolding knownKind knownIn
 returns-2 c = rw (c .match .keys2)
 
--- src/lib.rt:29:1
 returns-3 : tie.Need-returns-3
 unfolding knownKind knownIn
 returns-3 c = rw (c .match .keys3)
 
--- src/lib.rt:29:1
 returns-4 : tie.Need-returns-4
 unfolding knownKind knownIn
 returns-4 c = rw (c .match .keys4)
 
--- src/lib.rt:29:1
 returns-5 : tie.Need-returns-5
 unfolding knownKind knownIn
 returns-5 c = rw (c .match .keys5)
 
--- src/lib.rt:29:1
 returns-6 : tie.Need-returns-6
 unfolding knownKind knownIn
 returns-6 c = rw (c .match .keys6)
 
--- src/lib.rt:29:1
 returns-7 : tie.Need-returns-7
 unfolding knownKind knownIn
 returns-7 c = rw (c .match .keys7)
 
--- src/lib.rt:29:1
 returns-8 : tie.Need-returns-8
 unfolding knownKind knownIn
 returns-8 c = rw (c .match .keys8)
 
--- src/lib.rt:29:1
 returns-9 : tie.Need-returns-9
 unfolding knownKind knownIn
 returns-9 c = rw (ne-eqb _ _ (c .match .rest .0 .0 .0 .0 .0 .0 .0 .1), ne-eqb _ _ (c .match .rest .0 .0 .0 .0 .0 .0 .1), ne-eqb _ _ (c .match .rest .0 .0 .0 .0 .0 .1), ne-eqb _ _ (c .match .rest .0 .0 .0 .0 .1), ne-eqb _ _ (c .match .rest .0 .0 .0 .1), ne-eqb _ _ (c .match .rest .0 .0 .1), ne-eqb _ _ (c .match .rest .0 .1), ne-eqb _ _ (c .match .rest .1))

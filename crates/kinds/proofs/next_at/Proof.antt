@@ -1,40 +1,30 @@
 use native.Mathlib.Omega.{arith}
-use mathlib.Core.Path.{sym, ap, _∙_}
-use borrow.Author.Tests.{le-ltb, lt-ltb}
+use mathlib.Core.Path.{sym}
+use borrow.Author.Tests.{le-ltb}
 use Rattle.cells.specs.Choice.{cond-no}
 use Rattle.kinds.specs.Laws.{step-inside}
 use borrow.Author.Needs.{needs}
 use Rattle.kinds.proofs.next_at.Statement.{statement}
 use Rattle.kinds.proofs.next_at.Tie as tie
-use Rattle.kinds.proofs.next_at.Reads as reads
-use Rattle.kinds.proofs.next_at.Lts as lts
-use Rattle.kinds.proofs.body_length.Reads as body-length-reads
 
--- src/lib.rt:119:9
 returns : tie.Need-returns
 returns c = sym (cond-no _ _ _ (le-ltb _ _ (c .if1 .taken)))
 
--- src/lib.rt:121:5
 add-result : tie.Need-add-result
 add-result c = search needs
 
--- src/lib.rt:121:26
 shared-slice-read-body-length : tie.Need-shared-slice-read-body-length
 shared-slice-read-body-length c = search needs
 
--- src/lib.rt:121:26
 cast-body-length : tie.Need-cast-body-length
 cast-body-length c = omega (arith, c .before .before .shared-slice-known .given (c .before .before .before .args .at))
 
--- src/lib.rt:121:14
 body-length-requires : tie.Need-body-length-requires
 body-length-requires c κs = search needs
 
--- src/lib.rt:121:5
 add-result-2 : tie.Need-add-result-2
 add-result-2 c = search needs
 
--- src/lib.rt:115:1
 returns-2 : tie.Need-returns-2
 returns-2 c = rw (c .body-length .ensures .0) (sym (step-inside (c .before .before .before .before .args .s .now) (c .before .before .before .before .args .at) (c .before .before .if1 .left)))
 

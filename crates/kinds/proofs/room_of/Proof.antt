@@ -1,30 +1,24 @@
-use Rattle.kinds.specs.Kinds.{kindRow, kindRowIn}
-use Rattle.kinds.specs.Laws.{no-record}
-use mathlib.Core.Path.{sym}
+use mathlib.Core.Path.{sym, _∙_}
+use Rattle.cells.specs.Choice.{cond-yes, cond-no}
+use Rattle.kinds.specs.Laws.{room-as}
 use borrow.Author.Needs.{needs}
 use Rattle.kinds.proofs.room_of.Statement.{statement}
 use Rattle.kinds.proofs.room_of.Tie as tie
 use Rattle.kinds.proofs.room_of.Reads as reads
 use Rattle.kinds.proofs.room_of.Lts as lts
+use Rattle.kinds.proofs.yields.Reads as yields-reads
 
--- src/lib.rt:84:1
+-- src/lib.rt:82:8
+yields-requires : tie.Need-yields-requires
+yields-requires c κs = search needs
+
+-- src/lib.rt:83:9
 returns : tie.Need-returns
-unfolding kindRow kindRowIn
-returns c = (rw (c .match .keys1), search needs)
+returns c = (sym (room-as _ ∙ cond-yes _ _ _ (sym (c .before .yields .ensures) ∙ c .if1 .taken)), search needs)
 
--- src/lib.rt:84:1
+-- src/lib.rt:79:1
 returns-2 : tie.Need-returns-2
-unfolding kindRow kindRowIn
-returns-2 c = (rw (c .match .keys2), search needs)
-
--- src/lib.rt:84:1
-returns-3 : tie.Need-returns-3
-unfolding kindRow kindRowIn
-returns-3 c = (rw (c .match .keys3), search needs)
-
--- src/lib.rt:84:1
-returns-4 : tie.Need-returns-4
-returns-4 c = (sym (no-record _ (c .match .rest .0 .0 .1) (c .match .rest .0 .1) (c .match .rest .1) .1), search needs)
+returns-2 c = (sym (room-as _ ∙ cond-no _ _ _ (sym (c .before .yields .ensures) ∙ c .if1 .left)), search needs)
 
 pub room-of-spec : {M : Type 1} → statement M
-room-of-spec = tie.close (tie.spec returns returns-2 returns-3 returns-4)
+room-of-spec = tie.close (tie.spec yields-requires returns returns-2)

@@ -1,6 +1,5 @@
-use Rattle.kinds.specs.Kinds.{kindRow, kindRowIn}
-use Rattle.kinds.specs.Laws.{no-record}
 use mathlib.Core.Path.{sym}
+use Rattle.kinds.specs.Laws.{yields-as}
 use borrow.Author.Needs.{needs}
 use Rattle.kinds.proofs.yields.Statement.{statement}
 use Rattle.kinds.proofs.yields.Tie as tie
@@ -9,22 +8,7 @@ use Rattle.kinds.proofs.yields.Lts as lts
 
 -- src/lib.rt:72:1
 returns : tie.Need-returns
-unfolding kindRow kindRowIn
-returns c = rw (c .match .keys1)
-
--- src/lib.rt:72:1
-returns-2 : tie.Need-returns-2
-unfolding kindRow kindRowIn
-returns-2 c = rw (c .match .keys2)
-
--- src/lib.rt:72:1
-returns-3 : tie.Need-returns-3
-unfolding kindRow kindRowIn
-returns-3 c = rw (c .match .keys3)
-
--- src/lib.rt:72:1
-returns-4 : tie.Need-returns-4
-returns-4 c = sym (no-record _ (c .match .rest .0 .0 .1) (c .match .rest .0 .1) (c .match .rest .1) .0)
+returns c = sym (yields-as _)
 
 pub yields-spec : {M : Type 1} → statement M
-yields-spec = tie.close (tie.spec returns returns-2 returns-3 returns-4)
+yields-spec = tie.close (tie.spec returns)

@@ -1,5 +1,5 @@
 -- `part::cell_of` meets its contract. A remainder by 0 is the number itself; otherwise it is the machine's remainder.
-use mathlib.Core.Path.{_≡_, sym, _∙_}
+use mathlib.Core.Path.{sym, _∙_}
 use native.Mathlib.Nat.{mod-zero}
 use borrow.Author.Needs.{needs}
 use Rattle.part.proofs.cell_of.Statement.{statement}

@@ -2,7 +2,6 @@
 use lib.ListN.{List·getD-eq-default}
 use mathlib.Core.List.{List, [], _∷_}
 use mathlib.Core.Path.{sym}
-use Prim.Native.Nat.{ℕ}
 use borrow.Author.Needs.{needs}
 use Rattle.part.proofs.jedec_byte.Statement.{statement}
 use Rattle.part.proofs.jedec_byte.Tie as tie

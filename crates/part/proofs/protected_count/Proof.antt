@@ -1,7 +1,6 @@
 -- `part::protected_count` meets its contract. By the level: each of 1 to 5 is its power of two, cut to the sectors; 6 and up are all of them.
 use borrow.Author.Tests.{ne-eqb, le-ltb}
 use native.Mathlib.Omega.{arith}
-use Prim.Native.Nat.{_≤_}
 use Rattle.part.specs.Protection.{protectedCount}
 use borrow.Author.Needs.{needs}
 use Rattle.part.proofs.protected_count.Statement.{statement}

@@ -1,5 +1,4 @@
 -- `part::protected_sector` meets its contract. The count is at most the sectors, so the top range's start does not wrap; each end is one comparison.
-use mathlib.Core.Path.{_≡_, sym, _∙_}
 use native.Mathlib.Omega.{arith}
 use Rattle.part.specs.Protection.{protectedSector}
 use Rattle.part.specs.Laws.{protectedCount-le}

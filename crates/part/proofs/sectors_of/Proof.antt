@@ -1,7 +1,6 @@
 -- `part::sectors_of` meets its contract. Each of the six lengths is tested by its own number, and any other is none of them.
 use borrow.Author.Tests.{ne-eqb}
 use Rattle.part.specs.Part.{permitted}
-use borrow.Author.Needs.{needs}
 use Rattle.part.proofs.sectors_of.Statement.{statement}
 use Rattle.part.proofs.sectors_of.Tie as tie
 

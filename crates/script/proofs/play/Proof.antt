@@ -1,7 +1,7 @@
-use Prim.Native.Nat.{ℕ, _+_, _-_, _<_, _≤_}
+use Prim.Native.Nat.{_+_, _<_, _-_}
 use mathlib.Core.Path.{_≡_, sym, _∙_, ap}
 use native.Mathlib.Omega.{arith}
-use lib.ListN.{length, getD}
+use lib.ListN.{length}
 use Rattle.part.specs.Part.{setting}
 use Rattle.kinds.specs.Body.{nextAt}
 use Rattle.kinds.specs.Laws.{step-inside}
@@ -12,16 +12,6 @@ use Rattle.script.proofs.Playing.{Playing, starts, finds-room, exchange
 use borrow.Author.Needs.{needs}
 use Rattle.script.proofs.play.Statement.{statement}
 use Rattle.script.proofs.play.Tie as tie
-use Rattle.script.proofs.play.Reads as reads
-use Rattle.script.proofs.play.Lts as lts
-use Rattle.event.proofs.step.Reads as step-reads
-use Rattle.frame.proofs.exchange.Reads as exchange-reads
-use Rattle.frame.proofs.stream.Reads as stream-reads
-use Rattle.frame.proofs.streams.Reads as streams-reads
-use Rattle.kinds.proofs.body_at.Reads as body-at-reads
-use Rattle.kinds.proofs.next_at.Reads as next-at-reads
-use Rattle.script.proofs.finished.Reads as finished-reads
-use Rattle.script.proofs.put.Reads as put-reads
 
 abbrev Inv-loop : tie.InvT-loop
 Inv-loop mem₀ script out₀ sectors core₀ frame₀ load₀ held₀ at₀ pos₀ ticks₀ mem out core frame load held at pos ticks = Playing (setting sectors) script (whole core₀ frame₀ load₀ held₀) mem₀ out₀ (whole core frame load held) mem out at pos ticks
@@ -29,125 +19,96 @@ Inv-loop mem₀ script out₀ sectors core₀ frame₀ load₀ held₀ at₀ pos
 abbrev μ-loop : tie.MeasureT-loop
 μ-loop mem₀ script out₀ sectors core₀ frame₀ load₀ held₀ at₀ pos₀ ticks₀ mem out core frame load held at pos ticks = length script - at
 
--- src/lib.rt:154:5
 loop-holds : tie.Need-loop-holds Inv-loop μ-loop
 loop-holds c = starts _ _ _ _ _ (c .before .before .before .before .before .before .before .pre)
 
--- src/lib.rt:155:20
 shared-slice-read-kind : tie.Need-shared-slice-read-kind Inv-loop μ-loop
 shared-slice-read-kind c = search needs
 
--- src/lib.rt:155:20
 cast-kind : tie.Need-cast-kind Inv-loop μ-loop
 cast-kind c = omega (arith, c .shared-slice-known2 .given (c .before .before .loop .at))
 
--- src/lib.rt:157:28
 add-b : tie.Need-add-b Inv-loop μ-loop
 add-b c = omega (arith, exchange-inside (c .before .before .before .loop .inv) (c .before .before .loop-test .taken) (c .if1 .taken))
 
--- src/lib.rt:157:21
 shared-slice-read-b : tie.Need-shared-slice-read-b Inv-loop μ-loop
 shared-slice-read-b c = omega (arith, exchange-inside (c .before .before .before .before .loop .inv) (c .before .before .before .loop-test .taken) (c .before .if1 .taken))
 
--- src/lib.rt:158:16
 streams-requires : tie.Need-streams-requires Inv-loop μ-loop
 streams-requires c κs = search needs
 
--- src/lib.rt:159:21
 stream-requires : tie.Need-stream-requires Inv-loop μ-loop
 stream-requires c κs = search needs
 
--- src/lib.rt:161:17
 put-requires : tie.Need-put-requires Inv-loop μ-loop
 put-requires c κs = exchange-finds-room (c .before .before .before .before .before .before .before .before .before .before .loop .inv) (c .before .before .before .before .before .before .before .before .before .loop-test .taken) (c .before .before .before .before .before .before .before .if1 .taken) (c .before .before .before .before .before .before .shared-slice-known3 .given (c .before .before .before .before .before .before .before .before .before .before .loop .at + 1) .fits) _ _ _ (c .before .stream .ensures ∙ sym (exchanged-stream _ _ _ _ _ _ (sym (c .before .before .before .before .before .streams .ensures) ∙ c .before .before .before .before .if2 .taken)))
 
--- src/lib.rt:163:17
 add-at : tie.Need-add-at Inv-loop μ-loop
 add-at c = omega (arith, exchange-inside (c .before .before .before .before .before .before .before .before .before .before .before .before .before .before .loop .inv) (c .before .before .before .before .before .before .before .before .before .before .before .before .before .loop-test .taken) (c .before .before .before .before .before .before .before .before .before .before .before .if1 .taken))
 
--- src/lib.rt:154:5
 loop-less : tie.Need-loop-less Inv-loop μ-loop
 loop-less c = omega (arith, c .before .before .before .before .before .before .before .before .before .before .before .before .before .loop-test .taken)
 
--- src/lib.rt:154:5
 loop-again : tie.Need-loop-again Inv-loop μ-loop
 loop-again c = exchange-turns (c .before .before .before .before .before .before .before .before .before .before .before .before .before .before .loop .inv) (c .before .before .before .before .before .before .before .before .before .before .before .before .before .loop-test .taken) (c .before .before .before .before .before .before .before .before .before .before .before .if1 .taken) (c .before .before .before .before .before .before .before .before .before .before .shared-slice-known3 .given (c .before .before .before .before .before .before .before .before .before .before .before .before .before .before .loop .at + 1) .fits) _ _ _ (c .before .before .before .before .before .stream .ensures ∙ sym (exchanged-stream _ _ _ _ _ _ (sym (c .before .before .before .before .before .before .before .before .before .streams .ensures) ∙ c .before .before .before .before .before .before .before .before .if2 .taken))) _ _ (c .before .before .before .put .ensures) (c .before .before .before .put .kept .0)
 
--- src/lib.rt:167:17
 exchange-requires : tie.Need-exchange-requires Inv-loop μ-loop
 exchange-requires c κs = search needs
 
--- src/lib.rt:169:13
 put-requires-2 : tie.Need-put-requires-2 Inv-loop μ-loop
 put-requires-2 c κs = exchange-finds-room (c .before .before .before .before .before .before .before .before .before .before .loop .inv) (c .before .before .before .before .before .before .before .before .before .loop-test .taken) (c .before .before .before .before .before .before .before .if1 .taken) (c .before .before .before .before .before .before .shared-slice-known3 .given (c .before .before .before .before .before .before .before .before .before .before .loop .at + 1) .fits) _ _ _ (c .before .exchange .ensures)
 
--- src/lib.rt:171:13
 add-at-2 : tie.Need-add-at-2 Inv-loop μ-loop
 add-at-2 c = omega (arith, exchange-inside (c .before .before .before .before .before .before .before .before .before .before .before .before .before .before .loop .inv) (c .before .before .before .before .before .before .before .before .before .before .before .before .before .loop-test .taken) (c .before .before .before .before .before .before .before .before .before .before .before .if1 .taken))
 
--- src/lib.rt:154:5
 loop-less-2 : tie.Need-loop-less-2 Inv-loop μ-loop
 loop-less-2 c = omega (arith, c .before .before .before .before .before .before .before .before .before .before .before .before .before .loop-test .taken)
 
--- src/lib.rt:154:5
 loop-again-2 : tie.Need-loop-again-2 Inv-loop μ-loop
 loop-again-2 c = exchange-turns (c .before .before .before .before .before .before .before .before .before .before .before .before .before .before .loop .inv) (c .before .before .before .before .before .before .before .before .before .before .before .before .before .loop-test .taken) (c .before .before .before .before .before .before .before .before .before .before .before .if1 .taken) (c .before .before .before .before .before .before .before .before .before .before .shared-slice-known3 .given (c .before .before .before .before .before .before .before .before .before .before .before .before .before .before .loop .at + 1) .fits) _ _ _ (c .before .before .before .before .before .exchange .ensures) _ _ (c .before .before .before .put2 .ensures) (c .before .before .before .put2 .kept .0)
 
--- src/lib.rt:175:20
 body-at-requires : tie.Need-body-at-requires Inv-loop μ-loop
 body-at-requires c κs = search needs
 
--- src/lib.rt:175:20
 cast-body : tie.Need-cast-body Inv-loop μ-loop
 cast-body c = omega (arith, c .body-at .ensures .1)
 
--- src/lib.rt:176:13
 step-requires : tie.Need-step-requires Inv-loop μ-loop
 step-requires c κs = search needs
 
--- src/lib.rt:178:9
 put-requires-3 : tie.Need-put-requires-3 Inv-loop μ-loop
 put-requires-3 c κs = finds-room (c .before .before .before .before .before .before .before .before .before .before .before .loop .inv) (c .before .before .before .before .before .before .before .before .before .before .loop-test .taken) _ (c .before .before .before .step .ensures ∙ ap (applied _ _ _ _) (c .before .before .before .before .before .before .before .body-at .ensures .0))
 
--- src/lib.rt:181:18
 cast-ticks : tie.Need-cast-ticks Inv-loop μ-loop
 cast-ticks c = search needs
 
--- src/lib.rt:181:9
 add-ticks : tie.Need-add-ticks Inv-loop μ-loop
 add-ticks c =
     let t : c .before .before .before .before .before .before .before .before .before .step .result .ticks < 4294967296 = search needs in
     omega (arith, c .before .before .before .before .before .before .before .before .before .before .before .before .before .before .before .before .before .loop .inv .few, c .before .before .before .before .before .before .before .before .before .before .before .before .before .before .before .before .before .loop .inv .inside, c .before .before .before .before .before .before .before .before .before .before .before .before .before .before .before .before .before .loop .inv .short)
 
--- src/lib.rt:182:9
 next-at-requires : tie.Need-next-at-requires Inv-loop μ-loop
 next-at-requires c κs = search needs
 
--- src/lib.rt:154:5
 loop-less-3 : tie.Need-loop-less-3 Inv-loop μ-loop
 loop-less-3 c =
     let next : c .next-at .result ≡ nextAt (c .before .before .before .before .before .before .before .before .before .before .before .before .before .before .before .before .before .before .before .before .before .before .before .before .before .before .args .script .now) (c .before .before .before .before .before .before .before .before .before .before .before .before .before .before .before .before .before .before .loop .at) = c .next-at .ensures ∙ step-inside (c .before .before .before .before .before .before .before .before .before .before .before .before .before .before .before .before .before .before .before .before .before .before .before .before .before .before .args .script .now) (c .before .before .before .before .before .before .before .before .before .before .before .before .before .before .before .before .before .before .loop .at) (c .before .before .before .before .before .before .before .before .before .before .before .before .before .before .before .before .before .loop-test .taken) in
     omega (arith, next, c .before .before .before .before .before .before .before .before .before .before .before .before .before .before .before .before .before .loop-test .taken)
 
--- src/lib.rt:154:5
 loop-again-3 : tie.Need-loop-again-3 Inv-loop μ-loop
 loop-again-3 c =
     let next : c .next-at .result ≡ nextAt (c .before .before .before .before .before .before .before .before .before .before .before .before .before .before .before .before .before .before .before .before .before .before .before .before .before .before .args .script .now) (c .before .before .before .before .before .before .before .before .before .before .before .before .before .before .before .before .before .before .loop .at) = c .next-at .ensures ∙ step-inside (c .before .before .before .before .before .before .before .before .before .before .before .before .before .before .before .before .before .before .before .before .before .before .before .before .before .before .args .script .now) (c .before .before .before .before .before .before .before .before .before .before .before .before .before .before .before .before .before .before .loop .at) (c .before .before .before .before .before .before .before .before .before .before .before .before .before .before .before .before .before .loop-test .taken) in
     rw next (turns (c .before .before .before .before .before .before .before .before .before .before .before .before .before .before .before .before .before .before .loop .inv) (c .before .before .before .before .before .before .before .before .before .before .before .before .before .before .before .before .before .loop-test .taken) _ _ _ (c .before .before .before .before .before .before .before .before .before .before .step .ensures ∙ ap (applied _ _ _ _) (c .before .before .before .before .before .before .before .before .before .before .before .before .before .before .body-at .ensures .0)) (c .before .before .before .before .before .before .put3 .ensures) (search needs) (c .before .before .before .before .before .before .before .before .before .before .step .kept .1 .1 .1 .1 .0) (c .before .before .before .before .before .before .put3 .kept .0))
 
--- src/lib.rt:184:5
 finished-requires : tie.Need-finished-requires Inv-loop μ-loop
 finished-requires c κs = search needs
 
--- src/lib.rt:143:1
 same-length : tie.Need-same-length Inv-loop μ-loop
 same-length c = c .before .before .loop .inv .memory
 
--- src/lib.rt:143:1
 same-length-2 : tie.Need-same-length-2 Inv-loop μ-loop
 same-length-2 c = c .before .before .loop .inv .output
 
--- src/lib.rt:143:1
 returns : tie.Need-returns Inv-loop μ-loop
 returns c = rw (c .finished .ensures) (ends (c .before .before .loop .inv) (c .before .loop-test .left))
 

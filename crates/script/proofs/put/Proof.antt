@@ -1,7 +1,6 @@
 -- `script::put` meets its contract. No, one or two stores: what stands before the next place and from there on (`stored-none`, `stored-one`, `stored-two`).
-use Prim.Native.Nat.{ℕ, _+_, _<_, _≤_}
-use mathlib.Core.Path.{_≡_, refl, sym, _∙_, ap}
-use mathlib.Core.List.{List}
+use Prim.Native.Nat.{_+_, _<_}
+use mathlib.Core.Path.{ap}
 use native.Mathlib.Omega.{arith}
 use lib.ListN.{length, length-set}
 use Rattle.chip.specs.Record.{recordBytes}

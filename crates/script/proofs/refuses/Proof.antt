@@ -1,13 +1,12 @@
 -- `script::refuses` meets its contract. 1, 2, 3, the first bad event, 7, in that order, each by its law.
-use mathlib.Core.Path.{_≡_, refl, sym, _∙_, ap}
+use mathlib.Core.Path.{_≡_, sym, _∙_, ap}
 use mathlib.Core.Bool.{true, false}
-use lib.ListN.{length}
-use Prim.Native.Nat.{ℕ, _<_, _≤_}
+use Prim.Native.Nat.{_<_, _≤_}
 use native.Mathlib.Omega.{arith}
 use borrow.Author.Tests.{not-true, not-false}
 use Rattle.part.specs.Part.{permitted}
 use Rattle.part.specs.Laws.{no-sectors, some-sectors}
-use Rattle.chip.specs.Legal.{legal}
+use Rattle.legal.specs.Legal.{legal}
 use Rattle.script.specs.Script.{firstBad, events, room, Refusal}
 use Rattle.script.specs.Laws.{refusal-length, refusal-state, refusal-long, refusal-bad, refusal-room, refusal-none}
 use borrow.Author.Needs.{needs}

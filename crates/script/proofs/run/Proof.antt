@@ -1,13 +1,12 @@
 -- `script::run` meets its contract. Refused: all as it was. Done: nothing refused it, so the script can be played, and what that comes to is the run's outcome.
-use mathlib.Core.Path.{_≡_, refl, sym, _∙_, ap}
-use mathlib.Core.List.{List, _++_}
+use mathlib.Core.Path.{_≡_, sym, _∙_, ap}
+use mathlib.Core.List.{_++_}
 use lib.ListN.{length, drop}
-use Prim.Native.Nat.{ℕ}
 use Rattle.cells.specs.Choice.{cond-yes}
 use Rattle.part.specs.Part.{sectors}
 use Rattle.script.specs.Script.{Refusal}
 use Rattle.script.specs.Run.{World, refusal, refused, done}
-use Rattle.script.specs.Laws.{Accepted, accepted, answer-refused, memory-refused, output-refused, answer-done, memory-done, output-done, outcome-as}
+use Rattle.script.specs.Laws.{accepted, answer-refused, memory-refused, output-refused, answer-done, memory-done, output-done, outcome-as}
 use borrow.Author.Needs.{needs}
 use Rattle.script.proofs.run.Statement.{statement}
 use Rattle.script.proofs.run.Tie as tie

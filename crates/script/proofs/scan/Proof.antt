@@ -1,4 +1,4 @@
-use Prim.Native.Nat.{ℕ, _≤_, _<_, _+_, _-_, _*_}
+use Prim.Native.Nat.{ℕ, _≤_, _<_, _+_, _*_, _-_}
 use mathlib.Core.Bool.{true, _&&_}
 use mathlib.Core.Path.{_≡_, refl, sym, _∙_, ap}
 use native.Mathlib.Nat.{add-zero, add-assoc, zero-add}
@@ -15,11 +15,6 @@ use Rattle.script.specs.Laws.{firstBad-none, firstBad-here, firstBad-lat
 use borrow.Author.Needs.{needs}
 use Rattle.script.proofs.scan.Statement.{statement}
 use Rattle.script.proofs.scan.Tie as tie
-use Rattle.script.proofs.scan.Reads as reads
-use Rattle.script.proofs.scan.Lts as lts
-use Rattle.kinds.proofs.next_at.Reads as next-at-reads
-use Rattle.kinds.proofs.room_of.Reads as room-of-reads
-use Rattle.script.proofs.fault_at.Reads as fault-at-reads
 
 abbrev Inv-loop : tie.InvT-loop
 Inv-loop s at₀ space₀ at space = (at ≤ length s) × (space ≤ 2 * at) × (firstBad (events s) ≡ firstBad (eventsFrom s at)) × (room (events s) ≡ space + room (eventsFrom s at))
@@ -27,35 +22,27 @@ Inv-loop s at₀ space₀ at space = (at ≤ length s) × (space ≤ 2 * at) × 
 abbrev μ-loop : tie.MeasureT-loop
 μ-loop s at₀ space₀ at space = length s - at
 
--- src/lib.rt:62:5
 loop-holds : tie.Need-loop-holds Inv-loop μ-loop
 loop-holds c = (search needs, search needs, refl, sym (zero-add _))
 
--- src/lib.rt:64:13
 shared-slice-read-if1 : tie.Need-shared-slice-read-if1 Inv-loop μ-loop
 shared-slice-read-if1 c = search needs
 
--- src/lib.rt:64:13
 cast-if1 : tie.Need-cast-if1 Inv-loop μ-loop
 cast-if1 c = omega (arith, c .shared-slice-known2 .given (c .before .before .loop .at))
 
--- src/lib.rt:64:48
 add-if1 : tie.Need-add-if1 Inv-loop μ-loop
 add-if1 c = search needs
 
--- src/lib.rt:65:13
 add-space : tie.Need-add-space Inv-loop μ-loop
 add-space c = omega (arith, c .before .before .before .loop .inv .1, c .before .before .before .before .before .pre)
 
--- src/lib.rt:66:13
 add-at : tie.Need-add-at Inv-loop μ-loop
 add-at c = omega (arith, c .before .before .before .loop .inv .0, c .before .before .before .before .before .pre)
 
--- src/lib.rt:62:5
 loop-less : tie.Need-loop-less Inv-loop μ-loop
 loop-less c = omega (arith, c .before .before .loop-test .taken)
 
--- src/lib.rt:62:5
 loop-again : tie.Need-loop-again Inv-loop μ-loop
 loop-again c =
     let both : (eqb (getD (c .before .before .before .before .before .args .s .now) (c .before .before .before .loop .at) 0) EXCHANGE && ltb (c .before .before .before .loop .at + 1) (length (c .before .before .before .before .before .args .s .now))) ≡ true = c .if1 .taken in
@@ -68,11 +55,9 @@ loop-again c =
       c .before .before .before .loop .inv .3 ∙ ap (λ (r : ℕ). c .before .before .before .loop .space + r) (exchange-room (c .before .before .before .before .before .args .s .now) (c .before .before .before .loop .at) e (c .before .before .loop-test .taken)) ∙ sym (add-assoc (c .before .before .before .loop .space) 2 _),
     )
 
--- src/lib.rt:69:13
 fault-at-requires : tie.Need-fault-at-requires Inv-loop μ-loop
 fault-at-requires c κs = search needs
 
--- src/lib.rt:71:13
 returns : tie.Need-returns Inv-loop μ-loop
 returns c =
     let is : c .before .fault-at .result ≡ faultAt (c .before .before .before .before .before .before .before .args .s .now) (c .before .before .before .before .before .loop .at) = c .before .fault-at .ensures in
@@ -81,31 +66,24 @@ returns c =
       rooms = λ e. absurd (c .if2 .taken e);
     }
 
--- src/lib.rt:79:33
 shared-slice-read-room-of : tie.Need-shared-slice-read-room-of Inv-loop μ-loop
 shared-slice-read-room-of c = search needs
 
--- src/lib.rt:79:33
 cast-room-of : tie.Need-cast-room-of Inv-loop μ-loop
 cast-room-of c = omega (arith, c .shared-slice-known3 .given (c .before .before .before .before .before .before .loop .at))
 
--- src/lib.rt:79:18
 room-of-requires : tie.Need-room-of-requires Inv-loop μ-loop
 room-of-requires c κs = search needs
 
--- src/lib.rt:79:9
 add-space-2 : tie.Need-add-space-2 Inv-loop μ-loop
 add-space-2 c = search needs
 
--- src/lib.rt:80:9
 next-at-requires : tie.Need-next-at-requires Inv-loop μ-loop
 next-at-requires c κs = search needs
 
--- src/lib.rt:62:5
 loop-less-2 : tie.Need-loop-less-2 Inv-loop μ-loop
 loop-less-2 c = omega (arith, c .next-at .ensures, step-inside (c .before .before .before .before .before .before .before .before .before .before .args .s .now) (c .before .before .before .before .before .before .before .before .loop .at) (c .before .before .before .before .before .before .before .loop-test .taken))
 
--- src/lib.rt:62:5
 loop-again-2 : tie.Need-loop-again-2 Inv-loop μ-loop
 loop-again-2 c =
     let z : faultAt (c .before .before .before .before .before .before .before .before .before .before .args .s .now) (c .before .before .before .before .before .before .before .before .loop .at) ≡ 0 = sym (c .before .before .before .before .fault-at .ensures) ∙ c .before .before .before .if2 .left in
@@ -116,7 +94,6 @@ loop-again-2 c =
       c .before .before .before .before .before .before .before .before .loop .inv .3 ∙ ap (λ (r : ℕ). c .before .before .before .before .before .before .before .before .loop .space + r) (room-more _ _ (c .before .before .before .before .before .before .before .loop-test .taken)) ∙ rw (next, c .before .room-of .ensures .0) (sym (add-assoc _ _ _)),
     )
 
--- src/lib.rt:56:1
 returns-2 : tie.Need-returns-2 Inv-loop μ-loop
 returns-2 c =
     record {

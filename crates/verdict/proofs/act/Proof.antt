@@ -1,5 +1,5 @@
 -- `verdict::act` meets its contract. 2 begins, 1 acts at once, any other changes nothing.
-use mathlib.Core.Path.{_≡_, refl, sym, _∙_, ap}
+use mathlib.Core.Path.{sym, _∙_}
 use borrow.Author.Tests.{eq-eqb, ne-eqb}
 use Rattle.cells.specs.Choice.{cond-yes, cond-no}
 use Rattle.verdict.specs.Effect.{acted}

@@ -5,39 +5,26 @@ use Rattle.verdict.specs.Verdict.{commandVerdict}
 use borrow.Author.Needs.{needs}
 use Rattle.verdict.proofs.command_verdict.Statement.{statement}
 use Rattle.verdict.proofs.command_verdict.Tie as tie
-use Rattle.verdict.proofs.command_verdict.Reads as reads
-use Rattle.verdict.proofs.command_verdict.Lts as lts
-use Rattle.chip.proofs.is_job.Reads as is-job-reads
-use Rattle.verdict.proofs.is_pointless.Reads as is-pointless-reads
-use Rattle.verdict.proofs.job_asked.Reads as job-asked-reads
-use Rattle.verdict.proofs.job_verdict.Reads as job-verdict-reads
 
--- src/lib.rt:131:8
 is-pointless-requires : tie.Need-is-pointless-requires
 is-pointless-requires c κs = search needs
 
--- src/lib.rt:132:9
 returns : tie.Need-returns
 unfolding commandVerdict
 returns c = rw (← c .before .is-pointless .ensures, c .if1 .taken)
 
--- src/lib.rt:134:9
 job-asked-requires : tie.Need-job-asked-requires
 job-asked-requires c κs = search needs
 
--- src/lib.rt:136:8
 is-job-requires : tie.Need-is-job-requires
 is-job-requires c κs = search needs
 
--- src/lib.rt:137:9
 job-verdict-requires : tie.Need-job-verdict-requires
 job-verdict-requires c κs = search needs
 
--- src/lib.rt:137:9
 returns-2 : tie.Need-returns-2
 returns-2 c = c .job-verdict .ensures ∙ sym (command-as _ _ _ _ (sym (c .before .before .before .before .before .is-pointless .ensures) ∙ c .before .before .before .before .if1 .left) (c .before .before .before .job-asked .ensures) ∙ cond-yes _ _ _ (sym (c .before .before .is-job .ensures) ∙ c .before .if2 .taken))
 
--- src/lib.rt:128:1
 returns-3 : tie.Need-returns-3
 returns-3 c = sym (command-as _ _ _ _ (sym (c .before .before .before .before .is-pointless .ensures) ∙ c .before .before .before .if1 .left) (c .before .before .job-asked .ensures) ∙ cond-no _ _ _ (sym (c .before .is-job .ensures) ∙ c .if2 .left))
 

@@ -5,30 +5,22 @@ use Rattle.verdict.specs.Effect.{heldAfter}
 use borrow.Author.Needs.{needs}
 use Rattle.verdict.proofs.hand_over.Statement.{statement}
 use Rattle.verdict.proofs.hand_over.Tie as tie
-use Rattle.verdict.proofs.hand_over.Reads as reads
-use Rattle.verdict.proofs.hand_over.Lts as lts
-use Rattle.part.proofs.is_program.Reads as is-program-reads
 
--- src/lib.rt:263:12
 is-program-requires : tie.Need-is-program-requires
 is-program-requires c κs = search needs
 
--- src/lib.rt:265:13
 returns : tie.Need-returns
 unfolding heldAfter
 returns c = sym (cond-yes _ _ _ (eq-eqb _ _ (c .before .before .before .if1 .taken)) ∙ cond-yes _ _ _ (sym (c .before .before .is-program .ensures) ∙ c .before .if2 .taken))
 
--- src/lib.rt:268:9
 returns-2 : tie.Need-returns-2
 unfolding heldAfter
 returns-2 c = sym (cond-yes _ _ _ (eq-eqb _ _ (c .before .before .before .if1 .taken)) ∙ cond-no _ _ _ (sym (c .before .before .is-program .ensures) ∙ c .before .if2 .left))
 
--- src/lib.rt:259:1
 returns-3 : tie.Need-returns-3
 unfolding heldAfter
 returns-3 c = sym (cond-no _ _ _ (ne-eqb _ _ (c .before .before .before .if1 .left)) ∙ cond-yes _ _ _ (c .before .if3 .taken))
 
--- src/lib.rt:259:1
 returns-4 : tie.Need-returns-4
 unfolding heldAfter
 returns-4 c = sym (cond-no _ _ _ (ne-eqb _ _ (c .before .before .if1 .left)) ∙ cond-no _ _ _ (c .if3 .left))

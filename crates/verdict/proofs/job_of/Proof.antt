@@ -1,6 +1,6 @@
 -- `verdict::job_of` meets its contract. By the opcode, each job's and any other.
 use borrow.Author.Tests.{ne-eqb}
-use Rattle.part.specs.Table.{isProgram}
+use Rattle.commands.specs.Table.{isProgram}
 use Rattle.verdict.specs.Verdict.{jobOf}
 use borrow.Author.Needs.{needs}
 use Rattle.verdict.proofs.job_of.Statement.{statement}

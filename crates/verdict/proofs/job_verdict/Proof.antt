@@ -2,40 +2,29 @@ use Rattle.verdict.specs.Verdict.{jobVerdict}
 use borrow.Author.Needs.{needs}
 use Rattle.verdict.proofs.job_verdict.Statement.{statement}
 use Rattle.verdict.proofs.job_verdict.Tie as tie
-use Rattle.verdict.proofs.job_verdict.Reads as reads
-use Rattle.verdict.proofs.job_verdict.Lts as lts
-use Rattle.chip.proofs.has_cells.Reads as has-cells-reads
-use Rattle.verdict.proofs.target_protected.Reads as target-protected-reads
 
--- src/lib.rt:111:9
 has-cells-requires : tie.Need-has-cells-requires
 has-cells-requires c κs = search needs
 
--- src/lib.rt:113:9
 returns : tie.Need-returns
 unfolding jobVerdict
 returns c = rw (← c .before .before .before .has-cells .ensures, c .if1 .taken)
 
--- src/lib.rt:116:9
 returns-2 : tie.Need-returns-2
 unfolding jobVerdict
 returns-2 c = rw (← c .before .before .before .before .before .has-cells .ensures, c .before .before .if1 .left, c .if2 .taken)
 
--- src/lib.rt:119:9
 returns-3 : tie.Need-returns-3
 unfolding jobVerdict
 returns-3 c = rw (← c .before .before .before .before .before .before .before .before .has-cells .ensures, c .before .before .before .before .before .if1 .left, c .before .before .before .if2 .left, c .if3 .taken)
 
--- src/lib.rt:121:8
 target-protected-requires : tie.Need-target-protected-requires
 target-protected-requires c κs = search needs
 
--- src/lib.rt:122:9
 returns-4 : tie.Need-returns-4
 unfolding jobVerdict
 returns-4 c = rw (← c .before .before .before .before .before .before .before .before .before .before .has-cells .ensures, c .before .before .before .before .before .before .before .if1 .left, c .before .before .before .before .before .if2 .left, c .before .before .if3 .left, ← c .before .target-protected .ensures, c .if4 .taken)
 
--- src/lib.rt:107:1
 returns-5 : tie.Need-returns-5
 unfolding jobVerdict
 returns-5 c = rw (← c .before .before .before .before .before .before .before .before .before .before .has-cells .ensures, c .before .before .before .before .before .before .before .if1 .left, c .before .before .before .before .before .if2 .left, c .before .before .if3 .left, ← c .before .target-protected .ensures, c .if4 .left)

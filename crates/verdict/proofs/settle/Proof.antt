@@ -1,5 +1,5 @@
 -- `verdict::settle` meets its contract. A frame with no byte changes nothing; any other acts, and arms or disarms.
-use mathlib.Core.Path.{_≡_, refl, sym, _∙_, ap}
+use mathlib.Core.Path.{sym}
 use borrow.Author.Tests.{eq-eqb, ne-eqb}
 use Rattle.cells.specs.Choice.{cond-yes, cond-no}
 use Rattle.verdict.specs.Effect.{settled}

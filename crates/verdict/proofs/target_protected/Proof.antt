@@ -1,67 +1,49 @@
 use borrow.Author.Needs.{needs}
 use Rattle.verdict.proofs.target_protected.Statement.{statement}
 use Rattle.verdict.proofs.target_protected.Tie as tie
-use Rattle.verdict.proofs.target_protected.Reads as reads
-use Rattle.verdict.proofs.target_protected.Lts as lts
-use Rattle.verdict.proofs.place_protected.Reads as place-protected-reads
 
--- src/lib.rt:85:26
 enum-told : tie.Need-enum-told
 enum-told c = search needs
 
--- src/lib.rt:86:36
 enum-told-2 : tie.Need-enum-told-2
 enum-told-2 c = search needs
 
--- src/lib.rt:87:29
 enum-told-3 : tie.Need-enum-told-3
 enum-told-3 c = search needs
 
--- src/lib.rt:87:29
 place-protected-requires : tie.Need-place-protected-requires
 place-protected-requires c κs = search needs
 
--- src/lib.rt:88:32
 enum-told-4 : tie.Need-enum-told-4
 enum-told-4 c = search needs
 
--- src/lib.rt:88:32
 place-protected-requires-2 : tie.Need-place-protected-requires-2
 place-protected-requires-2 c κs = search needs
 
--- src/lib.rt:89:33
 enum-told-5 : tie.Need-enum-told-5
 enum-told-5 c = search needs
 
--- src/lib.rt:89:33
 place-protected-requires-3 : tie.Need-place-protected-requires-3
 place-protected-requires-3 c κs = search needs
 
--- src/lib.rt:90:33
 enum-told-6 : tie.Need-enum-told-6
 enum-told-6 c = search needs
 
--- src/lib.rt:81:1
 returns : tie.Need-returns
 returns c = search needs
 
--- src/lib.rt:81:1
 returns-2 : tie.Need-returns-2
 returns-2 c = search needs
 
--- src/lib.rt:81:1
 returns-3 : tie.Need-returns-3
 returns-3 c = rw (c .before .enum-told3 .given .1, c .place-protected .ensures)
 
--- src/lib.rt:81:1
 returns-4 : tie.Need-returns-4
 returns-4 c = rw (c .before .enum-told4 .given .1, c .place-protected2 .ensures)
 
--- src/lib.rt:81:1
 returns-5 : tie.Need-returns-5
 returns-5 c = rw (c .before .enum-told5 .given .1, c .place-protected3 .ensures)
 
--- src/lib.rt:81:1
 returns-6 : tie.Need-returns-6
 returns-6 c = rw (c .before .enum-told6 .given .1)
 
