@@ -5,7 +5,6 @@ use mathlib.Core.List.{List}
 use mathlib.Core.Path.{_≡_, refl, sym, ap, _∙_}
 use lib.ListN.{length}
 use Rattle.cells.specs.Choice.{cond-either, chosen-number}
-use Rattle.chip.specs.declared.Chip.{Chip}
 use Rattle.event.specs.declared.Answer.{Answer}
 use Rattle.event.specs.Alone as alone
 use Rattle.event.specs.Laws as alone-laws

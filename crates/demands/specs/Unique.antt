@@ -29,7 +29,7 @@ same p q = p ∙ sym q
 pub unique-fresh : (status : ℕ) (r r′ : Chip) → r ≡ fresh status → r′ ≡ fresh status → r ≡ r′
 unique-fresh status r r′ p q = same p q
 
--- `chip::is_legal`
+-- `legal::is_legal`
 pub unique-legal : (c : Chip) (n : ℕ) (r r′ : Bool) → r ≡ legal c n → r′ ≡ legal c n → r ≡ r′
 unique-legal c n r r′ p q = same p q
 

@@ -1,3 +1,4 @@
+-- `boundary::bytes_of` meets its contract. By the record: its bytes, and zeros behind them.
 use borrow.Author.Needs.{needs}
 use Rattle.boundary.proofs.bytes_of.Statement.{statement}
 use Rattle.boundary.proofs.bytes_of.Tie as tie

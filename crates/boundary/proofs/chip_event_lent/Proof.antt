@@ -1,3 +1,4 @@
+-- `boundary::chip_event_lent` meets its contract. As `chip_event`, by the event on a lent chip.
 use mathlib.Core.Path.{sym, _∙_, _≡_}
 use mathlib.Core.Bool.{true, false}
 use borrow.Author.Tests.{not-true, not-false}
@@ -6,50 +7,33 @@ use Rattle.boundary.specs.Laws.{event-refused, event-done, event-no-stat
 use borrow.Author.Needs.{needs}
 use Rattle.boundary.proofs.chip_event_lent.Statement.{statement}
 use Rattle.boundary.proofs.chip_event_lent.Tie as tie
-use Rattle.boundary.proofs.chip_event_lent.Reads as reads
-use Rattle.boundary.proofs.chip_event_lent.Lts as lts
-use Rattle.boundary.proofs.chip_of.Reads as chip-of-reads
-use Rattle.boundary.proofs.event_done.Reads as event-done-reads
-use Rattle.boundary.proofs.is_state.Reads as is-state-reads
-use Rattle.boundary.proofs.no_state.Reads as no-state-reads
-use Rattle.boundary.proofs.refuse_event.Reads as refuse-event-reads
-use Rattle.lent.proofs.event_by_lending.Reads as event-by-lending-reads
 
--- src/lib.rt:331:9
 is-state-requires : tie.Need-is-state-requires
 is-state-requires c κs = search needs
 
--- src/lib.rt:332:32
 no-state-requires : tie.Need-no-state-requires
 no-state-requires c κs = search needs
 
--- src/lib.rt:332:9
 refuse-event-requires : tie.Need-refuse-event-requires
 refuse-event-requires c κs = search needs
 
--- src/lib.rt:332:9
 returns : tie.Need-returns
 returns c =
     let no : isState (c .before .before .before .before .before .args .c) ≡ false = sym (c .before .before .before .is-state .ensures) ∙ not-true _ (c .before .before .if1 .taken) in
     (event-no-state _ _ _ _ _ _ no (c .before .no-state .ensures) (c .refuse-event .ensures), event-memory-no-state _ _ _ _ no)
 
--- src/lib.rt:334:36
 chip-of-requires : tie.Need-chip-of-requires
 chip-of-requires c κs = search needs
 
--- src/lib.rt:334:9
 event-by-lending-requires : tie.Need-event-by-lending-requires
 event-by-lending-requires c κs = search needs
 
--- src/lib.rt:336:9
 refuse-event-requires-2 : tie.Need-refuse-event-requires-2
 refuse-event-requires-2 c κs = search needs
 
--- src/lib.rt:336:9
 same-length : tie.Need-same-length
 same-length c = search needs
 
--- src/lib.rt:336:9
 returns-2 : tie.Need-returns-2
 returns-2 c =
     let is : isState (c .before .before .before .before .before .before .before .before .before .before .before .args .c) ≡ true = sym (c .before .before .before .before .before .before .before .before .before .is-state .ensures) ∙ not-false _ (c .before .before .before .before .before .before .before .before .if1 .left) in (
@@ -57,15 +41,12 @@ returns-2 c =
       event-memory-state _ _ _ _ _ _ is (c .before .before .before .before .before .before .before .chip-of .ensures) (c .before .before .before .before .before .event-by-lending .ensures .1),
     )
 
--- src/lib.rt:338:5
 event-done-requires : tie.Need-event-done-requires
 event-done-requires c κs = search needs
 
--- src/lib.rt:322:1
 same-length-2 : tie.Need-same-length-2
 same-length-2 c = search needs
 
--- src/lib.rt:322:1
 returns-3 : tie.Need-returns-3
 returns-3 c =
     let is : isState (c .before .before .before .before .before .before .before .before .before .before .before .args .c) ≡ true = sym (c .before .before .before .before .before .before .before .before .before .is-state .ensures) ∙ not-false _ (c .before .before .before .before .before .before .before .before .if1 .left) in (

@@ -1,3 +1,4 @@
+-- `boundary::chip_legal` meets its contract. Numbers that are no state are not legal; otherwise the chip that they mean is asked.
 use mathlib.Core.Path.{sym, _∙_}
 use borrow.Author.Tests.{not-true, not-false}
 use Rattle.boundary.specs.Laws.{legal-no-state, legal-state}

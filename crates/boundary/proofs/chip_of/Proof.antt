@@ -1,3 +1,4 @@
+-- `boundary::chip_of` meets its contract. Every field is copied, a byte as a flag, two numbers as the job's kind.
 use Rattle.boundary.specs.Numbers.{chipOf}
 use borrow.Author.Needs.{needs}
 use Rattle.boundary.proofs.chip_of.Statement.{statement}

@@ -1,3 +1,4 @@
+-- `boundary::numbers_of` meets its contract. Every field is copied, a flag as a byte, the job's kind as two numbers.
 use Rattle.boundary.specs.Numbers.{numbersOf}
 use borrow.Author.Needs.{needs}
 use Rattle.boundary.proofs.numbers_of.Statement.{statement}

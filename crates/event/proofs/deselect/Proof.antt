@@ -1,3 +1,4 @@
+-- `event::deselect` meets its contract. Unselected it is verdict 0 and nothing else; selected it is the verdict, what it does, and the empty frame.
 use mathlib.Core.Path.{_≡_, sym}
 use mathlib.Core.Bool.{true, false}
 use borrow.Author.Tests.{not-true, not-false}

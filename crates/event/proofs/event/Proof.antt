@@ -1,3 +1,4 @@
+-- `event::event` meets its contract. Refused: all as it was. Done: nothing refused it, so the length is permitted and the body small, and the step does the rest.
 use mathlib.Core.Path.{_≡_, sym, _∙_, ap}
 use native.Mathlib.Omega.{arith}
 use lib.ListN.{length}

@@ -1,3 +1,4 @@
+-- `event::step` meets its contract. By the kind, each as the definition has it.
 use mathlib.Core.Path.{ap}
 use borrow.Author.Tests.{ne-eqb}
 use Rattle.chip.specs.Chip.{whole}

@@ -1,3 +1,4 @@
+-- `event::tick` meets its contract. What the ticks leave, with the frame and the frame's load beside it.
 use borrow.Author.Needs.{needs}
 use Rattle.event.proofs.tick.Statement.{statement}
 use Rattle.event.proofs.tick.Tie as tie

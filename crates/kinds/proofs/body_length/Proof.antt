@@ -1,3 +1,4 @@
+-- `kinds::body_length` meets its contract. By the kind; no other number has a body (`no-body`).
 use Rattle.kinds.specs.Kinds.{kindRow, kindRowIn}
 use Rattle.kinds.specs.Laws.{no-body}
 use mathlib.Core.Path.{sym}

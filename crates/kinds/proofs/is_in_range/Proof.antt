@@ -1,3 +1,4 @@
+-- `kinds::is_in_range` meets its contract. By the kind: a range where the row has a body, and none elsewhere (`no-body`).
 use Rattle.kinds.specs.Kinds.{kindRow, kindRowIn}
 use Rattle.kinds.specs.Laws.{no-body, exchange-range, wp-range}
 use mathlib.Core.Path.{sym}

@@ -1,3 +1,4 @@
+-- `kinds::is_known` meets its contract. By the number: each of the eight kinds, and any other.
 use borrow.Author.Tests.{ne-eqb}
 use Rattle.kinds.specs.Kinds.{knownKind, knownIn}
 use Rattle.kinds.proofs.is_known.Statement.{statement}

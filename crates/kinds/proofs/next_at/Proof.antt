@@ -1,3 +1,4 @@
+-- `kinds::next_at` meets its contract. Past the end the offset stays; before it the length of the body is added.
 use native.Mathlib.Omega.{arith}
 use mathlib.Core.Path.{sym}
 use borrow.Author.Tests.{le-ltb}

@@ -1,22 +1,17 @@
+-- `kinds::room_of` meets its contract. By whether the kind yields a record (`room-as`).
 use mathlib.Core.Path.{sym, _∙_}
 use Rattle.cells.specs.Choice.{cond-yes, cond-no}
 use Rattle.kinds.specs.Laws.{room-as}
 use borrow.Author.Needs.{needs}
 use Rattle.kinds.proofs.room_of.Statement.{statement}
 use Rattle.kinds.proofs.room_of.Tie as tie
-use Rattle.kinds.proofs.room_of.Reads as reads
-use Rattle.kinds.proofs.room_of.Lts as lts
-use Rattle.kinds.proofs.yields.Reads as yields-reads
 
--- src/lib.rt:82:8
 yields-requires : tie.Need-yields-requires
 yields-requires c κs = search needs
 
--- src/lib.rt:83:9
 returns : tie.Need-returns
 returns c = (sym (room-as _ ∙ cond-yes _ _ _ (sym (c .before .yields .ensures) ∙ c .if1 .taken)), search needs)
 
--- src/lib.rt:79:1
 returns-2 : tie.Need-returns-2
 returns-2 c = (sym (room-as _ ∙ cond-no _ _ _ (sym (c .before .yields .ensures) ∙ c .if1 .left)), search needs)
 

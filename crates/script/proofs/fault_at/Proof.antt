@@ -1,3 +1,4 @@
+-- `script::fault_at` meets its contract. 5, 4, 6 in that order, each early return after the ones before it passed.
 use native.Mathlib.Omega.{arith}
 use borrow.Author.Tests.{lt-ltb, le-ltb}
 use Rattle.kinds.specs.Laws.{step-inside}

@@ -1,3 +1,4 @@
+-- `script::play` meets its contract. What is left of the script, run from here, comes to what the whole script comes to (`Playing`); each turn is one event of it, a data byte an exchange by `exchanged-stream`.
 use Prim.Native.Nat.{_+_, _<_, _-_}
 use mathlib.Core.Path.{_≡_, sym, _∙_, ap}
 use native.Mathlib.Omega.{arith}

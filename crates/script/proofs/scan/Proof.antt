@@ -1,3 +1,4 @@
+-- `script::scan` meets its contract. No event passed was bad, so the first bad one lies ahead; the room counted and the room ahead are the whole. A whole exchange is never bad.
 use Prim.Native.Nat.{ℕ, _≤_, _<_, _+_, _*_, _-_}
 use mathlib.Core.Bool.{true, _&&_}
 use mathlib.Core.Path.{_≡_, refl, sym, _∙_, ap}

@@ -1,3 +1,4 @@
+-- `verdict::act_at_once` meets its contract. By the opcode, each of the seven and any other.
 use borrow.Author.Tests.{ne-eqb}
 use Rattle.verdict.specs.Effect.{instantly}
 use borrow.Author.Needs.{needs}

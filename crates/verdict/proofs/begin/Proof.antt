@@ -1,3 +1,4 @@
+-- `verdict::begin` meets its contract. The job asked for is put in, and SUS cleared.
 use borrow.Author.Needs.{needs}
 use Rattle.verdict.proofs.begin.Statement.{statement}
 use Rattle.verdict.proofs.begin.Tie as tie

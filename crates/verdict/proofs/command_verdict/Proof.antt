@@ -1,3 +1,4 @@
+-- `verdict::command_verdict` meets its contract. 11, then a job's own verdict, then 1 (`command-as`).
 use mathlib.Core.Path.{sym, _∙_}
 use Rattle.cells.specs.Choice.{cond-yes, cond-no}
 use Rattle.verdict.specs.Laws.{command-as}

@@ -1,3 +1,4 @@
+-- `verdict::hand_over` meets its contract. A program begun takes the load, any other job begun and a reset leave a blank one, and the rest leave it alone.
 use mathlib.Core.Path.{sym, _∙_}
 use borrow.Author.Tests.{eq-eqb, ne-eqb}
 use Rattle.cells.specs.Choice.{cond-yes, cond-no}

@@ -1,3 +1,4 @@
+-- `verdict::job_verdict` meets its contract. The tests in the list's order, each early return after the ones before it failed.
 use Rattle.verdict.specs.Verdict.{jobVerdict}
 use borrow.Author.Needs.{needs}
 use Rattle.verdict.proofs.job_verdict.Statement.{statement}

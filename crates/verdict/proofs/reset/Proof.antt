@@ -1,3 +1,4 @@
+-- `verdict::reset` meets its contract. The job is gone, WEN and SUS clear.
 use borrow.Author.Needs.{needs}
 use Rattle.verdict.proofs.reset.Statement.{statement}
 use Rattle.verdict.proofs.reset.Tie as tie

@@ -1,3 +1,4 @@
+-- `verdict::rounded` meets its contract. A remainder is at most what it is taken of, so nothing wraps and the place fits.
 use native.Mathlib.Omega.{arith}
 use native.Mathlib.Nat.{mod-le}
 use Rattle.part.specs.Part.{lengthOf}

@@ -1,3 +1,4 @@
+-- `verdict::start_of` meets its contract. By the kind, each rounded down to its size.
 use borrow.Author.Needs.{needs}
 use Rattle.verdict.proofs.start_of.Statement.{statement}
 use Rattle.verdict.proofs.start_of.Tie as tie

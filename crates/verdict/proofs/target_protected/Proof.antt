@@ -1,3 +1,4 @@
+-- `verdict::target_protected` meets its contract. By the kind: cells by the sector of their place, a chip erase by the level.
 use borrow.Author.Needs.{needs}
 use Rattle.verdict.proofs.target_protected.Statement.{statement}
 use Rattle.verdict.proofs.target_protected.Tie as tie
