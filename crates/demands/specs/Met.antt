@@ -1,7 +1,7 @@
 -- The hypotheses of the theorems are met: for each kind of them a closed example. Demand 3's are met in `Examples` (P5, P9, `cut-and-ended`).
 use Prim.Native.Nat.{ℕ}
 use mathlib.Core.Bool.{true}
-use mathlib.Core.List.{[], _∷_}
+use mathlib.Core.List.{List, [], _∷_}
 use mathlib.Core.Path.{_≡_, refl}
 use Rattle.part.specs.Part.{permitted}
 use Rattle.commands.specs.Table.{isProgram}
@@ -12,7 +12,7 @@ use Rattle.legal.specs.Legal.{legalJob, legalCore, legalFrame, isEmpty, isBlank
 use Rattle.frame.specs.Frame.{readsCell, takesData}
 use Rattle.kinds.specs.Kinds.{SELECT, EXCHANGE, DESELECT, TICK, WP, knownIn, kindRowIn, knownKind, kindRow}
 use Rattle.event.specs.Alone.{refusal}
-use Rattle.script.specs.Script.{faultAt, walk, eventsFrom, events, firstBad}
+use Rattle.script.specs.Script.{faultAt, eventAt, walk, eventsFrom, events, firstBad, room}
 
 -- a frame of that opcode with so many bytes, selected and not judged
 abbrev framed : ℕ → ℕ → Frame
@@ -40,3 +40,12 @@ refusals-met = (refl, refl, refl, refl, refl)
 pub scripts-met : (firstBad (events (SELECT ∷ EXCHANGE ∷ 0x06 ∷ DESELECT ∷ [])) .number ≡ 0) × (firstBad (events (TICK ∷ EXCHANGE ∷ [])) .number ≡ 4) × (firstBad (events (TICK ∷ 9 ∷ [])) .number ≡ 5) × (firstBad (events (WP ∷ 2 ∷ [])) .number ≡ 6)
 unfolding firstBad eventsFrom walk faultAt knownKind knownIn kindRow kindRowIn
 scripts-met = (refl, refl, refl, refl)
+
+-- the table of kinds, worked through on bytes: each kind once, its ticks 102h with the high byte first (RULES, Events)
+abbrev each-kind : List ℕ
+each-kind = 0x01 ∷ 0x02 ∷ 0x9F ∷ 0x03 ∷ 0x04 ∷ 0x05 ∷ 0x01 ∷ 0x02 ∷ 0x06 ∷ 0x01 ∷ 0x07 ∷ 0x08 ∷ 0x07 ∷ []
+
+-- nothing is wrong with it; it has an exchange and two deselects to say, of two bytes each; and the ends of the ranges (RULES, Refusals)
+pub kinds-met : (firstBad (events each-kind) .number ≡ 0) × (room (events each-kind) ≡ 6) × (eventAt each-kind 5 .body ≡ 258) × (firstBad (events (0x05 ∷ 0 ∷ 0 ∷ [])) .number ≡ 6) × (firstBad (events (0x08 ∷ 0 ∷ [])) .number ≡ 6) × (firstBad (events (0x08 ∷ 8 ∷ [])) .number ≡ 6)
+unfolding firstBad room eventsFrom walk faultAt knownKind knownIn kindRow kindRowIn
+kinds-met = (refl, refl, refl, refl, refl, refl)
