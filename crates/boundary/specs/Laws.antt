@@ -1,12 +1,14 @@
 -- What is true of the numbers: a chip comes back from its numbers, and each answer by whether the numbers given are a state.
-use Prim.Native.Nat.{ℕ}
+use Prim.Native.Nat.{ℕ, _<_}
 use mathlib.Core.Bool.{Bool, true, false, _&&_}
 use mathlib.Core.List.{List}
 use mathlib.Core.Path.{_≡_, refl, sym, ap, _∙_}
 use lib.Dec.{eqb, leb}
-use borrow.Author.Tests.{eq-eqb, ne-eqb}
+use native.Mathlib.Omega.{arith}
+use native.Mathlib.Decide.{decLt}
+use borrow.Author.Tests.{eq-eqb, ne-eqb, leb-true}
 use lib.ListN.{length}
-use Rattle.cells.specs.Choice.{cond-yes, cond-no}
+use Rattle.cells.specs.Choice.{cond-yes, cond-no, and-left, and-right}
 use Rattle.chip.specs.declared.Chip.{Chip}
 use Rattle.chip.specs.declared.JobKind.{JobKind}
 use Rattle.chip.specs.declared.JobKind.the-variants.{Idle, WriteStatus, Program, SmallErase, SectorErase, ChipErase}
@@ -77,6 +79,55 @@ numbers-are-state c =
     rw
     (flag-small (c .core .tb), flag-small (c .core .srwp), flag-small (c .core .wen), flag-small (c .core .suspended), flag-small (c .core .wp), flag-small (c .core .deep), flag-small (c .core .armed), flag-small (c .frame .selected))
     (kind-small (c .core .job .kind))
+
+-- and the flags of a state come back from its chip: a state has no flag but 0 and 1 (RULES, Legal states)
+flag-again : (v : ℕ) → leb v 1 ≡ true → flagNumber (flagOf v) ≡ v
+flag-again v h = go (decLt v 1)
+  where
+    again : (w : ℕ) → v ≡ w → flagNumber (flagOf w) ≡ w → flagNumber (flagOf v) ≡ v
+    again w e p = ap (λ (n : ℕ). flagNumber (flagOf n)) e ∙ p ∙ sym e
+
+    go : Dec (v < 1) → flagNumber (flagOf v) ≡ v
+    go (yes l) = again 0 (omega (arith, l)) refl
+    go (no l) = again 1 (omega (arith, l, leb-true v 1 h)) refl
+
+-- eight flags and one test more, joined as `isStateOf` joins them: each flag's test holds
+eight-true : (a b c d e f g h k : Bool) → (a && b && c && d && e && f && g && h && k) ≡ true
+    → (a ≡ true) × (b ≡ true) × (c ≡ true) × (d ≡ true) × (e ≡ true) × (f ≡ true) × (g ≡ true) × (h ≡ true)
+eight-true a b c d e f g h k all =
+    let p8 = and-left (a && b && c && d && e && f && g && h) k all in
+    let p7 = and-left (a && b && c && d && e && f && g) h p8 in
+    let p6 = and-left (a && b && c && d && e && f) g p7 in
+    let p5 = and-left (a && b && c && d && e) f p6 in
+    let p4 = and-left (a && b && c && d) e p5 in
+    let p3 = and-left (a && b && c) d p4 in
+    let p2 = and-left (a && b) c p3 in (
+      and-left a b p2,
+      and-right a b p2,
+      and-right (a && b) c p3,
+      and-right (a && b && c) d p4,
+      and-right (a && b && c && d) e p5,
+      and-right (a && b && c && d && e) f p6,
+      and-right (a && b && c && d && e && f) g p7,
+      and-right (a && b && c && d && e && f && g) h p8,
+    )
+
+pub flags-back : (c : ChipNumbers) → isState c ≡ true → numbersOf (chipOf c) .flags ≡ c .flags
+unfolding isStateOf chipOf numbersOf
+flags-back c h =
+    let f = c .flags in
+    let t = eight-true (leb (f .tb) 1) (leb (f .srwp) 1) (leb (f .wen) 1) (leb (f .suspended) 1) (leb (f .wp) 1) (leb (f .deep) 1) (leb (f .armed) 1) (leb (f .selected) 1) (leb (c .kind) 5) h in
+    λ i.
+    record {
+      tb = flag-again (f .tb) (t .0) i;
+      srwp = flag-again (f .srwp) (t .1) i;
+      wen = flag-again (f .wen) (t .2) i;
+      suspended = flag-again (f .suspended) (t .3) i;
+      wp = flag-again (f .wp) (t .4) i;
+      deep = flag-again (f .deep) (t .5) i;
+      armed = flag-again (f .armed) (t .6) i;
+      selected = flag-again (f .selected) (t .7) i;
+    }
 
 -- ---- an answer as numbers
 
