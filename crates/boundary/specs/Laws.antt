@@ -8,7 +8,7 @@ use native.Mathlib.Omega.{arith}
 use native.Mathlib.Decide.{decLt}
 use borrow.Author.Tests.{eq-eqb, ne-eqb, leb-true}
 use lib.ListN.{length}
-use Rattle.cells.specs.Choice.{cond-yes, cond-no, and-left, and-right}
+use Rattle.cells.specs.Choice.{cond-yes, cond-no, and-left, and-right, and-four}
 use Rattle.chip.specs.declared.Chip.{Chip}
 use Rattle.chip.specs.declared.JobKind.{JobKind}
 use Rattle.chip.specs.declared.JobKind.the-variants.{Idle, WriteStatus, Program, SmallErase, SectorErase, ChipErase}
@@ -100,12 +100,11 @@ eight-true a b c d e f g h k all =
     let p6 = and-left (a && b && c && d && e && f) g p7 in
     let p5 = and-left (a && b && c && d && e) f p6 in
     let p4 = and-left (a && b && c && d) e p5 in
-    let p3 = and-left (a && b && c) d p4 in
-    let p2 = and-left (a && b) c p3 in (
-      and-left a b p2,
-      and-right a b p2,
-      and-right (a && b) c p3,
-      and-right (a && b && c) d p4,
+    let first = and-four a b c d p4 in (
+      first .0,
+      first .1,
+      first .2,
+      first .3,
       and-right (a && b && c && d) e p5,
       and-right (a && b && c && d && e) f p6,
       and-right (a && b && c && d && e && f) g p7,
