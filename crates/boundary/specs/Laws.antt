@@ -128,6 +128,22 @@ flags-back c h =
       selected = flag-again (f .selected) (t .7) i;
     }
 
+-- and so does the number of its job's kind: each number from 0 to 5 means a kind of its own
+pub kind-again : (kind value : ℕ) → leb kind 5 ≡ true → kindNumber (kindOf kind value) ≡ kind
+unfolding kindOf
+kind-again kind value h = go (decLt kind 1) (decLt kind 2) (decLt kind 3) (decLt kind 4) (decLt kind 5)
+  where
+    again : (w : ℕ) → kind ≡ w → kindNumber (kindOf w value) ≡ w → kindNumber (kindOf kind value) ≡ kind
+    again w e p = ap (λ (n : ℕ). kindNumber (kindOf n value)) e ∙ p ∙ sym e
+
+    go : Dec (kind < 1) → Dec (kind < 2) → Dec (kind < 3) → Dec (kind < 4) → Dec (kind < 5) → kindNumber (kindOf kind value) ≡ kind
+    go (yes u) _ _ _ _ = again 0 (omega (arith, u)) refl
+    go (no l) (yes u) _ _ _ = again 1 (omega (arith, l, u)) refl
+    go (no _) (no l) (yes u) _ _ = again 2 (omega (arith, l, u)) refl
+    go (no _) (no _) (no l) (yes u) _ = again 3 (omega (arith, l, u)) refl
+    go (no _) (no _) (no _) (no l) (yes u) = again 4 (omega (arith, l, u)) refl
+    go (no _) (no _) (no _) (no _) (no l) = again 5 (omega (arith, l, leb-true kind 5 h)) refl
+
 -- ---- an answer as numbers
 
 module _ (c : ChipNumbers) (a : Answer) where

@@ -19,9 +19,9 @@ whole k f load held = record { core = k; frame = f; load = load; held = held }
 abbrev pub blankLoad : List ℕ
 blankLoad = replicate 256 255
 
--- the frame before any byte has come
-abbrev pub emptyFrame : Bool → Frame
-emptyFrame selected = record { selected = selected; opcode = 0; address = 0; place = 0; slot = 0; count = 0; judgement = 0 }
+-- no frame: unselected, and no byte has come
+abbrev pub emptyFrame : Frame
+emptyFrame = record { selected = false; opcode = 0; address = 0; place = 0; slot = 0; count = 0; judgement = 0 }
 
 -- the five bits that a status byte carries into the core: BP0 to BP2, TB and SRWP (RULES, Status)
 abbrev pub withBits : ℕ → Core → Core
@@ -33,7 +33,7 @@ resting = record { level = 0; tb = false; srwp = false; wen = false; suspended =
 
 -- a fresh state takes those bits from any byte
 unfoldable pub fresh : ℕ → Chip
-fresh status = whole (withBits status resting) (emptyFrame false) blankLoad blankLoad
+fresh status = whole (withBits status resting) emptyFrame blankLoad blankLoad
 
 -- whether a job runs: there is one, and it is not suspended
 abbrev pub running : Core → Bool

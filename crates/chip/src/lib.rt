@@ -85,7 +85,7 @@ impl Chip {
         };
         Chip {
             core: set_bits(status, resting),
-            frame: empty_frame(false),
+            frame: empty_frame(),
             load: [255; 256],
             held: [255; 256],
         }
@@ -114,12 +114,12 @@ pub fn no_job() -> Job
     }
 }
 
-// The empty frame, selected or not.
-pub fn empty_frame(selected: bool) -> Frame
-    ensures { λ r. ⌜ r ≡ emptyFrame selected ⌝ }
+// No frame: unselected, and no byte has come.
+pub fn empty_frame() -> Frame
+    ensures { λ r. ⌜ r ≡ emptyFrame ⌝ }
 {
     Frame {
-        selected: selected,
+        selected: false,
         opcode: 0,
         address: 0,
         place: 0,

@@ -2,7 +2,7 @@
 ghost use mathlib.Core.Path.{_≡_};
 ghost use mathlib.Core.List.{[]};
 ghost use Prim.Native.Nat.{_<_};
-ghost use lib.ListN.{getD};
+ghost use lib.ListN.{length, getD};
 ghost use Rattle.commands.specs.Table.{rows, rowOf, fitsRule, isRead, isProgram};
 
 // The opcodes are constants of this type; it holds nothing.
@@ -57,8 +57,11 @@ impl Command {
 
     pub const RESET: u8 = 0x99;
 
+    // How many rows the table has.
+    const COUNT: usize = 20;
+
     // Opcode, length rule (0 any; 5 five or more; otherwise exactly that many bytes), allowed while running, allowed suspended.
-    const ROWS: [[u8; 4]; 20] = [
+    const ROWS: [[u8; 4]; Command::COUNT] = [
         [Command::WRITE_ENABLE, 1, 0, 0],
         [Command::WRITE_DISABLE, 1, 0, 0],
         [Command::READ_STATUS, 0, 1, 1],
@@ -83,7 +86,7 @@ impl Command {
 }
 
 fn row_at(i: usize) -> [u8; 4]
-    requires { ⌜ i < 20 ⌝ }
+    requires { ⌜ i < length rows ⌝ }
     ensures { λ r. ⌜ r ≡ getD rows i [] ⌝ }
 {
     Command::ROWS[i]
@@ -94,7 +97,7 @@ pub fn row_of(opcode: u8) -> Row
     ensures { λ r. ⌜ r ≡ rowOf opcode ⌝ }
 {
     let mut i = 0;
-    while i < 20 {
+    while i < Command::COUNT {
         let row = row_at(i);
         if row[0] == opcode {
             return Row {

@@ -271,14 +271,14 @@ in-two : events (programs ++ frame (0xB0 ∷ [])) ≡ events programs ++ suspend
 unfolding eventsFrom walk faultAt knownKind knownIn kindRow kindRowIn
 in-two = refl
 
-suspends : (k : Core) (f : Frame) (load held m written : List ℕ) (ticks : ℕ) → k ≡ begunCore Program → f ≡ emptyFrame false
+suspends : (k : Core) (f : Frame) (load held m written : List ℕ) (ticks : ℕ) → k ≡ begunCore Program → f ≡ emptyFrame
     → statusByte (runs one suspending (world (whole k f load held) m written ticks) .chip .core) ≡ 0x42
 unfolding runs eventsFrom walk faultAt knownKind knownIn kindRow kindRowIn applied exchanged taken judge fresh rowOf rowIn isProgram verdict listed isRead commandVerdict jobVerdict jobOf fitsRule settled acted heldAfter instantly statusByte
 suspends k f load held m written ticks p q =
     subst (λ (x : Core). statusByte (runs one suspending (world (whole x f load held) m written ticks) .chip .core) ≡ 0x42) (sym p)
     (subst (λ (y : Frame). statusByte (runs one suspending (world (whole (begunCore Program) y load held) m written ticks) .chip .core) ≡ 0x42) (sym q) refl)
 
-programming-frame : (m : List ℕ) → programming m .chip .frame ≡ emptyFrame false
+programming-frame : (m : List ℕ) → programming m .chip .frame ≡ emptyFrame
 unfolding runs eventsFrom walk faultAt knownKind knownIn kindRow kindRowIn applied exchanged taken judge fresh rowOf rowIn isProgram verdict listed isRead commandVerdict jobVerdict jobOf fitsRule settled acted heldAfter instantly protectedSector protectedCount
 programming-frame m = refl
 
@@ -315,7 +315,7 @@ worked-examples = (p1, (p2, (p3, (p4, (p5, (p6, (p7, (p8, (p9, (p10, tt)))))))))
 
 -- a small sector erase just begun
 abbrev pub begun : List ℕ → World
-begun m = world (record { core = begunCore SmallErase; frame = emptyFrame false; load = blankLoad; held = blankLoad }) m [] 0
+begun m = world (record { core = begunCore SmallErase; frame = emptyFrame; load = blankLoad; held = blankLoad }) m [] 0
 
 -- five ticks; B0h; three ticks that find it suspended; a status read; 30h; eleven ticks
 abbrev pub cutting : List ℕ

@@ -41,7 +41,7 @@ exchangeByte T c m b = settleExchange c m (exchanged T (c .core) (c .frame) (c .
 -- a deselect, clean or loose: the verdict and what it does, and the empty frame; with no frame open verdict 0 and no more
 abbrev pub closes : Setting → Chip → List ℕ → ℕ → Outcome
 closes T c m v =
-    outcome (settled (T .sectors) (c .core) (c .frame) v) (emptyFrame false) blankLoad (heldAfter (c .frame) v (c .load) (c .held)) m (Verdict v) 0
+    outcome (settled (T .sectors) (c .core) (c .frame) v) emptyFrame blankLoad (heldAfter (c .frame) v (c .load) (c .held)) m (Verdict v) 0
 
 abbrev pub deselect : Setting → Chip → List ℕ → Bool → Outcome
 deselect T c m loose =
@@ -63,7 +63,7 @@ abbrev pub poweredUp : Core → Core
 poweredUp k = withDeep false (withArmed false (resets k))
 
 abbrev pub cutPower : Chip → List ℕ → Outcome
-cutPower c m = outcome (poweredUp (c .core)) (emptyFrame false) blankLoad blankLoad m Nothing 0
+cutPower c m = outcome (poweredUp (c .core)) emptyFrame blankLoad blankLoad m Nothing 0
 
 -- one event by its kind; the one known kind that is left is the loose deselect
 unfoldable pub applied : Setting → Chip → List ℕ → ℕ → ℕ → Outcome

@@ -83,7 +83,7 @@ module _ (c : Chip) (m : List ℕ) (l : LegalChip c (length m)) where
       record {
         length-permitted = l .length-permitted;
         core-part = settled-legal (sectors n) (c .core) (l .core-part) (c .frame) loose some (l .frame-part .judgement-known);
-        frame-part = empty-legal (sectors n) false some;
+        frame-part = empty-legal (sectors n) some;
         tidy-part = empty-tidy;
       })
       (λ _. l)
@@ -103,7 +103,7 @@ module _ (c : Chip) (m : List ℕ) (l : LegalChip c (length m)) where
       (λ _. tick-legal 1)
       (λ _. tick-legal body)
       (λ _. record { length-permitted = l .length-permitted; core-part = wp-legal (eqb body 1); frame-part = l .frame-part; tidy-part = l .tidy-part })
-      (λ _. record { length-permitted = l .length-permitted; core-part = power-legal; frame-part = empty-legal (sectors n) false some; tidy-part = empty-tidy })
+      (λ _. record { length-permitted = l .length-permitted; core-part = power-legal; frame-part = empty-legal (sectors n) some; tidy-part = empty-tidy })
       (λ _. deselect-legal true)
 
 -- A legal state stays legal under every event.

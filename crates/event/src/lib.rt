@@ -86,7 +86,7 @@ fn deselect(
     *load = [255; 256];
     stays(
         verdict::settle(sectors, core, frame, v),
-        chip::empty_frame(false),
+        chip::empty_frame(),
         Record::Verdict(v),
     )
 }
@@ -142,7 +142,7 @@ pub fn step(
         Kind::POWER => {
             *load = [255; 256];
             *held = [255; 256];
-            stays(power_up(core), chip::empty_frame(false), Record::Nothing)
+            stays(power_up(core), chip::empty_frame(), Record::Nothing)
         }
         _ => deselect(core, frame, load, held, sectors, true),
     }

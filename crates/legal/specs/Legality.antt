@@ -97,10 +97,10 @@ chip-legal c n l =
 
 -- ---- the empty frame
 
-pub empty-legal : (S : ℕ) (selected : Bool) → 1 ≤ S → LegalFrame S (emptyFrame selected)
-empty-legal S selected h = record { address-small = omega arith; place-inside = omega arith; count-small = omega arith; judgement-known = refl }
+pub empty-legal : (S : ℕ) → 1 ≤ S → LegalFrame S emptyFrame
+empty-legal S h = record { address-small = omega arith; place-inside = omega arith; count-small = omega arith; judgement-known = refl }
 
-pub empty-tidy : tidy (emptyFrame false) blankLoad ≡ true
+pub empty-tidy : tidy emptyFrame blankLoad ≡ true
 unfolding isEmpty isBlank
 empty-tidy = refl
 

@@ -3,7 +3,7 @@ use Prim.Native.Nat.{ℕ, _≤_, _-_}
 use native.Mathlib.Omega.{arith}
 use mathlib.Core.Path.{_≡_, refl, sym, _∙_, ap}
 use mathlib.Core.List.{[]}
-use lib.ListN.{drop, getD}
+use lib.ListN.{length, drop, getD}
 use Rattle.commands.specs.Table.{rows, rowIn, rowOf, factsOf}
 use Rattle.commands.specs.Laws.{rowIn-hit, rowIn-miss}
 use borrow.Author.Needs.{needs}
@@ -11,10 +11,10 @@ use Rattle.commands.proofs.row_of.Statement.{statement}
 use Rattle.commands.proofs.row_of.Tie as tie
 
 abbrev Inv-loop : tie.InvT-loop
-Inv-loop opcode i₀ i = (i ≤ 20) × (rowOf opcode ≡ rowIn (drop i rows) opcode)
+Inv-loop opcode i₀ i = (i ≤ length rows) × (rowOf opcode ≡ rowIn (drop i rows) opcode)
 
 abbrev μ-loop : tie.MeasureT-loop
-μ-loop opcode i₀ i = 20 - i
+μ-loop opcode i₀ i = length rows - i
 
 loop-holds : tie.Need-loop-holds Inv-loop μ-loop
 unfolding rowOf
@@ -56,7 +56,7 @@ loop-again c =
 returns-2 : tie.Need-returns-2 Inv-loop μ-loop
 unfolding rowIn
 returns-2 c =
-    let all : c .before .loop .i ≡ 20 = omega arith in
+    let all : c .before .loop .i ≡ length rows = omega arith in
     sym (c .before .loop .inv .1 ∙ ap (λ (n : ℕ). rowIn (drop n rows) (c .before .before .args .opcode)) all)
 
 pub row-of-spec : {M : Type 1} → statement M
