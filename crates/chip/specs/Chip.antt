@@ -23,15 +23,28 @@ blankLoad = replicate 256 255
 abbrev pub emptyFrame : Frame
 emptyFrame = record { selected = false; opcode = 0; address = 0; place = 0; slot = 0; count = 0; judgement = 0 }
 
--- the five bits that a status byte carries into the core: BP0 to BP2, TB and SRWP (RULES, Status)
-abbrev pub withBits : ℕ → Core → Core
-withBits byte k = withLevel (byte / 4 % 8) (withTb (eqb (byte / 32 % 2) 1) (withSrwp (eqb (byte / 128 % 2) 1) k))
+-- the kept bits: BP0 to BP2 as a number, TB and SRWP (RULES, Status)
+pub record Bits : Type 0 where
+  pub level : ℕ
+  pub tb : Bool
+  pub srwp : Bool
 
--- the core at rest, with none of those bits: WP is high
+-- as a byte has them, and as a core has them
+abbrev pub bitsIn : ℕ → Bits
+bitsIn byte = record { level = byte / 4 % 8; tb = eqb (byte / 32 % 2) 1; srwp = eqb (byte / 128 % 2) 1 }
+
+abbrev pub bitsOf : Core → Bits
+bitsOf k = record { level = k .level; tb = k .tb; srwp = k .srwp }
+
+-- the core with the bits of a byte
+abbrev pub withBits : ℕ → Core → Core
+withBits byte k = withLevel (bitsIn byte .level) (withTb (bitsIn byte .tb) (withSrwp (bitsIn byte .srwp) k))
+
+-- the core at rest, with none of the kept bits: WP is high
 abbrev pub resting : Core
 resting = record { level = 0; tb = false; srwp = false; wen = false; suspended = false; wp = true; deep = false; armed = false; job = noJob }
 
--- a fresh state takes those bits from any byte
+-- a fresh state takes the kept bits from any byte
 unfoldable pub fresh : ℕ → Chip
 fresh status = whole (withBits status resting) emptyFrame blankLoad blankLoad
 

@@ -17,7 +17,7 @@ pub enum JobKind {
     ChipErase,
 }
 
-// The one job: its kind, its place, which is the first cell of its range, and its steps done.
+// The one job: its kind, its start, which is the first cell of its range, and its steps done.
 pub struct Job {
     pub kind: JobKind,
     pub start: u32,

@@ -1,6 +1,6 @@
 -- What is true of ticks: n of them in closed form, n + m of them in two parts, and what they leave alone.
 use Prim.Native.Nat.{ℕ, zero, suc, _+_, _*_, _<_, _≤_, _-_}
-use mathlib.Core.Bool.{true, false, cond}
+use mathlib.Core.Bool.{true, false, cond, not, _&&_}
 use mathlib.Core.List.{List}
 use mathlib.Core.Path.{_≡_, refl, sym, ap, _∙_}
 use native.Mathlib.Nat.{add-zero, add-suc, add-assoc, zero-mul, mul-zero, add-mul}
@@ -13,9 +13,10 @@ use Rattle.cells.specs.Choice.{cond-yes, cond-no, cond-either}
 use Rattle.cells.specs.Cells.{Rule, sweep, later}
 use Rattle.cells.specs.Laws.{sweep-none, sweep-add, later-later, length-sweep}
 use Rattle.chip.specs.declared.Core.{Core}
+use Rattle.chip.specs.declared.Job.{Job}
 use Rattle.chip.specs.declared.JobKind.{JobKind}
 use Rattle.chip.specs.declared.JobKind.the-variants.{Idle, WriteStatus, Program, SmallErase, SectorErase, ChipErase}
-use Rattle.chip.specs.Job.{steps, total, unit, rule}
+use Rattle.chip.specs.Job.{isJob, steps, total, unit, rule, noJob}
 use Rattle.chip.specs.Chip.{running, blankLoad}
 use Rattle.job.specs.Tick.{atStep, advanced, ended, endedAs, tickCore, tickLoad, tickMemory, ticksCore, ticksLoad, ticksMemory, worked, ticksLeft}
 
@@ -156,14 +157,17 @@ ended-same SmallErase d k = refl
 ended-same SectorErase d k = refl
 ended-same ChipErase d k = refl
 
--- after it no job runs
+-- after it there is no job, so none runs
+pub ended-none : (kind : JobKind) (k : Core) → endedAs kind k .job ≡ noJob
+ended-none Idle k = refl
+ended-none (WriteStatus value) k = refl
+ended-none Program k = refl
+ended-none SmallErase k = refl
+ended-none SectorErase k = refl
+ended-none ChipErase k = refl
+
 pub ended-rests : (kind : JobKind) (k : Core) → running (endedAs kind k) ≡ false
-ended-rests Idle k = refl
-ended-rests (WriteStatus value) k = refl
-ended-rests Program k = refl
-ended-rests SmallErase k = refl
-ended-rests SectorErase k = refl
-ended-rests ChipErase k = refl
+ended-rests kind k = ap (λ (j : Job). isJob (j .kind) && not (endedAs kind k .suspended)) (ended-none kind k)
 
 -- ---- n ticks of a running job: its next n steps, as long as it has more than n left
 

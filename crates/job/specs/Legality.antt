@@ -11,7 +11,7 @@ use Rattle.chip.specs.declared.JobKind.{JobKind}
 use Rattle.chip.specs.declared.JobKind.the-variants.{Idle, WriteStatus, Program, SmallErase, SectorErase, ChipErase}
 use Rattle.chip.specs.Job.{isJob, total}
 use Rattle.chip.specs.Chip.{withBits, running}
-use Rattle.legal.specs.Legality.{LegalCore}
+use Rattle.legal.specs.Legality.{LegalCore, idle-legal}
 use Rattle.job.specs.Tick.{advanced, gone, endedAs, tickCore, ticksCore}
 use Rattle.job.specs.Laws.{tick-rests, tick-goes, tick-ends}
 
@@ -37,32 +37,11 @@ module _ (S : ℕ) (k : Core) (l : LegalCore S k) where
 
   module _ (awake : k .suspended ≡ false) where
     gone-legal : LegalCore S (gone k)
-    gone-legal =
-        record {
-          level-small = l .level-small;
-          job-placed = refl;
-          job-unfinished = λ e. absurd (false≢true e);
-          job-enabled = λ e. absurd (false≢true e);
-          suspended-cells = λ e. absurd (false≢true (sym awake ∙ e));
-          deep-idle = λ _. refl;
-          deep-unarmed = l .deep-unarmed;
-        }
-
-    bits-legal : (value : ℕ) → LegalCore S (withBits value (gone k))
-    bits-legal value =
-        record {
-          level-small = omega arith;
-          job-placed = refl;
-          job-unfinished = λ e. absurd (false≢true e);
-          job-enabled = λ e. absurd (false≢true e);
-          suspended-cells = λ e. absurd (false≢true (sym awake ∙ e));
-          deep-idle = λ _. refl;
-          deep-unarmed = l .deep-unarmed;
-        }
+    gone-legal = idle-legal S (gone k) refl (l .level-small) awake (l .deep-unarmed)
 
     ended-legal : (kind : JobKind) → LegalCore S (endedAs kind k)
     ended-legal Idle = gone-legal
-    ended-legal (WriteStatus value) = bits-legal value
+    ended-legal (WriteStatus value) = idle-legal S (withBits value (gone k)) refl (omega arith) awake (l .deep-unarmed)
     ended-legal Program = gone-legal
     ended-legal SmallErase = gone-legal
     ended-legal SectorErase = gone-legal

@@ -2,7 +2,7 @@
 use Prim.Native.Nat.{ℕ, _<_, _≤_, _^_}
 use mathlib.Core.Bool.{Bool, true, false, not, _&&_, _||_, false≢true}
 use mathlib.Core.List.{List}
-use mathlib.Core.Path.{_≡_, refl, ap}
+use mathlib.Core.Path.{_≡_, refl, sym, ap, _∙_}
 use native.Mathlib.Omega.{arith}
 use lib.Dec.{eqb, ltb, leb}
 use borrow.Author.Tests.{lt-ltb, le-leb, ltb-true, leb-true, eq-eqb, not-true}
@@ -11,7 +11,8 @@ use Rattle.part.specs.Part.{permitted, sectors}
 use Rattle.chip.specs.declared.Chip.{Chip}
 use Rattle.chip.specs.declared.Core.{Core}
 use Rattle.chip.specs.declared.Frame.{Frame}
-use Rattle.chip.specs.Job.{isJob, hasCells, total}
+use Rattle.chip.specs.declared.Job.{Job}
+use Rattle.chip.specs.Job.{isJob, hasCells, total, noJob}
 use Rattle.chip.specs.Chip.{emptyFrame, blankLoad}
 use Rattle.legal.specs.Legal.{placed, legalJob, jobEnabled, suspendedHasCells, deepRests, legalCore, judgementKnown, readPlaces, legalFrame, isEmpty, isBlank, begun, tidy, legal}
 
@@ -53,6 +54,22 @@ core-legal S k l =
     (means-shown (isJob (k .job .kind)) (k .wen) (l .job-enabled))
     (means-shown (k .suspended) (hasCells (k .job .kind)) (l .suspended-cells)))
     (means-shown (k .deep) _ (λ e. and-both (not (isJob (k .job .kind))) (not (k .armed)) (ap not (l .deep-idle e)) (ap not (l .deep-unarmed e))))
+
+-- with no job a core is legal, if its level is, it is not suspended, and asleep it is not armed
+pub idle-legal : (S : ℕ) (k : Core) → k .job ≡ noJob → k .level ≤ 7 → k .suspended ≡ false → (k .deep ≡ true → k .armed ≡ false) → LegalCore S k
+idle-legal S k none level awake unarmed =
+    record {
+      level-small = level;
+      job-placed = ap (λ (j : Job). placed S (j .kind) (j .start)) none;
+      job-unfinished = λ e. absurd (false≢true (sym idle ∙ e));
+      job-enabled = λ e. absurd (false≢true (sym idle ∙ e));
+      suspended-cells = λ e. absurd (false≢true (sym awake ∙ e));
+      deep-idle = λ _. idle;
+      deep-unarmed = unarmed;
+    }
+  where
+    idle : isJob (k .job .kind) ≡ false
+    idle = ap (λ (j : Job). isJob (j .kind)) none
 
 -- ---- the frame
 

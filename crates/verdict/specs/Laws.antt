@@ -4,6 +4,7 @@ use mathlib.Core.Bool.{Bool, true, false, cond, not, _&&_, _||_, false≢true}
 use mathlib.Core.List.{List}
 use mathlib.Core.Path.{_≡_, refl, sym, ap, subst, _∙_}
 use native.Mathlib.Omega.{arith}
+use native.Mathlib.Decide.{ℕ-discrete}
 use lib.Dec.{eqb}
 use borrow.Author.Tests.{eq-eqb, ne-eqb, eqb-true}
 use Rattle.cells.specs.Choice.{cond-yes, cond-no, cond-either, and-left, and-right, and-both, not-so}
@@ -14,19 +15,12 @@ use Rattle.chip.specs.declared.Job.{Job}
 use Rattle.chip.specs.declared.JobKind.{JobKind}
 use Rattle.chip.specs.Fields.{withWen, withSuspended, withDeep}
 use Rattle.chip.specs.Job.{isJob, hasCells}
-use Rattle.chip.specs.Chip.{blankLoad}
+use Rattle.chip.specs.Chip.{bitsOf, blankLoad}
 use Rattle.legal.specs.Legal.{judgementKnown}
 use Rattle.frame.specs.Frame.{judge}
 use Rattle.frame.specs.Legality.{judge-known}
 use Rattle.verdict.specs.Verdict.{jobOf, jobAsked, targetProtected, pointless, jobVerdict, commandVerdict, listed, verdict}
-use Rattle.verdict.specs.Effect.{resets, instantly, acted, heldAfter}
-
--- a judgement is neither 1 nor 2
-known-not-one : (v : ℕ) → judgementKnown v ≡ true → v ≡ 1 → ⊥
-known-not-one v h e = false≢true (subst (λ (q : ℕ). judgementKnown q ≡ true) e h)
-
-known-not-two : (v : ℕ) → judgementKnown v ≡ true → v ≡ 2 → ⊥
-known-not-two v h e = false≢true (subst (λ (q : ℕ). judgementKnown q ≡ true) e h)
+use Rattle.verdict.specs.Effect.{resets, instantly, acted, settled, heldAfter}
 
 -- what verdict 2 says: the frame begins a job, WEN is 1 and the target is free
 pub record Begins (S : ℕ) (k : Core) (f : Frame) : Type 0 where
@@ -71,7 +65,7 @@ module _ (S : ℕ) (k : Core) (f : Frame) (loose : Bool) (known : judgementKnown
   pub verdict-two : verdict S k f loose ≡ 2 → Begins S k f
   unfolding commandVerdict jobVerdict
   verdict-two h =
-      let c = listed-command 2 (λ e. known-not-two 2 e refl) (λ e. omega arith) h in
+      let c = listed-command 2 false≢true (λ e. omega arith) h in
       go (c .0) (pointless k (f .opcode)) (isJob kind) (hasCells kind && k .suspended && not (k .wen)) (k .wen) (not (hasCells kind) && k .srwp && not (k .wp)) (targetProtected S k kind start) refl refl refl (c .1)
     where
       go : judge k (f .opcode) ≡ 0 → (p j a w t q : Bool) → isJob kind ≡ j → k .wen ≡ w → targetProtected S k kind start ≡ q
@@ -88,7 +82,7 @@ module _ (S : ℕ) (k : Core) (f : Frame) (loose : Bool) (known : judgementKnown
   pub verdict-one : verdict S k f loose ≡ 1 → ActsAtOnce k f
   unfolding commandVerdict jobVerdict
   verdict-one h =
-      let c = listed-command 1 (λ e. known-not-one 1 e refl) (λ e. omega arith) h in
+      let c = listed-command 1 false≢true (λ e. omega arith) h in
       go (c .0) (pointless k (f .opcode)) (isJob kind) (hasCells kind && k .suspended && not (k .wen)) (k .wen) (not (hasCells kind) && k .srwp && not (k .wp)) (targetProtected S k kind start) refl refl (c .1)
     where
       go : judge k (f .opcode) ≡ 0 → (p j a w t q : Bool) → pointless k (f .opcode) ≡ p → isJob kind ≡ j
@@ -132,6 +126,25 @@ instantly-each k opcode P p₁ p₂ p₃ p₄ p₅ p₆ p₇ p₈ =
     (λ _. cond-either P (eqb opcode wake) _ _ (λ e. p₅ (eqb-true _ _ e))
     (λ _. cond-either P (eqb opcode deepPowerDown) _ _ (λ e. p₆ (eqb-true _ _ e))
     (λ _. cond-either P (eqb opcode reset) _ _ (λ e. p₇ (eqb-true _ _ e)) (λ _. p₈)))))))
+
+-- what neither begins a job nor resets leaves the job and the kept bits
+module _ (S : ℕ) (k : Core) (f : Frame) (v : ℕ) (not-begun : v ≡ 2 → ⊥) (not-reset : v ≡ 1 → f .opcode ≡ reset → ⊥) where
+  abbrev Same : Core → Type 0
+  Same q = (q .job ≡ k .job) × (bitsOf q ≡ bitsOf k)
+
+  acted-same : Same (acted S k f v)
+  unfolding acted
+  acted-same = go (ℕ-discrete v 1)
+    where
+      go : Dec (v ≡ 1) → Same (acted S k f v)
+      go (yes one) =
+          subst Same (sym (cond-no (eqb v 2) _ _ (ne-eqb _ _ not-begun) ∙ cond-yes (eqb v 1) _ _ (eq-eqb _ _ one)))
+          (instantly-each k (f .opcode) Same (λ _. (refl, refl)) (λ _. (refl, refl)) (λ _. (refl, refl)) (λ _. (refl, refl)) (λ _. (refl, refl)) (λ _. (refl, refl)) (λ e. absurd (not-reset one e)) (refl, refl))
+      go (no one) = subst Same (sym (acted-nothing S k f v one not-begun)) (refl, refl)
+
+  pub settled-same : (settled S k f v .job ≡ k .job) × (bitsOf (settled S k f v) ≡ bitsOf k)
+  unfolding settled
+  settled-same = cond-either Same (eqb (f .count) 0) _ _ (λ _. (refl, refl)) (λ _. acted-same)
 
 -- ---- the job's load
 

@@ -18,7 +18,7 @@ use Rattle.chip.specs.Fields.{withWen, withSuspended, withDeep, withArmed}
 use Rattle.chip.specs.Job.{isJob, hasCells, total}
 use Rattle.chip.specs.Chip.{running}
 use Rattle.legal.specs.Legal.{placed, alignedTo, judgementKnown}
-use Rattle.legal.specs.Legality.{LegalCore}
+use Rattle.legal.specs.Legality.{LegalCore, idle-legal}
 use Rattle.frame.specs.Laws.{Allowed, allowed}
 use Rattle.verdict.specs.Verdict.{jobOf, startOf, pointless, verdict}
 use Rattle.verdict.specs.Effect.{begins, resets, instantly, acted, settled}
@@ -75,20 +75,7 @@ has true false e = sym e
 has false h e = absurd (false≢true (sym e))
 
 module _ (S : ℕ) (k : Core) (l : LegalCore S k) where
-  -- arming or disarming keeps a core legal that is not both asleep and armed
-  armed-legal : (a : Bool) → (k .deep ≡ true → a ≡ false) → LegalCore S (withArmed a k)
-  armed-legal a h =
-      record {
-        level-small = l .level-small;
-        job-placed = l .job-placed;
-        job-unfinished = l .job-unfinished;
-        job-enabled = l .job-enabled;
-        suspended-cells = l .suspended-cells;
-        deep-idle = l .deep-idle;
-        deep-unarmed = h;
-      }
-
-  -- other flags keep it legal where they agree with the job
+  -- other flags keep a core legal where they agree with the job
   flags-legal : (wen sus deep a : Bool) → (isJob (k .job .kind) ≡ true → wen ≡ true) → (sus ≡ true → hasCells (k .job .kind) ≡ true)
       → (deep ≡ true → isJob (k .job .kind) ≡ false) → (deep ≡ true → a ≡ false) → LegalCore S (withArmed a (withWen wen (withSuspended sus (withDeep deep k))))
   flags-legal wen sus deep a w s d u =
@@ -102,18 +89,9 @@ module _ (S : ℕ) (k : Core) (l : LegalCore S k) where
         deep-unarmed = u;
       }
 
-  -- a reset core is legal
-  resets-legal : (a : Bool) → (k .deep ≡ true → a ≡ false) → LegalCore S (withArmed a (resets k))
-  resets-legal a u =
-      record {
-        level-small = l .level-small;
-        job-placed = refl;
-        job-unfinished = λ e. absurd (false≢true e);
-        job-enabled = λ e. absurd (false≢true e);
-        suspended-cells = λ e. absurd (false≢true e);
-        deep-idle = λ _. refl;
-        deep-unarmed = u;
-      }
+  -- arming or disarming alone: not both asleep and armed
+  armed-legal : (a : Bool) → (k .deep ≡ true → a ≡ false) → LegalCore S (withArmed a k)
+  armed-legal a = flags-legal (k .wen) (k .suspended) (k .deep) a (l .job-enabled) (l .suspended-cells) (l .deep-idle)
 
   -- a begun job is legal
   begins-legal : (f : Frame) (a : Bool) → 1 ≤ S → Begins S k f → LegalCore S (withArmed a (begins S k f))
@@ -165,7 +143,7 @@ module _ (S : ℕ) (k : Core) (l : LegalCore S k) where
         (λ _. flags-legal (k .wen) false (k .deep) a (l .job-enabled) (λ h. absurd (false≢true h)) (l .deep-idle) asleep-unarmed)
         (λ _. flags-legal (k .wen) (k .suspended) false a (l .job-enabled) (l .suspended-cells) (λ h. absurd (false≢true h)) (λ h. absurd (false≢true h)))
         (λ e. flags-legal (k .wen) (k .suspended) true a (l .job-enabled) (l .suspended-cells) (λ _. idle-at deepPowerDown refl refl e) (λ _. unarmed deepPowerDown e (λ q. omega arith)))
-        (λ _. resets-legal a asleep-unarmed)
+        (λ _. idle-legal S (withArmed a (resets k)) refl (l .level-small) refl asleep-unarmed)
         (armed-legal a asleep-unarmed)
 
   -- ---- a verdict

@@ -25,7 +25,7 @@ jobOf opcode address =
     (cond (eqb opcode sectorErase) SectorErase
     (cond (eqb opcode chipErase || eqb opcode chipErase′) ChipErase Idle))))
 
--- its place on a part of S sectors: down from the address to the next multiple of its size (RULES, Jobs)
+-- its start on a part of S sectors: down from the address to the next multiple of its size (RULES, Jobs)
 abbrev pub startOf : ℕ → JobKind → ℕ → ℕ
 startOf S Idle address = 0
 startOf S (WriteStatus value) address = 0
@@ -38,13 +38,17 @@ startOf S ChipErase address = 0
 abbrev pub jobAsked : ℕ → Frame → Job
 jobAsked S f = record { kind = jobOf (f .opcode) (f .address); start = startOf S (jobOf (f .opcode) (f .address)) (f .address); done = 0 }
 
+-- whether the sector of a start is protected
+abbrev pub startProtected : ℕ → Core → ℕ → Bool
+startProtected S k start = protectedSector (k .level) (k .tb) S (start / sector)
+
 -- whether protection keeps a job off: a job in one sector by that sector, a chip erase by any level at all (RULES, Protection)
 abbrev pub targetProtected : ℕ → Core → JobKind → ℕ → Bool
 targetProtected S k Idle start = false
 targetProtected S k (WriteStatus value) start = false
-targetProtected S k Program start = protectedSector (k .level) (k .tb) S (start / sector)
-targetProtected S k SmallErase start = protectedSector (k .level) (k .tb) S (start / sector)
-targetProtected S k SectorErase start = protectedSector (k .level) (k .tb) S (start / sector)
+targetProtected S k Program start = startProtected S k start
+targetProtected S k SmallErase start = startProtected S k start
+targetProtected S k SectorErase start = startProtected S k start
 targetProtected S k ChipErase start = not (eqb (k .level) 0)
 
 -- ---- the list

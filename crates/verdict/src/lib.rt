@@ -4,7 +4,7 @@ ghost use Prim.Native.Nat.{_%_, _<_};
 ghost use Rattle.part.specs.Part.{roundedDown, reduced};
 ghost use Rattle.chip.specs.declared.JobKind.{JobKind};
 ghost use Rattle.chip.specs.Fields.{withWen, withSuspended, withDeep};
-ghost use Rattle.verdict.specs.Verdict.{jobOf, startOf, jobAsked, targetProtected, pointless, jobVerdict, commandVerdict, listed, verdict};
+ghost use Rattle.verdict.specs.Verdict.{jobOf, startOf, jobAsked, startProtected, targetProtected, pointless, jobVerdict, commandVerdict, listed, verdict};
 ghost use Rattle.verdict.specs.Effect.{begins, resets, instantly, acted, settled, heldAfter};
 use chip::Core;
 use chip::Frame;
@@ -39,7 +39,7 @@ fn rounded(sectors: u8, size: usize, address: u32) -> u32
     (cell - cell % size) as u32
 }
 
-// The place of a job.
+// The start of a job.
 fn start_of(sectors: u8, kind: JobKind, address: u32) -> u32
     ensures { λ r. ⌜ r ≡ startOf sectors kind address ⌝ }
 {
@@ -66,9 +66,9 @@ fn job_asked(sectors: u8, f: Frame) -> Job
     }
 }
 
-// Whether the sector of a place is protected.
-fn place_protected(sectors: u8, core: Core, start: u32) -> bool
-    ensures { λ r. ⌜ r ≡ targetProtected sectors core JobKind.Program start ⌝ }
+// Whether the sector of a start is protected.
+fn start_protected(sectors: u8, core: Core, start: u32) -> bool
+    ensures { λ r. ⌜ r ≡ startProtected sectors core start ⌝ }
 {
     part::protected_sector(
         core.level,
@@ -85,9 +85,9 @@ fn target_protected(sectors: u8, core: Core, kind: JobKind, start: u32) -> bool
     match kind {
         JobKind::Idle => false,
         JobKind::WriteStatus(_) => false,
-        JobKind::Program => place_protected(sectors, core, start),
-        JobKind::SmallErase => place_protected(sectors, core, start),
-        JobKind::SectorErase => place_protected(sectors, core, start),
+        JobKind::Program => start_protected(sectors, core, start),
+        JobKind::SmallErase => start_protected(sectors, core, start),
+        JobKind::SectorErase => start_protected(sectors, core, start),
         JobKind::ChipErase => !(core.level == 0),
     }
 }

@@ -1,4 +1,4 @@
--- `legal::is_legal_job` meets its contract. The place and the steps left, joined as the definition joins them.
+-- `legal::is_legal_job` meets its contract. The start and the steps left, joined as the definition joins them.
 use Rattle.legal.specs.Legal.{legalJob}
 use borrow.Author.Needs.{needs}
 use Rattle.legal.proofs.is_legal_job.Statement.{statement}

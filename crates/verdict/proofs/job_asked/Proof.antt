@@ -1,4 +1,4 @@
--- `verdict::job_asked` meets its contract. Kind and place are those of the opcode and the address.
+-- `verdict::job_asked` meets its contract. Kind and start are those of the opcode and the address.
 use borrow.Author.Needs.{needs}
 use Rattle.verdict.proofs.job_asked.Statement.{statement}
 use Rattle.verdict.proofs.job_asked.Tie as tie

@@ -1,4 +1,4 @@
--- `verdict::rounded` meets its contract. A remainder is at most what it is taken of, so nothing wraps and the place fits.
+-- `verdict::rounded` meets its contract. A remainder is at most what it is taken of, so nothing wraps and the start fits.
 use native.Mathlib.Omega.{arith}
 use native.Mathlib.Nat.{mod-le}
 use Rattle.part.specs.Part.{lengthOf}

@@ -1,4 +1,4 @@
--- `verdict::target_protected` meets its contract. By the kind: cells by the sector of their place, a chip erase by the level.
+-- `verdict::target_protected` meets its contract. By the kind: cells by the sector of their start, a chip erase by the level.
 use borrow.Author.Needs.{needs}
 use Rattle.verdict.proofs.target_protected.Statement.{statement}
 use Rattle.verdict.proofs.target_protected.Tie as tie
@@ -12,20 +12,20 @@ enum-told-2 c = search needs
 enum-told-3 : tie.Need-enum-told-3
 enum-told-3 c = search needs
 
-place-protected-requires : tie.Need-place-protected-requires
-place-protected-requires c κs = search needs
+start-protected-requires : tie.Need-start-protected-requires
+start-protected-requires c κs = search needs
 
 enum-told-4 : tie.Need-enum-told-4
 enum-told-4 c = search needs
 
-place-protected-requires-2 : tie.Need-place-protected-requires-2
-place-protected-requires-2 c κs = search needs
+start-protected-requires-2 : tie.Need-start-protected-requires-2
+start-protected-requires-2 c κs = search needs
 
 enum-told-5 : tie.Need-enum-told-5
 enum-told-5 c = search needs
 
-place-protected-requires-3 : tie.Need-place-protected-requires-3
-place-protected-requires-3 c κs = search needs
+start-protected-requires-3 : tie.Need-start-protected-requires-3
+start-protected-requires-3 c κs = search needs
 
 enum-told-6 : tie.Need-enum-told-6
 enum-told-6 c = search needs
@@ -37,13 +37,13 @@ returns-2 : tie.Need-returns-2
 returns-2 c = search needs
 
 returns-3 : tie.Need-returns-3
-returns-3 c = rw (c .before .enum-told3 .given .1, c .place-protected .ensures)
+returns-3 c = rw (c .before .enum-told3 .given .1, c .start-protected .ensures)
 
 returns-4 : tie.Need-returns-4
-returns-4 c = rw (c .before .enum-told4 .given .1, c .place-protected2 .ensures)
+returns-4 c = rw (c .before .enum-told4 .given .1, c .start-protected2 .ensures)
 
 returns-5 : tie.Need-returns-5
-returns-5 c = rw (c .before .enum-told5 .given .1, c .place-protected3 .ensures)
+returns-5 c = rw (c .before .enum-told5 .given .1, c .start-protected3 .ensures)
 
 returns-6 : tie.Need-returns-6
 returns-6 c = rw (c .before .enum-told6 .given .1)
@@ -55,11 +55,11 @@ target-protected-spec =
     enum-told
     enum-told-2
     enum-told-3
-    place-protected-requires
+    start-protected-requires
     enum-told-4
-    place-protected-requires-2
+    start-protected-requires-2
     enum-told-5
-    place-protected-requires-3
+    start-protected-requires-3
     enum-told-6
     returns
     returns-2
