@@ -26,7 +26,7 @@ use Rattle.event.specs.Legality.{legal-applied}
 use Rattle.event.specs.Keeps.{length-applied}
 use Rattle.event.specs.Leftovers.{no-leftovers-applied}
 use Rattle.script.specs.Script.{Event, faultAt, eventAt, eventsFrom, events, Refusal, refusalOf, firstBad, room}
-use Rattle.script.specs.Run.{World, world, does, onward, runs, outcome}
+use Rattle.script.specs.Run.{World, world, does, onward, runs, worldAfter}
 use Rattle.demands.specs.Demand1.{event-refused-when}
 use Rattle.script.specs.Laws.{events-none, events-more, no-fault, good-event, Good, firstBad-later, runs-add}
 
@@ -268,10 +268,10 @@ runs-from T (e ∷ es) c m a k =
 -- A script cut at an event boundary: the second piece run on what the first left gives the whole's chip and memory; what the two write, one behind the other, is
 -- what the whole writes, and their working ticks add up. The whole is refused exactly as the pieces are: `bad-cut`, `room-cut`.
 pub pieces : (c : Chip) (m s t : List ℕ) → firstBad (events s) .number ≡ 0
-    → outcome c m (s ++ t)
-    ≡ world (outcome (outcome c m s .chip) (outcome c m s .memory) t .chip) (outcome (outcome c m s .chip) (outcome c m s .memory) t .memory)
-    (outcome c m s .written ++ outcome (outcome c m s .chip) (outcome c m s .memory) t .written) (outcome c m s .ticks + outcome (outcome c m s .chip) (outcome c m s .memory) t .ticks)
-unfolding outcome
+    → worldAfter c m (s ++ t)
+    ≡ world (worldAfter (worldAfter c m s .chip) (worldAfter c m s .memory) t .chip) (worldAfter (worldAfter c m s .chip) (worldAfter c m s .memory) t .memory)
+    (worldAfter c m s .written ++ worldAfter (worldAfter c m s .chip) (worldAfter c m s .memory) t .written) (worldAfter c m s .ticks + worldAfter (worldAfter c m s .chip) (worldAfter c m s .memory) t .ticks)
+unfolding worldAfter
 pieces c m s t clean =
     let T : Setting = settingOf (length m) in
     let w : World = runs T (events s) (world c m [] 0) in

@@ -152,7 +152,7 @@ run-refused-keeps c m s out no-done = (ScriptLaws.answer-refused c m s out no-do
 -- An empty script is done and changes nothing, on every legal state of a permitted length.
 pub empty-script : (c : Chip) (m out : List ℕ) → permitted (length m) ≡ true → legal c (length m) ≡ true
     → (Run.answerOf c m [] out ≡ record { chip = c; refusal = 0; offset = 0; written = 0; ticks = 0 }) × (Run.memoryOf c m [] out ≡ m) × (Run.outputOf c m [] out ≡ out)
-unfolding Run.outcome Run.runs eventsFrom walk firstBad room
+unfolding Run.worldAfter Run.runs eventsFrom walk firstBad room
 empty-script c m out p l =
     let ok : Run.refusal c (length m) [] (length out) .number ≡ 0 = ap (λ (r : Refusal). r .number) (ScriptLaws.refusal-none c (length m) [] (length out) p l (omega arith) refl zero-le) in
     (ScriptLaws.answer-done c m [] out ok, ScriptLaws.memory-done c m [] out ok, ScriptLaws.output-done c m [] out ok)

@@ -6,27 +6,27 @@ use mathlib.Core.Path.{_≡_, refl, sym, ap, subst, _∙_}
 use native.Mathlib.Omega.{arith}
 use native.Mathlib.Decide.{ℕ-discrete, decLt}
 use lib.Dec.{eqb}
-use lib.ListN.{length}
 use borrow.Author.Tests.{eq-eqb, ne-eqb}
 use Rattle.cells.specs.Choice.{cond-yes, cond-no, cond-either, not-so}
-use Rattle.part.specs.Part.{Setting, settingOf}
+use Rattle.part.specs.Part.{Setting}
 use Rattle.commands.specs.Table.{isProgram, writeStatus, reset}
 use Rattle.chip.specs.declared.Chip.{Chip}
 use Rattle.chip.specs.declared.Core.{Core}
 use Rattle.chip.specs.declared.Frame.{Frame}
 use Rattle.chip.specs.declared.Job.{Job}
 use Rattle.chip.specs.declared.JobKind.{JobKind}
-use Rattle.chip.specs.declared.JobKind.the-variants.{Idle, WriteStatus, Program, SmallErase, SectorErase, ChipErase}
+use Rattle.chip.specs.declared.JobKind.the-variants.{Program}
+use Rattle.chip.specs.Fields.{withDone}
 use Rattle.chip.specs.Job.{isJob, hasLoad, noJob}
 use Rattle.chip.specs.Chip.{blankLoad, fresh, running, NoLeftovers}
 use Rattle.legal.specs.Legal.{legal, judgementKnown}
 use Rattle.legal.specs.Legality.{chip-facts}
 use Rattle.job.specs.Tick.{endedAs, ticksCore, ticksLoad, ticksLeft}
-use Rattle.job.specs.Laws.{ticks-rest, ticksLoad-rest, ticks-go, ticksLoad-go, ticks-over, ticksLoad-over}
+use Rattle.job.specs.Laws.{ticks-rest, ticksLoad-rest, ticks-go, ticksLoad-go, ticks-over, ticksLoad-over, ended-none}
 use Rattle.job.specs.Legality.{running-job}
 use Rattle.verdict.specs.Verdict.{jobOf, jobAsked, verdict}
 use Rattle.verdict.specs.Effect.{instantly, acted, settled, heldAfter}
-use Rattle.verdict.specs.Laws.{Begins, verdict-two, acted-nothing, instantly-each, held-begun, held-reset, held-stays}
+use Rattle.verdict.specs.Laws.{Begins, verdict-two, settled-same, held-begun, held-reset, held-stays}
 use Rattle.event.specs.Event.{Outcome, deselect, applied}
 use Rattle.event.specs.Laws.{applied-each}
 
@@ -34,18 +34,10 @@ use Rattle.event.specs.Laws.{applied-each}
 pub data Fate (j : Job) (held : List ℕ) : Job → List ℕ → Type 0 where
   stays : Fate j held j held
   gone : Fate j held noJob blankLoad
-  moves : (done : ℕ) → isJob (j .kind) ≡ true → Fate j held (record { kind = j .kind; start = j .start; done = done }) held
+  moves : (done : ℕ) → isJob (j .kind) ≡ true → Fate j held (withDone done j) held
   begins : (j′ : Job) (held′ : List ℕ) → isJob (j′ .kind) ≡ true → (hasLoad (j′ .kind) ≡ false → held′ ≡ blankLoad) → Fate j held j′ held′
 
 -- ---- ticks
-
-ended-none : (kind : JobKind) (k : Core) → endedAs kind k .job ≡ noJob
-ended-none Idle k = refl
-ended-none (WriteStatus value) k = refl
-ended-none Program k = refl
-ended-none SmallErase k = refl
-ended-none SectorErase k = refl
-ended-none ChipErase k = refl
 
 module _ (j : Job) (held : List ℕ) where
   -- a fate told of an equal job and load
@@ -91,16 +83,6 @@ module _ (S : ℕ) (k : Core) (f : Frame) (loose : Bool) (known : judgementKnown
   unfolding settled
   acted-job n = ap (λ (q : Core). q .job) (cond-no (eqb (f .count) 0) _ _ (some-byte n))
 
-  still : (v ≡ 2 → ⊥) → (v ≡ 1 → f .opcode ≡ reset → ⊥) → Dec (v ≡ 1) → settled S k f v .job ≡ k .job
-  unfolding settled acted
-  still not-begun not-reset d = cond-either (λ (q : Core). q .job ≡ k .job) (eqb (f .count) 0) _ _ (λ _. refl) (λ _. go d)
-    where
-      go : Dec (v ≡ 1) → acted S k f v .job ≡ k .job
-      go (yes one) =
-          ap (λ (q : Core). q .job) (cond-no (eqb v 2) _ _ (ne-eqb _ _ not-begun) ∙ cond-yes (eqb v 1) _ _ (eq-eqb _ _ one))
-          ∙ instantly-each k (f .opcode) (λ (q : Core). q .job ≡ k .job) (λ _. refl) (λ _. refl) (λ _. refl) (λ _. refl) (λ _. refl) (λ _. refl) (λ r. absurd (not-reset one r)) refl
-      go (no one) = ap (λ (q : Core). q .job) (acted-nothing S k f v one not-begun)
-
   begun-fate : v ≡ 2 → Fate (k .job) held (settled S k f v .job) (heldAfter f v load held)
   unfolding acted
   begun-fate two =
@@ -123,8 +105,8 @@ module _ (S : ℕ) (k : Core) (f : Frame) (loose : Bool) (known : judgementKnown
       go : Dec (v ≡ 2) → Dec (v ≡ 1) → Dec (f .opcode ≡ reset) → Fate (k .job) held (settled S k f v .job) (heldAfter f v load held)
       go (yes two) one r = begun-fate two
       go (no two) (yes one) (yes r) = reset-fate one r
-      go (no two) (yes one) (no r) = fated (k .job) held (still two (λ _ e. r e) (yes one)) (held-stays f v load held two (λ _ e. r e)) stays
-      go (no two) (no one) r = fated (k .job) held (still two (λ e _. one e) (no one)) (held-stays f v load held two (λ e _. one e)) stays
+      go (no two) (yes one) (no r) = fated (k .job) held (settled-same S k f v two (λ _ e. r e) .0) (held-stays f v load held two (λ _ e. r e)) stays
+      go (no two) (no one) r = fated (k .job) held (settled-same S k f v two (λ e _. one e) .0) (held-stays f v load held two (λ e _. one e)) stays
 
 -- ---- every event
 
@@ -149,10 +131,10 @@ event-fate T c m kind body known =
 -- ---- what follows
 
 -- A job that was there and is not leaves a state with no job and a blank load, as a fresh one.
-pub gone-leaves-nothing : (c : Chip) (m : List ℕ) (kind body : ℕ) → legal c (length m) ≡ true → isJob (c .core .job .kind) ≡ true
-    → isJob (applied (settingOf (length m)) c m kind body .chip .core .job .kind) ≡ false
-    → (applied (settingOf (length m)) c m kind body .chip .core .job ≡ noJob) × (applied (settingOf (length m)) c m kind body .chip .held ≡ blankLoad)
-gone-leaves-nothing c m kind body l was is-not = go (event-fate (settingOf (length m)) c m kind body (chip-facts c (length m) l .frame-part .judgement-known)) was is-not
+pub gone-leaves-nothing : (T : Setting) (c : Chip) (m : List ℕ) (n kind body : ℕ) → legal c n ≡ true → isJob (c .core .job .kind) ≡ true
+    → isJob (applied T c m kind body .chip .core .job .kind) ≡ false
+    → (applied T c m kind body .chip .core .job ≡ noJob) × (applied T c m kind body .chip .held ≡ blankLoad)
+gone-leaves-nothing T c m n kind body l was is-not = go (event-fate T c m kind body (chip-facts c n l .frame-part .judgement-known)) was is-not
   where
     go : {j : Job} {held : List ℕ} {j′ : Job} {held′ : List ℕ} → Fate j held j′ held′ → isJob (j .kind) ≡ true → isJob (j′ .kind) ≡ false → (j′ ≡ noJob) × (held′ ≡ blankLoad)
     go stays p q = absurd (false≢true (sym q ∙ p))
@@ -161,9 +143,9 @@ gone-leaves-nothing c m kind body l was is-not = go (event-fate (settingOf (leng
     go (begins j′ held′ p′ h) p q = absurd (false≢true (sym q ∙ p′))
 
 -- Once there are no leftovers there are none after any event; a fresh state has none.
-pub no-leftovers-applied : (c : Chip) (m : List ℕ) (kind body : ℕ) → legal c (length m) ≡ true → NoLeftovers (c .core) (c .held)
-    → NoLeftovers (applied (settingOf (length m)) c m kind body .chip .core) (applied (settingOf (length m)) c m kind body .chip .held)
-no-leftovers-applied c m kind body l none = go _ _ (event-fate (settingOf (length m)) c m kind body (chip-facts c (length m) l .frame-part .judgement-known)) none
+pub no-leftovers-applied : (T : Setting) (c : Chip) (m : List ℕ) (n kind body : ℕ) → legal c n ≡ true → NoLeftovers (c .core) (c .held)
+    → NoLeftovers (applied T c m kind body .chip .core) (applied T c m kind body .chip .held)
+no-leftovers-applied T c m n kind body l none = go _ _ (event-fate T c m kind body (chip-facts c n l .frame-part .judgement-known)) none
   where
     go : (k k′ : Core) {held held′ : List ℕ} → Fate (k .job) held (k′ .job) held′ → NoLeftovers k held → NoLeftovers k′ held′
     go k k′ f n = record { load-blank = blank f (n .load-blank); job-none = idle f (n .job-none) }

@@ -45,7 +45,7 @@ pub data Says : Type 0 where
   line : Says
   verdict : Says
 
--- a kind, the length of its body, the least and the greatest body, what it can say, and the room for it
+-- a kind, the length of its body, the least and the greatest body, what it can say, and the room for it (RULES, Events)
 pub record KindRow : Type 0 where
   pub kind : ℕ
   pub body : ℕ
@@ -54,9 +54,11 @@ pub record KindRow : Type 0 where
   pub says : Says
   pub room : ℕ
 
+-- a row, written as the table has it
 abbrev pub row : ℕ → ℕ → ℕ → ℕ → Says → ℕ → KindRow
 row kind body least most says room = record { kind = kind; body = body; least = least; most = most; says = says; room = room }
 
+-- the eight kinds (RULES, Events)
 abbrev pub kindRows : List KindRow
 kindRows =
     row SELECT 0 0 0 silent 0
@@ -81,12 +83,15 @@ kindRowIn (r ∷ rs) kind = cond (eqb kind (r .kind)) r (kindRowIn rs kind)
 
 -- ---- what the table says of a kind
 
+-- whether it is a kind at all
 unfoldable pub knownKind : ℕ → Bool
 knownKind kind = knownIn kindRows kind
 
+-- its row
 unfoldable pub kindRow : ℕ → KindRow
 kindRow kind = kindRowIn kindRows kind
 
+-- how many bytes its body has
 abbrev pub bodyLength : ℕ → ℕ
 bodyLength kind = kindRow kind .body
 
@@ -94,17 +99,23 @@ bodyLength kind = kindRow kind .body
 abbrev pub inRange : ℕ → ℕ → Bool
 inRange kind body = eqb (bodyLength kind) 0 || leb (kindRow kind .least) body && leb body (kindRow kind .most)
 
+-- what it can say
 abbrev pub saysOf : ℕ → Says
 saysOf kind = kindRow kind .says
 
--- whether a kind yields a record
+-- whether that is a record
 abbrev pub isSaid : Says → Bool
 isSaid silent = false
 isSaid line = true
 isSaid verdict = true
 
+-- whether a kind yields a record
 abbrev pub yields : ℕ → Bool
 yields kind = isSaid (saysOf kind)
 
+-- the room for its record, and the most that any kind asks
 abbrev pub roomOf : ℕ → ℕ
 roomOf kind = kindRow kind .room
+
+abbrev pub mostRoom : ℕ
+mostRoom = 2

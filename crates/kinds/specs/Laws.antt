@@ -1,6 +1,6 @@
 -- What is true of the kinds: the table kind by kind, and an event's bytes in a script.
 use Prim.Native.Nat.{ℕ, _+_, _*_, _<_, _≤_, zero-le}
-use mathlib.Core.Bool.{cond, _||_, Bool, true, false, _&&_, false≢true}
+use mathlib.Core.Bool.{_||_, Bool, true, false, _&&_, false≢true}
 use mathlib.Core.List.{List}
 use mathlib.Core.Path.{_≡_, refl, sym, ap, subst, _∙_}
 use mathlib.Core.Logic.{_⊎_, inl, inr}
@@ -46,7 +46,7 @@ last-kind =
     (λ n _ _ _ _ _ _ _. absurd (n refl)) (λ _ n _ _ _ _ _ _. absurd (n refl)) (λ _ _ n _ _ _ _ _. absurd (n refl)) (λ _ _ _ n _ _ _ _. absurd (n refl)) (λ _ _ _ _ n _ _ _. absurd (n refl)) (λ _ _ _ _ _ n _ _. absurd (n refl)) (λ _ _ _ _ _ _ n _. absurd (n refl)) (λ _ _ _ _ _ _ _ _. refl)
     (λ kind o _ _ _ _ _ _ _ k. absurd (false≢true (sym (o .not-known) ∙ k)))
 
--- the kinds without a body, and that no other number has one
+-- a number that is none of the four kinds with a body has none
 pub no-body : (kind : ℕ) → (kind ≡ EXCHANGE → ⊥) → (kind ≡ TICKS → ⊥) → (kind ≡ WP → ⊥) → (kind ≡ LOOSE → ⊥) → bodyLength kind ≡ 0
 unfolding kindRow kindRowIn
 no-body =
@@ -54,7 +54,7 @@ no-body =
     (λ _ _ _ _. refl) (λ n _ _ _. absurd (n refl)) (λ _ _ _ _. refl) (λ _ _ _ _. refl) (λ _ n _ _. absurd (n refl)) (λ _ _ n _. absurd (n refl)) (λ _ _ _ _. refl) (λ _ _ _ n. absurd (n refl))
     (λ kind o _ _ _ _. ap (λ (r : KindRow). r .body) (o .no-row))
 
--- the kinds that yield a record, and that no other number does
+-- a number that is none of the three kinds with a record yields none, and has no room
 pub no-record : (kind : ℕ) → (kind ≡ EXCHANGE → ⊥) → (kind ≡ DESELECT → ⊥) → (kind ≡ LOOSE → ⊥) → (yields kind ≡ false) × (roomOf kind ≡ 0)
 unfolding kindRow kindRowIn
 no-record =
@@ -62,7 +62,7 @@ no-record =
     (λ _ _ _. (refl, refl)) (λ n _ _. absurd (n refl)) (λ _ n _. absurd (n refl)) (λ _ _ _. (refl, refl)) (λ _ _ _. (refl, refl)) (λ _ _ _. (refl, refl)) (λ _ _ _. (refl, refl)) (λ _ _ n. absurd (n refl))
     (λ kind o _ _ _. (ap (λ (r : KindRow). isSaid (r .says)) (o .no-row), ap (λ (r : KindRow). r .room) (o .no-row)))
 
--- as one test, and its room by that test
+-- whether a kind yields a record, as one test
 pub yields-as : (kind : ℕ) → yields kind ≡ (eqb kind EXCHANGE || eqb kind DESELECT || eqb kind LOOSE)
 unfolding kindRow kindRowIn
 yields-as kind = go (ℕ-discrete kind EXCHANGE) (ℕ-discrete kind DESELECT) (ℕ-discrete kind LOOSE)
@@ -75,10 +75,6 @@ yields-as kind = go (ℕ-discrete kind EXCHANGE) (ℕ-discrete kind DESELECT) (�
     go (no n) (yes e) l = subst As (sym e) refl
     go (no n) (no m) (yes e) = subst As (sym e) refl
     go (no n) (no m) (no o) = no-record kind n m o .0 ∙ sym (rw (ne-eqb _ _ n, ne-eqb _ _ m, ne-eqb _ _ o))
-
-pub room-as : (kind : ℕ) → roomOf kind ≡ cond (yields kind) 2 0
-unfolding kindRow kindRowIn
-room-as = kind-each (λ kind. roomOf kind ≡ cond (yields kind) 2 0) refl refl refl refl refl refl refl refl (λ kind o. ap (λ (r : KindRow). r .room) (o .no-row) ∙ sym (ap (λ (r : KindRow). cond (isSaid (r .says)) 2 0) (o .no-row)))
 
 -- a body in its range fits two bytes
 pub range-small : (kind body : ℕ) → inRange kind body ≡ true → (bodyLength kind ≡ 0) ⊎ (body ≤ 65535)

@@ -1,7 +1,7 @@
 // The kinds of events: their names, their bodies, what they can say; and where in a script a body stands.
 ghost use mathlib.Core.Path.{_≡_};
 ghost use Prim.Native.Nat.{_≤_};
-ghost use Rattle.kinds.specs.Kinds.{knownKind, bodyLength, inRange, yields, roomOf};
+ghost use Rattle.kinds.specs.Kinds.{knownKind, bodyLength, inRange, yields, roomOf, mostRoom};
 ghost use Rattle.kinds.specs.Body.{bodyAt, stepTo};
 
 // The kinds are constants of this type; it holds nothing.
@@ -77,12 +77,14 @@ pub fn yields(kind: u64) -> bool
 
 // The room that a kind's record is given.
 pub fn room_of(kind: u64) -> usize
-    ensures { λ r. ⌜ (r ≡ roomOf kind) × (r ≤ 2) ⌝ }
+    ensures { λ r. ⌜ (r ≡ roomOf kind) × (r ≤ mostRoom) ⌝ }
 {
-    if yields(kind) {
-        return 2;
+    match kind {
+        Kind::EXCHANGE => 2,
+        Kind::DESELECT => 2,
+        Kind::LOOSE => 2,
+        _ => 0,
     }
-    0
 }
 
 // The body of the event at an offset of a script.

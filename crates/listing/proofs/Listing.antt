@@ -10,7 +10,7 @@ use Rattle.kinds.specs.Kinds.{yields}
 use Rattle.kinds.specs.Body.{nextAt, stepTo}
 use Rattle.kinds.specs.Laws.{step-inside}
 use Rattle.chip.specs.declared.Record.{Record}
-use Rattle.chip.specs.Record.{recordBytes}
+use Rattle.chip.specs.Record.{recordBytes, longestRecord}
 use Rattle.chip.specs.Laws.{recordBytes-most}
 use Rattle.script.specs.Script.{Event, eventsFrom, events}
 use Rattle.script.specs.Laws.{events-none, events-more}
@@ -22,7 +22,7 @@ pub record Listing (s out t₀ : List ℕ) (p₀ : ℕ) (t : List ℕ) (p at q :
   pub all : (p′ : ℕ) (t′ : List ℕ) → Put t p (readLines (eventsFrom s at) out q) p′ t′ → Put t₀ p₀ (readLines (events s) out 0) p′ t′
   pub reached : p ≤ p₀ + longestLine * at
   pub inside : p ≤ p₀ + longestLine * length s
-  pub read : q ≤ 2 * at
+  pub read : q ≤ longestRecord * at
 
 -- before the first event
 pub starts : (s out t : List ℕ) (p : ℕ) → Listing s out t p t p 0 0

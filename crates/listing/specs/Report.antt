@@ -8,14 +8,18 @@ use Rattle.part.specs.Part.{sector, Setting, settingOf}
 use Rattle.kinds.specs.Kinds.{yields}
 use Rattle.chip.specs.declared.Chip.{Chip}
 use Rattle.chip.specs.Chip.{fresh}
+use Rattle.chip.specs.Record.{longestRecord}
 use Rattle.script.specs.declared.Ran.{Ran}
 use Rattle.script.specs.Script.{Event, events}
 use Rattle.script.specs.Run.{World, world, does, onward, answerOf}
 use Rattle.listing.specs.Text.{lineOf, partLine, doneLine, refusedLine, tooLong}
 
--- the longest script that is run, and the room for what is printed of it: for each of its bytes more than a line needs
+-- the longest script that is run, the room for its records, and that for what is printed of it: for each of its bytes more than a line needs
 abbrev pub longestScript : ℕ
 longestScript = 4096
+
+abbrev pub outputRoom : ℕ
+outputRoom = longestRecord * longestScript
 
 abbrev pub textRoom : ℕ
 textRoom = 64 * longestScript
@@ -35,7 +39,7 @@ runText c m s out =
     let r : Ran = answerOf c m s out in
     partLine (length m) ++ answerText (linesOf (settingOf (length m)) (events s) (world c m [] 0)) (r .refusal) (r .offset) (r .ticks)
 
--- a script on a blank part of one sector, fresh from status 00h, with two bytes of output for each of its own (RULES, The program)
+-- a script on a blank part of one sector, fresh from status 00h, with the longest record's room for each of its bytes (RULES, The program)
 unfoldable pub reportOf : List ℕ → List ℕ
 reportOf s =
-    cond (ltb longestScript (length s)) tooLong (runText (fresh 0) (replicate sector 255) s (replicate (2 * longestScript) 0))
+    cond (ltb longestScript (length s)) tooLong (runText (fresh 0) (replicate sector 255) s (replicate outputRoom 0))

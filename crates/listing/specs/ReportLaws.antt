@@ -13,23 +13,23 @@ use Rattle.chip.specs.declared.Chip.{Chip}
 use Rattle.chip.specs.Chip.{fresh}
 use Rattle.script.specs.declared.Ran.{Ran}
 use Rattle.script.specs.Script.{events}
-use Rattle.script.specs.Run.{world, refusal, outcome, answerOf, outputOf}
+use Rattle.script.specs.Run.{world, refusal, worldAfter, answerOf, outputOf}
 use Rattle.script.specs.Laws.{accepted, answer-number, output-done}
 use Rattle.listing.specs.Text.{partLine, doneLine, tooLong}
 use Rattle.listing.specs.Output.{readLines}
 use Rattle.listing.specs.OutputLaws.{known-events, read-lines}
-use Rattle.listing.specs.Report.{linesOf, answerText, runText, longestScript, reportOf}
+use Rattle.listing.specs.Report.{linesOf, answerText, runText, longestScript, outputRoom, reportOf}
 
 -- ---- the lines of a run
 
 -- the lines that are read from the output of a run that is done are those of its events as they happened
 pub read-run : (c : Chip) (m s out : List ℕ) → answerOf c m s out .refusal ≡ 0
     → readLines (events s) (outputOf c m s out) 0 ≡ linesOf (settingOf (length m)) (events s) (world c m [] 0)
-unfolding outcome
+unfolding worldAfter
 read-run c m s out h =
     let ok : refusal c (length m) s (length out) .number ≡ 0 = sym (answer-number c m s out) ∙ h in
     ap (λ (o : List ℕ). readLines (events s) o 0) (output-done c m s out ok)
-    ∙ read-lines (settingOf (length m)) (drop (length (outcome c m s .written)) out) (events s) (world c m [] 0)
+    ∙ read-lines (settingOf (length m)) (drop (length (worldAfter c m s .written)) out) (events s) (world c m [] 0)
     (known-events s (length s) 0 (omega arith) (accepted c (length m) s (length out) ok .script-playable .clean))
 
 -- ---- the text of a run
@@ -57,6 +57,6 @@ pub report-long : (s : List ℕ) → longestScript < length s → reportOf s ≡
 unfolding reportOf
 report-long s h = cond-yes _ _ _ (lt-ltb _ _ h)
 
-pub report-run : (s : List ℕ) → length s ≤ longestScript → reportOf s ≡ runText (fresh 0) (replicate sector 255) s (replicate (2 * longestScript) 0)
+pub report-run : (s : List ℕ) → length s ≤ longestScript → reportOf s ≡ runText (fresh 0) (replicate sector 255) s (replicate outputRoom 0)
 unfolding reportOf
 report-run s h = cond-no _ _ _ (le-ltb _ _ h)

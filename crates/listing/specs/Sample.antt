@@ -11,13 +11,13 @@ use Rattle.verdict.specs.Verdict.{jobOf, jobVerdict, commandVerdict, listed, ve
 use Rattle.verdict.specs.Effect.{instantly, acted, settled}
 use Rattle.event.specs.Event.{applied}
 use Rattle.script.specs.Script.{faultAt, walk, eventsFrom, firstBad, room}
-use Rattle.script.specs.Run.{runs, refusal, outcome, answerOf}
+use Rattle.script.specs.Run.{runs, refusal, worldAfter, answerOf}
 use Rattle.listing.specs.Text.{ascii, spelled, lineOf, partLine, doneLine, refusedLine}
 use Rattle.listing.specs.Report.{linesOf, answerText, runText, reportOf}
 
 -- a write enable, and the status read after it: the program's own sample (crates/hoilapeku/stdin)
 pub sample : reportOf (0x01 ∷ 0x02 ∷ 0x06 ∷ 0x03 ∷ 0x01 ∷ 0x02 ∷ 0x05 ∷ 0x02 ∷ 0x00 ∷ 0x03 ∷ []) ≡ ascii "part 65536\n1 --\n3 V1\n5 --\n7 02\n9 V0\nanswer 0 ticks 0\n"
-unfolding permitted rowIn rowOf fitsRule isRead isProgram knownIn kindRowIn knownKind kindRow fresh statusByte legalJob legalCore legalFrame isEmpty isBlank legal judge taken exchanged jobOf jobVerdict commandVerdict listed verdict instantly acted settled applied faultAt walk eventsFrom firstBad room runs refusal outcome answerOf spelled lineOf partLine doneLine linesOf answerText runText reportOf
+unfolding permitted rowIn rowOf fitsRule isRead isProgram knownIn kindRowIn knownKind kindRow fresh statusByte legalJob legalCore legalFrame isEmpty isBlank legal judge taken exchanged jobOf jobVerdict commandVerdict listed verdict instantly acted settled applied faultAt walk eventsFrom firstBad room runs refusal worldAfter answerOf spelled lineOf partLine doneLine linesOf answerText runText reportOf
 sample = refl
 
 -- a tick, and then a kind that there is not

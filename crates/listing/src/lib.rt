@@ -7,7 +7,7 @@ ghost use Rattle.io.specs.Counts.{Counts};
 ghost use Rattle.script.specs.Script.{events};
 ghost use Rattle.listing.specs.Text.{decimalOf, hexDigit, lineOf, longestLine, Put};
 ghost use Rattle.listing.specs.Output.{recordAt, readLines};
-ghost use Rattle.listing.specs.Report.{longestScript, textRoom, answerText, runText, reportOf};
+ghost use Rattle.listing.specs.Report.{longestScript, outputRoom, textRoom, answerText, runText, reportOf};
 use chip::Chip;
 use chip::Record;
 use part::Part;
@@ -20,7 +20,7 @@ pub const ROOM: usize = 64 * LONGEST;
 
 // The record that stands at a place of a run's output.
 fn record_at(out: &[u8], at: usize) -> Record
-    requires { ⌜ at ≤ 2 * longestScript ⌝ }
+    requires { ⌜ at ≤ outputRoom ⌝ }
     ensures { λ r. ⌜ r ≡ recordAt (now (out .entry)) at ⌝ }
 {
     let first = cells::byte_at(out, at);
@@ -152,6 +152,6 @@ pub fn report(s: &[u8], text: &mut [u8; ROOM]) -> usize
         return put(text, 0, b"too long\n");
     }
     let mut mem = [0xFFu8; Part::SECTOR];
-    let mut out = [0u8; 2 * LONGEST];
+    let mut out = [0u8; chip::LONGEST_RECORD * LONGEST];
     put_run(text, Chip::fresh(0), &mut mem, s, &mut out)
 }

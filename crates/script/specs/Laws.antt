@@ -21,7 +21,7 @@ use Rattle.chip.specs.declared.Record.{Record}
 use Rattle.chip.specs.Record.{recordBytes}
 use Rattle.script.specs.declared.Ran.{Ran}
 use Rattle.script.specs.Script.{Event, faultAt, eventAt, walk, eventsFrom, events, Refusal, refusalOf, firstBad, room}
-use Rattle.script.specs.Run.{World, world, onward, Stored, runs, Playable, refusal, outcome, refused, done, answerOf, memoryOf, outputOf}
+use Rattle.script.specs.Run.{World, world, onward, Stored, runs, Playable, refusal, worldAfter, refused, done, answerOf, memoryOf, outputOf}
 
 -- ---- a script, event by event
 
@@ -118,12 +118,12 @@ pub room-more : (s : List ℕ) (at : ℕ) → at < length s → room (eventsFrom
 unfolding room
 room-more s at h = ap room (events-more s at h)
 
-pub exchange-room : (s : List ℕ) (at : ℕ) → getD s at 0 ≡ EXCHANGE → at < length s → room (eventsFrom s at) ≡ 2 + room (eventsFrom s (at + 2))
+pub exchange-room : (s : List ℕ) (at : ℕ) → getD s at 0 ≡ EXCHANGE → at < length s → room (eventsFrom s at) ≡ roomOf EXCHANGE + room (eventsFrom s (at + 2))
 unfolding kindRow kindRowIn
 exchange-room s at e h =
     room-more s at h
     ∙ ap (λ (kind : ℕ). roomOf kind + room (eventsFrom s (nextAt s at))) e
-    ∙ ap (λ (next : ℕ). 2 + room (eventsFrom s next)) (exchange-next s at e)
+    ∙ ap (λ (next : ℕ). roomOf EXCHANGE + room (eventsFrom s next)) (exchange-next s at e)
 
 -- ---- records
 
@@ -261,19 +261,19 @@ module _ (c : Chip) (m s out : List ℕ) where
     output-refused = cond-no _ _ _ (ne-eqb _ _ no)
 
   module _ (ok : refusal c (length m) s (length out) .number ≡ 0) where
-    pub answer-done : answerOf c m s out ≡ done (outcome c m s)
+    pub answer-done : answerOf c m s out ≡ done (worldAfter c m s)
     unfolding answerOf
     answer-done = cond-yes _ _ _ (eq-eqb _ _ ok)
 
-    pub memory-done : memoryOf c m s out ≡ outcome c m s .memory
+    pub memory-done : memoryOf c m s out ≡ worldAfter c m s .memory
     unfolding memoryOf
     memory-done = cond-yes _ _ _ (eq-eqb _ _ ok)
 
-    pub output-done : outputOf c m s out ≡ outcome c m s .written ++ drop (length (outcome c m s .written)) out
+    pub output-done : outputOf c m s out ≡ worldAfter c m s .written ++ drop (length (worldAfter c m s .written)) out
     unfolding outputOf
     output-done = cond-yes _ _ _ (eq-eqb _ _ ok)
 
--- what playing comes to is the run's outcome
-pub outcome-as : (c : Chip) (m s : List ℕ) (S : ℕ) → S ≡ sectors (length m) → runs (setting S) (events s) (world c m [] 0) ≡ outcome c m s
-unfolding outcome
-outcome-as c m s S e = rw e
+-- what playing comes to is the world after the run
+pub worldAfter-as : (c : Chip) (m s : List ℕ) (S : ℕ) → S ≡ sectors (length m) → runs (setting S) (events s) (world c m [] 0) ≡ worldAfter c m s
+unfolding worldAfter
+worldAfter-as c m s S e = rw e

@@ -59,9 +59,9 @@ refusal c n s space =
     (cond (not (eqb (firstBad (events s) .number) 0)) (firstBad (events s))
     (cond (ltb space (room (events s))) (refusalOf 7 0) (refusalOf 0 0)))))
 
--- the script run to its end, from a chip and a memory
-unfoldable pub outcome : Chip → List ℕ → List ℕ → World
-outcome c m s = runs (settingOf (length m)) (events s) (world c m [] 0)
+-- the world after a script run to its end, from a chip and a memory
+unfoldable pub worldAfter : Chip → List ℕ → List ℕ → World
+worldAfter c m s = runs (settingOf (length m)) (events s) (world c m [] 0)
 
 -- refused, the chip comes back as it was given, nothing is written and no tick works
 abbrev pub refused : Chip → Refusal → Ran
@@ -76,14 +76,14 @@ done w = finished (w .chip) (length (w .written)) (w .ticks)
 
 -- the whole answer, and the memory and the output afterwards, of which only the bytes written are new
 unfoldable pub answerOf : Chip → List ℕ → List ℕ → List ℕ → Ran
-answerOf c m s out = cond (eqb (refusal c (length m) s (length out) .number) 0) (done (outcome c m s)) (refused c (refusal c (length m) s (length out)))
+answerOf c m s out = cond (eqb (refusal c (length m) s (length out) .number) 0) (done (worldAfter c m s)) (refused c (refusal c (length m) s (length out)))
 
 unfoldable pub memoryOf : Chip → List ℕ → List ℕ → List ℕ → List ℕ
-memoryOf c m s out = cond (eqb (refusal c (length m) s (length out) .number) 0) (outcome c m s .memory) m
+memoryOf c m s out = cond (eqb (refusal c (length m) s (length out) .number) 0) (worldAfter c m s .memory) m
 
 unfoldable pub outputOf : Chip → List ℕ → List ℕ → List ℕ → List ℕ
 outputOf c m s out =
-    cond (eqb (refusal c (length m) s (length out) .number) 0) (outcome c m s .written ++ drop (length (outcome c m s .written)) out) out
+    cond (eqb (refusal c (length m) s (length out) .number) 0) (worldAfter c m s .written ++ drop (length (worldAfter c m s .written)) out) out
 
 -- a script that nothing refuses, for an output of that length
 pub record Playable (s : List ℕ) (space : ℕ) : Type 0 where

@@ -62,7 +62,7 @@ fn scan(s: &[u8]) -> Scanned
     while at < s.len() {
         // Most events are exchanges, and with a whole one nothing can be wrong.
         if (s[at] as u64 == Kind::EXCHANGE) & (at + 1 < s.len()) {
-            space += 2;
+            space += kinds::room_of(Kind::EXCHANGE);
             at += 2;
             continue;
         }

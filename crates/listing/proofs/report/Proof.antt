@@ -5,7 +5,7 @@ use native.Mathlib.Omega.{arith}
 use lib.ListN.{replicate}
 use Rattle.part.specs.Part.{sector}
 use Rattle.chip.specs.declared.Chip.{Chip}
-use Rattle.listing.specs.Report.{longestScript, runText}
+use Rattle.listing.specs.Report.{outputRoom, runText}
 use Rattle.listing.specs.TextLaws.{put-as, put-start}
 use Rattle.listing.specs.ReportLaws.{report-long, report-run}
 use borrow.Author.Needs.{needs}
@@ -34,7 +34,7 @@ put-run-requires : tie.Need-put-run-requires
 put-run-requires c κs = search needs
 
 returns-2 : tie.Need-returns-2
-returns-2 c = put-start (put-as (report-run _ (c .before .before .before .before .before .before .before .if1 .left) ∙ ap (λ (k : Chip). runText k (replicate sector 255) (c .before .before .before .before .before .before .before .before .before .args .s .now) (replicate (2 * longestScript) 0)) (sym (c .before .before .before .before .before .fresh .ensures))) (c .before .before .put-run .ensures .0)) (c .before .before .put-run .ensures .1)
+returns-2 c = put-start (put-as (report-run _ (c .before .before .before .before .before .before .before .if1 .left) ∙ ap (λ (k : Chip). runText k (replicate sector 255) (c .before .before .before .before .before .before .before .before .before .args .s .now) (replicate outputRoom 0)) (sym (c .before .before .before .before .before .fresh .ensures))) (c .before .before .put-run .ensures .0)) (c .before .before .put-run .ensures .1)
 
 pub report-spec : {M : Type 1} → statement M
 report-spec =

@@ -1,4 +1,4 @@
--- `script::run` meets its contract. Refused: all as it was. Done: nothing refused it, so the script can be played, and what that comes to is the run's outcome.
+-- `script::run` meets its contract. Refused: all as it was. Done: nothing refused it, so the script can be played, and what that comes to is the world after the run.
 use mathlib.Core.Path.{_≡_, sym, _∙_, ap}
 use mathlib.Core.List.{_++_}
 use lib.ListN.{length, drop}
@@ -6,7 +6,7 @@ use Rattle.cells.specs.Choice.{cond-yes}
 use Rattle.part.specs.Part.{sectors}
 use Rattle.script.specs.Script.{Refusal}
 use Rattle.script.specs.Run.{World, refusal, refused, done}
-use Rattle.script.specs.Laws.{accepted, answer-refused, memory-refused, output-refused, answer-done, memory-done, output-done, outcome-as}
+use Rattle.script.specs.Laws.{accepted, answer-refused, memory-refused, output-refused, answer-done, memory-done, output-done, worldAfter-as}
 use borrow.Author.Needs.{needs}
 use Rattle.script.proofs.run.Statement.{statement}
 use Rattle.script.proofs.run.Tie as tie
@@ -43,9 +43,9 @@ returns-2 c =
     let ok : refusal (c .before .before .before .before .before .before .before .before .before .before .before .before .before .before .args .chip) (length (c .before .before .before .before .before .before .before .before .before .before .before .before .before .before .args .mem .now)) (c .before .before .before .before .before .before .before .before .before .before .before .before .before .before .args .script .now) (length (c .before .before .before .before .before .before .before .before .before .before .before .before .before .before .args .out .now)) .number ≡ 0 =
     sym (ap (λ (r : Refusal). r .number) (c .before .before .before .before .before .before .before .before .before .before .refuses .ensures)) ∙ c .before .before .before .before .before .before .before .before .if1 .left in
     let s : c .before .before .before .before .before .sectors-of .result ≡ sectors (length (c .before .before .before .before .before .before .before .before .before .before .before .before .before .before .args .mem .now)) = c .before .before .before .before .before .sectors-of .ensures ∙ cond-yes _ _ _ (accepted _ _ _ _ ok .length-permitted) in (
-      c .before .before .before .before .play .ensures .answer ∙ ap done (outcome-as _ _ _ _ s) ∙ sym (answer-done _ _ _ _ ok),
-      c .before .before .before .before .play .ensures .memory ∙ ap (λ (w : World). w .memory) (outcome-as _ _ _ _ s) ∙ sym (memory-done _ _ _ _ ok),
-      c .before .before .before .before .play .ensures .output ∙ ap (λ (w : World). w .written ++ drop (length (w .written)) (c .before .before .before .before .before .before .before .before .before .before .before .before .before .before .args .out .now)) (outcome-as _ _ _ _ s) ∙ sym (output-done _ _ _ _ ok),
+      c .before .before .before .before .play .ensures .answer ∙ ap done (worldAfter-as _ _ _ _ s) ∙ sym (answer-done _ _ _ _ ok),
+      c .before .before .before .before .play .ensures .memory ∙ ap (λ (w : World). w .memory) (worldAfter-as _ _ _ _ s) ∙ sym (memory-done _ _ _ _ ok),
+      c .before .before .before .before .play .ensures .output ∙ ap (λ (w : World). w .written ++ drop (length (w .written)) (c .before .before .before .before .before .before .before .before .before .before .before .before .before .before .args .out .now)) (worldAfter-as _ _ _ _ s) ∙ sym (output-done _ _ _ _ ok),
     )
 
 pub run-spec : {M : Type 1} → statement M

@@ -8,7 +8,7 @@ use lib.Dec.{eqb, ltb}
 use lib.ListN.{length, getD}
 use borrow.Author.Tests.{eqb-true, ltb-true}
 use Rattle.cells.specs.Choice.{and-left, and-right}
-use Rattle.kinds.specs.Kinds.{EXCHANGE}
+use Rattle.kinds.specs.Kinds.{EXCHANGE, roomOf, mostRoom}
 use Rattle.kinds.specs.Body.{nextAt}
 use Rattle.kinds.specs.Laws.{step-inside}
 use Rattle.script.specs.Script.{events, eventsFrom, firstBad, room, refusalOf, faultAt}
@@ -18,7 +18,7 @@ use Rattle.script.proofs.scan.Statement.{statement}
 use Rattle.script.proofs.scan.Tie as tie
 
 abbrev Inv-loop : tie.InvT-loop
-Inv-loop s at₀ space₀ at space = (at ≤ length s) × (space ≤ 2 * at) × (firstBad (events s) ≡ firstBad (eventsFrom s at)) × (room (events s) ≡ space + room (eventsFrom s at))
+Inv-loop s at₀ space₀ at space = (at ≤ length s) × (space ≤ mostRoom * at) × (firstBad (events s) ≡ firstBad (eventsFrom s at)) × (room (events s) ≡ space + room (eventsFrom s at))
 
 abbrev μ-loop : tie.MeasureT-loop
 μ-loop s at₀ space₀ at space = length s - at
@@ -35,25 +35,28 @@ cast-if1 c = omega (arith, c .shared-slice-known2 .given (c .before .before .loo
 add-if1 : tie.Need-add-if1 Inv-loop μ-loop
 add-if1 c = search needs
 
+room-of-requires : tie.Need-room-of-requires Inv-loop μ-loop
+room-of-requires c κs = search needs
+
 add-space : tie.Need-add-space Inv-loop μ-loop
-add-space c = omega (arith, c .before .before .before .loop .inv .1, c .before .before .before .before .before .pre)
+add-space c = omega (arith, c .before .before .before .before .loop .inv .1, c .before .before .before .before .before .before .pre)
 
 add-at : tie.Need-add-at Inv-loop μ-loop
-add-at c = omega (arith, c .before .before .before .loop .inv .0, c .before .before .before .before .before .pre)
+add-at c = omega (arith, c .before .before .before .before .loop .inv .0, c .before .before .before .before .before .before .pre)
 
 loop-less : tie.Need-loop-less Inv-loop μ-loop
-loop-less c = omega (arith, c .before .before .loop-test .taken)
+loop-less c = omega (arith, c .before .before .before .loop-test .taken)
 
 loop-again : tie.Need-loop-again Inv-loop μ-loop
 loop-again c =
-    let both : (eqb (getD (c .before .before .before .before .before .args .s .now) (c .before .before .before .loop .at) 0) EXCHANGE && ltb (c .before .before .before .loop .at + 1) (length (c .before .before .before .before .before .args .s .now))) ≡ true = c .if1 .taken in
-    let e : getD (c .before .before .before .before .before .args .s .now) (c .before .before .before .loop .at) 0 ≡ EXCHANGE = eqb-true _ _ (and-left (eqb (getD (c .before .before .before .before .before .args .s .now) (c .before .before .before .loop .at) 0) EXCHANGE) (ltb (c .before .before .before .loop .at + 1) (length (c .before .before .before .before .before .args .s .now))) both) in
-    let more : c .before .before .before .loop .at + 1 < length (c .before .before .before .before .before .args .s .now) = ltb-true _ _ (and-right (eqb (getD (c .before .before .before .before .before .args .s .now) (c .before .before .before .loop .at) 0) EXCHANGE) (ltb (c .before .before .before .loop .at + 1) (length (c .before .before .before .before .before .args .s .now))) both) in
-    let z : faultAt (c .before .before .before .before .before .args .s .now) (c .before .before .before .loop .at) ≡ 0 = exchange-good (c .before .before .before .before .before .args .s .now) (c .before .before .before .loop .at) e more (c .before .shared-slice-known2 .given (c .before .before .before .loop .at + 1) .fits) in (
+    let both : (eqb (getD (c .before .before .before .before .before .before .args .s .now) (c .before .before .before .before .loop .at) 0) EXCHANGE && ltb (c .before .before .before .before .loop .at + 1) (length (c .before .before .before .before .before .before .args .s .now))) ≡ true = c .before .if1 .taken in
+    let e : getD (c .before .before .before .before .before .before .args .s .now) (c .before .before .before .before .loop .at) 0 ≡ EXCHANGE = eqb-true _ _ (and-left (eqb (getD (c .before .before .before .before .before .before .args .s .now) (c .before .before .before .before .loop .at) 0) EXCHANGE) (ltb (c .before .before .before .before .loop .at + 1) (length (c .before .before .before .before .before .before .args .s .now))) both) in
+    let more : c .before .before .before .before .loop .at + 1 < length (c .before .before .before .before .before .before .args .s .now) = ltb-true _ _ (and-right (eqb (getD (c .before .before .before .before .before .before .args .s .now) (c .before .before .before .before .loop .at) 0) EXCHANGE) (ltb (c .before .before .before .before .loop .at + 1) (length (c .before .before .before .before .before .before .args .s .now))) both) in
+    let z : faultAt (c .before .before .before .before .before .before .args .s .now) (c .before .before .before .before .loop .at) ≡ 0 = exchange-good (c .before .before .before .before .before .before .args .s .now) (c .before .before .before .before .loop .at) e more (c .before .before .shared-slice-known2 .given (c .before .before .before .before .loop .at + 1) .fits) in (
       omega (arith, more),
-      omega (arith, c .before .before .before .loop .inv .1),
-      c .before .before .before .loop .inv .2 ∙ firstBad-later _ _ (c .before .before .loop-test .taken) z ∙ ap (λ (at : ℕ). firstBad (eventsFrom (c .before .before .before .before .before .args .s .now) at)) (exchange-next (c .before .before .before .before .before .args .s .now) (c .before .before .before .loop .at) e),
-      c .before .before .before .loop .inv .3 ∙ ap (λ (r : ℕ). c .before .before .before .loop .space + r) (exchange-room (c .before .before .before .before .before .args .s .now) (c .before .before .before .loop .at) e (c .before .before .loop-test .taken)) ∙ sym (add-assoc (c .before .before .before .loop .space) 2 _),
+      omega (arith, c .before .before .before .before .loop .inv .1),
+      c .before .before .before .before .loop .inv .2 ∙ firstBad-later _ _ (c .before .before .before .loop-test .taken) z ∙ ap (λ (at : ℕ). firstBad (eventsFrom (c .before .before .before .before .before .before .args .s .now) at)) (exchange-next (c .before .before .before .before .before .before .args .s .now) (c .before .before .before .before .loop .at) e),
+      c .before .before .before .before .loop .inv .3 ∙ ap (λ (r : ℕ). c .before .before .before .before .loop .space + r) (exchange-room (c .before .before .before .before .before .before .args .s .now) (c .before .before .before .before .loop .at) e (c .before .before .before .loop-test .taken)) ∙ rw (c .room-of .ensures .0) (sym (add-assoc (c .before .before .before .before .loop .space) (roomOf EXCHANGE) _)),
     )
 
 fault-at-requires : tie.Need-fault-at-requires Inv-loop μ-loop
@@ -73,8 +76,8 @@ shared-slice-read-room-of c = search needs
 cast-room-of : tie.Need-cast-room-of Inv-loop μ-loop
 cast-room-of c = omega (arith, c .shared-slice-known3 .given (c .before .before .before .before .before .before .loop .at))
 
-room-of-requires : tie.Need-room-of-requires Inv-loop μ-loop
-room-of-requires c κs = search needs
+room-of-requires-2 : tie.Need-room-of-requires-2 Inv-loop μ-loop
+room-of-requires-2 c κs = search needs
 
 add-space-2 : tie.Need-add-space-2 Inv-loop μ-loop
 add-space-2 c = search needs
@@ -90,9 +93,9 @@ loop-again-2 c =
     let z : faultAt (c .before .before .before .before .before .before .before .before .before .before .args .s .now) (c .before .before .before .before .before .before .before .before .loop .at) ≡ 0 = sym (c .before .before .before .before .fault-at .ensures) ∙ c .before .before .before .if2 .left in
     let next : c .next-at .result ≡ nextAt (c .before .before .before .before .before .before .before .before .before .before .args .s .now) (c .before .before .before .before .before .before .before .before .loop .at) = c .next-at .ensures ∙ step-inside (c .before .before .before .before .before .before .before .before .before .before .args .s .now) (c .before .before .before .before .before .before .before .before .loop .at) (c .before .before .before .before .before .before .before .loop-test .taken) in (
       omega (arith, next, good-event (c .before .before .before .before .before .before .before .before .before .before .args .s .now) (c .before .before .before .before .before .before .before .before .loop .at) z .inside),
-      omega (arith, next, c .before .room-of .ensures .1, c .before .before .before .before .before .before .before .before .loop .inv .1),
+      omega (arith, next, c .before .room-of2 .ensures .1, c .before .before .before .before .before .before .before .before .loop .inv .1),
       c .before .before .before .before .before .before .before .before .loop .inv .2 ∙ firstBad-later _ _ (c .before .before .before .before .before .before .before .loop-test .taken) z ∙ ap (λ (at : ℕ). firstBad (eventsFrom (c .before .before .before .before .before .before .before .before .before .before .args .s .now) at)) (sym next),
-      c .before .before .before .before .before .before .before .before .loop .inv .3 ∙ ap (λ (r : ℕ). c .before .before .before .before .before .before .before .before .loop .space + r) (room-more _ _ (c .before .before .before .before .before .before .before .loop-test .taken)) ∙ rw (next, c .before .room-of .ensures .0) (sym (add-assoc _ _ _)),
+      c .before .before .before .before .before .before .before .before .loop .inv .3 ∙ ap (λ (r : ℕ). c .before .before .before .before .before .before .before .before .loop .space + r) (room-more _ _ (c .before .before .before .before .before .before .before .loop-test .taken)) ∙ rw (next, c .before .room-of2 .ensures .0) (sym (add-assoc _ _ _)),
     )
 
 returns-2 : tie.Need-returns-2 Inv-loop μ-loop
@@ -112,6 +115,7 @@ scan-spec =
     shared-slice-read-if1
     cast-if1
     add-if1
+    room-of-requires
     add-space
     add-at
     loop-less
@@ -120,7 +124,7 @@ scan-spec =
     returns
     shared-slice-read-room-of
     cast-room-of
-    room-of-requires
+    room-of-requires-2
     add-space-2
     next-at-requires
     loop-less-2
