@@ -229,23 +229,26 @@ length-runs T [] w = refl
 length-runs T (e ∷ es) w =
     length-runs T es (onward T e w) ∙ length-applied T (w .chip) (w .memory) (e .kind) (e .body)
 
-pub legal-runs : (n : ℕ) (es : List Event) (w : World) → length (w .memory) ≡ n → legal (w .chip) n ≡ true → legal (runs (settingOf n) es w .chip) n ≡ true
-unfolding runs
-legal-runs n [] w l h = h
-legal-runs n (e ∷ es) w l h =
-    legal-runs n es (onward (settingOf n) e w) (length-applied (settingOf n) (w .chip) (w .memory) (e .kind) (e .body) ∙ l)
-    (subst (λ (q : ℕ). legal (does (settingOf q) e w .chip) q ≡ true) l (legal-applied (w .chip) (w .memory) (e .kind) (e .body) (subst (λ (q : ℕ). legal (w .chip) q ≡ true) (sym l) h)))
+module _ (T : Setting) (n : ℕ) (part : T .sectors ≡ sectors n) where
+  pub legal-runs : (es : List Event) (w : World) → length (w .memory) ≡ n → legal (w .chip) n ≡ true → legal (runs T es w .chip) n ≡ true
+  unfolding runs
+  legal-runs [] w l h = h
+  legal-runs (e ∷ es) w l h = legal-runs es (onward T e w) (length-applied T (w .chip) (w .memory) (e .kind) (e .body) ∙ l) (legal-on e w l h)
+    where
+      legal-on : (e : Event) (w : World) → length (w .memory) ≡ n → legal (w .chip) n ≡ true → legal (does T e w .chip) n ≡ true
+      legal-on e w l h =
+          subst (λ (q : ℕ). legal (does T e w .chip) q ≡ true) l
+          (legal-applied T (w .chip) (w .memory) (e .kind) (e .body) (part ∙ ap sectors (sym l)) (subst (λ (q : ℕ). legal (w .chip) q ≡ true) (sym l) h))
 
--- nor does a run leave anything of a gone job: from a legal state without leftovers
-pub no-leftovers-runs : (n : ℕ) (es : List Event) (w : World) → length (w .memory) ≡ n → legal (w .chip) n ≡ true → NoLeftovers (w .chip .core) (w .chip .held)
-    → NoLeftovers (runs (settingOf n) es w .chip .core) (runs (settingOf n) es w .chip .held)
-unfolding runs
-no-leftovers-runs n [] w l h none = none
-no-leftovers-runs n (e ∷ es) w l h none =
-    no-leftovers-runs n es (onward (settingOf n) e w) (length-applied (settingOf n) (w .chip) (w .memory) (e .kind) (e .body) ∙ l)
-    (legal-runs n (e ∷ []) w l h)
-    (subst (λ (q : ℕ). NoLeftovers (does (settingOf q) e w .chip .core) (does (settingOf q) e w .chip .held)) l
-    (no-leftovers-applied (w .chip) (w .memory) (e .kind) (e .body) (subst (λ (q : ℕ). legal (w .chip) q ≡ true) (sym l) h) none))
+  -- nor does a run leave anything of a gone job: from a legal state without leftovers
+  pub no-leftovers-runs : (es : List Event) (w : World) → length (w .memory) ≡ n → legal (w .chip) n ≡ true → NoLeftovers (w .chip .core) (w .chip .held)
+      → NoLeftovers (runs T es w .chip .core) (runs T es w .chip .held)
+  unfolding runs
+  no-leftovers-runs [] w l h none = none
+  no-leftovers-runs (e ∷ es) w l h none =
+      no-leftovers-runs es (onward T e w) (length-applied T (w .chip) (w .memory) (e .kind) (e .body) ∙ l)
+      (legal-runs (e ∷ []) w l h)
+      (no-leftovers-applied T (w .chip) (w .memory) n (e .kind) (e .body) h none)
 
 -- what was written and worked before a run only stands before what the run writes and works
 runs-from : (T : Setting) (es : List Event) (c : Chip) (m a : List ℕ) (k : ℕ)

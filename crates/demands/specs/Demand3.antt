@@ -15,11 +15,12 @@ use Rattle.part.specs.Part.{Setting}
 use Rattle.kinds.specs.Kinds.{TICK, TICKS}
 use Rattle.chip.specs.declared.JobKind.{JobKind}
 use Rattle.chip.specs.declared.JobKind.the-variants.{Idle, WriteStatus, Program, SmallErase, SectorErase, ChipErase}
+use Rattle.chip.specs.Chip.{Bits, bitsOf}
 use Rattle.chip.specs.Job.{total, unit, span, rule, steps, wholeImage}
 use Rattle.event.specs.Keeps.{cells-stay}
 use Rattle.script.specs.Script.{Event}
 use Rattle.script.specs.Run.{World, does, onward, runs}
-use Rattle.demands.specs.JobSteps.{Bits, bitsOf, Spares, AtStep, JobOver, laid-steps, machine}
+use Rattle.demands.specs.JobSteps.{Spares, AtStep, JobOver, laid-steps, machine}
 
 -- ---- the words
 
@@ -32,7 +33,7 @@ pub record UnderWay (T : Setting) (kind : JobKind) (start : ℕ) (held : List �
 -- no event of the list is a reset, a power cut or begins another job, each judged in the world that it finds
 unfoldable pub AllSpare : Setting → List Event → World → Type 0
 AllSpare T [] w = Unit {0}
-AllSpare T (e ∷ es) w = Spares T (w .chip) (w .memory) (e .kind) × AllSpare T es (onward T e w)
+AllSpare T (e ∷ es) w = Spares T (w .chip) (e .kind) × AllSpare T es (onward T e w)
 
 -- the ticks among the events that found the job running: the working ticks of the run
 unfoldable pub workedBy : Setting → List Event → World → ℕ

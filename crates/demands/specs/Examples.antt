@@ -20,7 +20,8 @@ use Rattle.chip.specs.declared.Core.{Core}
 use Rattle.chip.specs.declared.Frame.{Frame}
 use Rattle.chip.specs.declared.JobKind.{JobKind}
 use Rattle.chip.specs.Job.{steps, wholeImage}
-use Rattle.chip.specs.Chip.{whole, fresh, emptyFrame, blankLoad, statusByte}
+use Rattle.chip.specs.Fields.{withWen, withJob}
+use Rattle.chip.specs.Chip.{whole, fresh, resting, emptyFrame, blankLoad, statusByte}
 use Rattle.job.specs.Tick.{tickCore, ticksCore, worked}
 use Rattle.frame.specs.Frame.{judge, taken, exchanged}
 use Rattle.verdict.specs.Verdict.{jobOf, jobVerdict, commandVerdict, listed, verdict}
@@ -176,11 +177,9 @@ P9 =
     × ((i : ℕ) → 4096 ≤ i → getD (runs one (ticks 16 ∷ []) (erasing m) .memory) i 0 ≡ getD m i 0)
     × (statusByte (runs one (ticks 16 ∷ []) (erasing m) .chip .core) ≡ 0x00)
 
--- the core that a begun job leaves, of that kind at place 0
+-- the core that a begun job leaves, of that kind and with start 0
 abbrev begunCore : JobKind → Core
-begunCore kind =
-    record
-    { level = 0; tb = false; srwp = false; wen = true; suspended = false; wp = true; deep = false; armed = false; job = record { kind = kind; start = 0; done = 0 } }
+begunCore kind = withWen true (withJob (record { kind = kind; start = 0; done = 0 }) resting)
 
 -- n ticks of it, at the core
 ticked-core : (n : ℕ) (w : World) → runs one (ticks n ∷ []) w .chip .core ≡ ticksCore 1 n (w .chip .core)
@@ -315,7 +314,7 @@ worked-examples = (p1, (p2, (p3, (p4, (p5, (p6, (p7, (p8, (p9, (p10, tt)))))))))
 
 -- a small sector erase just begun
 abbrev pub begun : List ℕ → World
-begun m = world (record { core = begunCore SmallErase; frame = emptyFrame; load = blankLoad; held = blankLoad }) m [] 0
+begun m = world (whole (begunCore SmallErase) emptyFrame blankLoad blankLoad) m [] 0
 
 -- five ticks; B0h; three ticks that find it suspended; a status read; 30h; eleven ticks
 abbrev pub cutting : List ℕ
@@ -325,38 +324,38 @@ begun-job : (m : List ℕ) → UnderWay one SmallErase 0 blankLoad 0 (begun m)
 begun-job m = record { job-is = refl; load-is = refl; steps-left = omega arith }
 
 -- an event of a kind that spares any job, and a deselect by its verdict
-spares-any : (T : Setting) (c : Chip) (m : List ℕ) (kind : ℕ) → knownKind kind ≡ true → (kind ≡ POWER → ⊥) → (kind ≡ DESELECT → ⊥) → (kind ≡ LOOSE → ⊥) → Spares T c m kind
-spares-any T c m kind k a b d = record { known = k; no-power-cut = a; clean-spares = λ e. absurd (b e); loose-spares = λ e. absurd (d e) }
+spares-any : (T : Setting) (c : Chip) (kind : ℕ) → knownKind kind ≡ true → (kind ≡ POWER → ⊥) → (kind ≡ DESELECT → ⊥) → (kind ≡ LOOSE → ⊥) → Spares T c kind
+spares-any T c kind k a b d = record { known = k; no-power-cut = a; clean-spares = λ e. absurd (b e); loose-spares = λ e. absurd (d e) }
 
-spares-clean : (T : Setting) (c : Chip) (m : List ℕ) → replaces T c m false ≡ false → Spares T c m DESELECT
+spares-clean : (T : Setting) (c : Chip) → replaces T c false ≡ false → Spares T c DESELECT
 unfolding knownKind knownIn
-spares-clean T c m r = record { known = refl; no-power-cut = λ e. omega arith; clean-spares = λ _. r; loose-spares = λ e. absurd (omega arith) }
+spares-clean T c r = record { known = refl; no-power-cut = λ e. omega arith; clean-spares = λ _. r; loose-spares = λ e. absurd (omega arith) }
 
 cutting-spares : (m : List ℕ) → AllSpare one (events cutting) (begun m)
 unfolding AllSpare runs eventsFrom walk faultAt knownKind knownIn kindRow kindRowIn applied exchanged taken judge rowOf rowIn isProgram verdict listed isRead commandVerdict jobVerdict jobOf fitsRule settled acted heldAfter instantly ticksCore tickCore worked
 cutting-spares m = (
-  spares-any one _ _ TICKS refl (λ e. omega arith) (λ e. omega arith) (λ e. omega arith),
+  spares-any one _ TICKS refl (λ e. omega arith) (λ e. omega arith) (λ e. omega arith),
   (
-    spares-any one _ _ SELECT refl (λ e. omega arith) (λ e. omega arith) (λ e. omega arith),
+    spares-any one _ SELECT refl (λ e. omega arith) (λ e. omega arith) (λ e. omega arith),
     (
-      spares-any one _ _ EXCHANGE refl (λ e. omega arith) (λ e. omega arith) (λ e. omega arith),
+      spares-any one _ EXCHANGE refl (λ e. omega arith) (λ e. omega arith) (λ e. omega arith),
       (
-        spares-clean one _ _ refl,
+        spares-clean one _ refl,
         (
-          spares-any one _ _ TICKS refl (λ e. omega arith) (λ e. omega arith) (λ e. omega arith),
+          spares-any one _ TICKS refl (λ e. omega arith) (λ e. omega arith) (λ e. omega arith),
           (
-            spares-any one _ _ SELECT refl (λ e. omega arith) (λ e. omega arith) (λ e. omega arith),
+            spares-any one _ SELECT refl (λ e. omega arith) (λ e. omega arith) (λ e. omega arith),
             (
-              spares-any one _ _ EXCHANGE refl (λ e. omega arith) (λ e. omega arith) (λ e. omega arith),
+              spares-any one _ EXCHANGE refl (λ e. omega arith) (λ e. omega arith) (λ e. omega arith),
               (
-                spares-any one _ _ EXCHANGE refl (λ e. omega arith) (λ e. omega arith) (λ e. omega arith),
+                spares-any one _ EXCHANGE refl (λ e. omega arith) (λ e. omega arith) (λ e. omega arith),
                 (
-                  spares-clean one _ _ refl,
+                  spares-clean one _ refl,
                   (
-                    spares-any one _ _ SELECT refl (λ e. omega arith) (λ e. omega arith) (λ e. omega arith),
+                    spares-any one _ SELECT refl (λ e. omega arith) (λ e. omega arith) (λ e. omega arith),
                     (
-                      spares-any one _ _ EXCHANGE refl (λ e. omega arith) (λ e. omega arith) (λ e. omega arith),
-                      (spares-clean one _ _ refl, (spares-any one _ _ TICKS refl (λ e. omega arith) (λ e. omega arith) (λ e. omega arith), tt)),
+                      spares-any one _ EXCHANGE refl (λ e. omega arith) (λ e. omega arith) (λ e. omega arith),
+                      (spares-clean one _ refl, (spares-any one _ TICKS refl (λ e. omega arith) (λ e. omega arith) (λ e. omega arith), tt)),
                     ),
                   ),
                 ),

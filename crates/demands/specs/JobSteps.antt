@@ -1,6 +1,6 @@
 -- The part as a machine with a job under way: what spares the job, and that each event then does exactly the steps of its working ticks.
 -- `Demand3` draws the conclusions.
-use Prim.Native.Nat.{ℕ, zero, suc, _+_, _/_, _%_, _<_, _≤_, max, _-_}
+use Prim.Native.Nat.{ℕ, zero, suc, _+_, _<_, _≤_, max, _-_}
 use mathlib.Core.Bool.{Bool, true, false, not, _&&_, _||_, false≢true}
 use mathlib.Core.List.{List}
 use mathlib.Core.Path.{_≡_, refl, sym, ap, subst, _∙_}
@@ -23,30 +23,21 @@ use Rattle.chip.specs.declared.JobKind.{JobKind}
 use Rattle.chip.specs.declared.JobKind.the-variants.{Idle, WriteStatus, Program, SmallErase, SectorErase, ChipErase}
 use Rattle.chip.specs.Fields.{withDone}
 use Rattle.chip.specs.Job.{isJob, total, steps, noJob}
-use Rattle.chip.specs.Chip.{running, blankLoad}
+use Rattle.chip.specs.Chip.{Bits, bitsIn, bitsOf, running, blankLoad}
 use Rattle.job.specs.Tick.{ticksLeft, ticksCore, worked, endedAs, advanced}
-use Rattle.job.specs.Laws.{steps-none, steps-add, ticks-rest, ticksLoad-rest, ticksMemory-rest, worked-rest, ticks-go, ticksLoad-go, ticksMemory-go, worked-go, ticks-over, ticksLoad-over, ticksMemory-over, worked-over}
+use Rattle.job.specs.Laws.{steps-none, steps-add, ticks-rest, ticksLoad-rest, ticksMemory-rest, worked-rest, ticks-go, ticksLoad-go, ticksMemory-go, worked-go, ended-none, ticks-over, ticksLoad-over, ticksMemory-over, worked-over}
 use Rattle.verdict.specs.Verdict.{verdict}
-use Rattle.verdict.specs.Effect.{acted, settled}
-use Rattle.verdict.specs.Laws.{acted-nothing, instantly-each, held-stays}
+use Rattle.verdict.specs.Laws.{settled-same, held-stays}
 use Rattle.event.specs.Event.{Outcome, closes, deselect, tick, applied}
 use Rattle.event.specs.Laws.{applied-each}
 use Rattle.script.specs.Script.{Event}
 use Rattle.script.specs.Run.{World, does, onward}
 
--- ---- bits 2 to 5 and 7
+-- ---- the kept bits
 
-pub record Bits : Type 0 where
-  pub level : ℕ
-  pub tb : Bool
-  pub srwp : Bool
-
-abbrev pub bitsOf : Core → Bits
-bitsOf k = record { level = k .level; tb = k .tb; srwp = k .srwp }
-
--- the bits after a job's last step: a write status sets them, every other job leaves them
+-- after a job's last step: a write status sets them, every other job leaves them (RULES, Jobs)
 abbrev pub bitsAfter : JobKind → Bits → Bits
-bitsAfter (WriteStatus value) b = record { level = value / 4 % 8; tb = eqb (value / 32 % 2) 1; srwp = eqb (value / 128 % 2) 1 }
+bitsAfter (WriteStatus value) b = bitsIn value
 bitsAfter Idle b = b
 bitsAfter Program b = b
 bitsAfter SmallErase b = b
@@ -61,19 +52,11 @@ ended-bits SmallErase k = refl
 ended-bits SectorErase k = refl
 ended-bits ChipErase k = refl
 
-ended-idle : (kind : JobKind) (k : Core) → endedAs kind k .job ≡ noJob
-ended-idle (WriteStatus value) k = refl
-ended-idle Idle k = refl
-ended-idle Program k = refl
-ended-idle SmallErase k = refl
-ended-idle SectorErase k = refl
-ended-idle ChipErase k = refl
-
 -- ---- what spares a job
 
--- whether a deselect drops the job or begins another: verdict 2, or a reset done at once
-abbrev pub replaces : Setting → Chip → List ℕ → Bool → Bool
-replaces T c m loose =
+-- whether a deselect drops the job or begins another: verdict 2, or a reset done at once (RULES, Verdicts)
+abbrev pub replaces : Setting → Chip → Bool → Bool
+replaces T c loose =
     c .frame .selected
     && (eqb (verdict (T .sectors) (c .core) (c .frame) loose) 2
     || eqb (verdict (T .sectors) (c .core) (c .frame) loose) 1 && eqb (c .frame .opcode) reset)
@@ -85,15 +68,16 @@ either-way true false b p (inl q) = absurd (false≢true q)
 either-way true false b p (inr q) = q
 either-way false a b p q = p
 
--- an event that is no power cut, no reset and begins no job; suspends, resumes, reads, ticks, refused frames and frames left open all spare it
-pub record Spares (T : Setting) (c : Chip) (m : List ℕ) (kind : ℕ) : Type 0 where
+-- an event that is no power cut, no reset and begins no job; suspends, resumes, reads, ticks, frames turned away and frames left open all spare it
+pub record Spares (T : Setting) (c : Chip) (kind : ℕ) : Type 0 where
   pub known : knownKind kind ≡ true
   pub no-power-cut : kind ≡ POWER → ⊥
-  pub clean-spares : kind ≡ DESELECT → replaces T c m false ≡ false
-  pub loose-spares : kind ≡ LOOSE → replaces T c m true ≡ false
+  pub clean-spares : kind ≡ DESELECT → replaces T c false ≡ false
+  pub loose-spares : kind ≡ LOOSE → replaces T c true ≡ false
 
--- ---- an event that spares the job and is no tick changes neither cells nor job
+-- ---- an event that spares the job, and finds none running if it is ticks, changes neither cells nor job
 
+-- cells, job, its load and the kept bits as they were, and no tick worked
 pub record Unchanged (c : Chip) (m : List ℕ) (o : Outcome) : Type 0 where
   pub memory-same : o .memory ≡ m
   pub works-none : o .ticks ≡ 0
@@ -102,29 +86,12 @@ pub record Unchanged (c : Chip) (m : List ℕ) (o : Outcome) : Type 0 where
   pub bits-same : bitsOf (o .chip .core) ≡ bitsOf (c .core)
 
 module _ (T : Setting) (c : Chip) (m : List ℕ) where
-  abbrev Same : Core → Type 0
-  Same k = (k .job ≡ c .core .job) × (bitsOf k ≡ bitsOf (c .core))
+  closes-unchanged : (v : ℕ) → (v ≡ 2 → ⊥) → (v ≡ 1 → c .frame .opcode ≡ reset → ⊥) → Unchanged c m (closes T c m v)
+  closes-unchanged v not-begun not-reset =
+      let same = settled-same (T .sectors) (c .core) (c .frame) v not-begun not-reset in
+      record { memory-same = refl; works-none = refl; job-same = same .0; held-same = held-stays (c .frame) v (c .load) (c .held) not-begun not-reset; bits-same = same .1 }
 
-  -- a verdict that neither begins nor resets leaves the job, the bits and the load
-  module _ (v : ℕ) (not-begun : v ≡ 2 → ⊥) (not-reset : v ≡ 1 → c .frame .opcode ≡ reset → ⊥) where
-    acted-same : Same (acted (T .sectors) (c .core) (c .frame) v)
-    unfolding acted
-    acted-same = go (ℕ-discrete v 1)
-      where
-        go : Dec (v ≡ 1) → Same (acted (T .sectors) (c .core) (c .frame) v)
-        go (yes one) =
-            subst Same (sym (cond-no (eqb v 2) _ _ (ne-eqb _ _ not-begun) ∙ cond-yes (eqb v 1) _ _ (eq-eqb _ _ one)))
-            (instantly-each (c .core) (c .frame .opcode) Same (λ _. (refl, refl)) (λ _. (refl, refl)) (λ _. (refl, refl)) (λ _. (refl, refl)) (λ _. (refl, refl)) (λ _. (refl, refl)) (λ e. absurd (not-reset one e)) (refl, refl))
-        go (no one) = subst Same (sym (acted-nothing (T .sectors) (c .core) (c .frame) v one not-begun)) (refl, refl)
-
-    settled-same : Same (settled (T .sectors) (c .core) (c .frame) v)
-    unfolding settled
-    settled-same = cond-either Same (eqb (c .frame .count) 0) _ _ (λ _. (refl, refl)) (λ _. acted-same)
-
-    closes-unchanged : Unchanged c m (closes T c m v)
-    closes-unchanged = record { memory-same = refl; works-none = refl; job-same = settled-same .0; held-same = held-stays (c .frame) v (c .load) (c .held) not-begun not-reset; bits-same = settled-same .1 }
-
-  deselect-unchanged : (loose : Bool) → replaces T c m loose ≡ false → Unchanged c m (deselect T c m loose)
+  deselect-unchanged : (loose : Bool) → replaces T c loose ≡ false → Unchanged c m (deselect T c m loose)
   deselect-unchanged loose h =
       cond-either (Unchanged c m) (c .frame .selected) _ _ (λ s. closes-unchanged v (λ e. begun s e) (λ e r. reset-done s e r))
       (λ _. record { memory-same = refl; works-none = refl; job-same = refl; held-same = refl; bits-same = refl })
@@ -139,8 +106,19 @@ module _ (T : Setting) (c : Chip) (m : List ℕ) where
       reset-done s e r =
           false≢true (sym h ∙ either-way (c .frame .selected) (eqb v 2) (eqb v 1 && eqb (c .frame .opcode) reset) s (inr (and-both (eqb v 1) (eqb (c .frame .opcode) reset) (eq-eqb v 1 e) (eq-eqb _ _ r))))
 
+  ticks-unchanged : (n : ℕ) → running (c .core) ≡ false → Unchanged c m (tick T c m n)
+  ticks-unchanged n r =
+      let core : ticksCore (T .sectors) n (c .core) ≡ c .core = ticks-rest (T .sectors) n (c .core) r in
+      record {
+        memory-same = ticksMemory-rest (T .sectors) n (c .core) (c .held) m r;
+        works-none = worked-rest (T .sectors) n (c .core) r;
+        job-same = ap (λ (q : Core). q .job) core;
+        held-same = ticksLoad-rest (T .sectors) n (c .core) (c .held) r;
+        bits-same = ap bitsOf core;
+      }
+
   -- what holds of an event that changes neither, and of ticks, holds of every event that spares the job
-  pub sparing-each : (kind body : ℕ) (P : Outcome → Type 0) → Spares T c m kind → ((o : Outcome) → Unchanged c m o → P o) → ((n : ℕ) → P (tick T c m n)) → P (applied T c m kind body)
+  pub sparing-each : (kind body : ℕ) (P : Outcome → Type 0) → Spares T c kind → ((o : Outcome) → Unchanged c m o → P o) → ((n : ℕ) → P (tick T c m n)) → P (applied T c m kind body)
   sparing-each kind body P s still ticks =
       applied-each T c m kind body P
       (λ _. still _ (record { memory-same = refl; works-none = refl; job-same = refl; held-same = refl; bits-same = refl }))
@@ -151,6 +129,10 @@ module _ (T : Setting) (c : Chip) (m : List ℕ) where
       (λ _. still _ (record { memory-same = refl; works-none = refl; job-same = refl; held-same = refl; bits-same = refl }))
       (λ e. absurd (s .no-power-cut e))
       (λ e. still _ (deselect-unchanged true (s .loose-spares (e (s .known)))))
+
+  -- With no job running, an event that is no power cut, no reset and begins no job leaves cells, job and load as they were, whatever a bench has lent.
+  pub resting-unchanged : (kind body : ℕ) → Spares T c kind → running (c .core) ≡ false → Unchanged c m (applied T c m kind body)
+  resting-unchanged kind body s r = sparing-each kind body (Unchanged c m) s (λ o u. u) (λ n. ticks-unchanged n r)
 
 -- ---- where the job stands
 
@@ -203,19 +185,16 @@ module _ (T : Setting) (kind : JobKind) (start : ℕ) (held : List ℕ) (bits : 
 
   module _ (i : ℕ) (c : Chip) (m : List ℕ) (at : At i c) (left : i < total kind S) where
     -- an event that changes neither cells nor job
-    leaves : (o : Outcome) → o .memory ≡ m → o .ticks ≡ 0 → o .chip .core .job ≡ c .core .job → o .chip .held ≡ c .held → bitsOf (o .chip .core) ≡ bitsOf (c .core) → Goes i m o
+    unchanged-goes : (o : Outcome) → Unchanged c m o → Goes i m o
     unfolding laid
-    leaves o em et ej ep eb = (
-      em ∙ ap (λ (q : ℕ). laid step i q m) (sym et),
+    unchanged-goes o u = (
+      u .memory-same ∙ ap (λ (q : ℕ). laid step i q m) (sym (u .works-none)),
       inl (
-        omega (arith, et),
-        subst (λ (q : ℕ). At q (o .chip)) (sym (add-zero i) ∙ ap (λ (q : ℕ). i + q) (sym et))
-            (record { job-is = ej ∙ at .job-is; held-is = ep ∙ at .held-is; bits-are = eb ∙ at .bits-are }),
+        omega (arith, u .works-none),
+        subst (λ (q : ℕ). At q (o .chip)) (sym (add-zero i) ∙ ap (λ (q : ℕ). i + q) (sym (u .works-none)))
+            (record { job-is = u .job-same ∙ at .job-is; held-is = u .held-same ∙ at .held-is; bits-are = u .bits-same ∙ at .bits-are }),
       ),
     )
-
-    unchanged-goes : (o : Outcome) → Unchanged c m o → Goes i m o
-    unchanged-goes o u = leaves o (u .memory-same) (u .works-none) (u .job-same) (u .held-same) (u .bits-same)
 
     -- ticks: none of them works, or as many as the job has steps left
 
@@ -228,10 +207,6 @@ module _ (T : Setting) (kind : JobKind) (start : ℕ) (held : List ℕ) (bits : 
 
     steps-as : (n : ℕ) → steps (c .core .job .kind) (c .core .job .start) (c .held) (c .core .job .done) n m ≡ laid step i n m
     steps-as n = job-as (λ (j : Job). steps (j .kind) (j .start) (c .held) (j .done) n m) ∙ ap (λ (p : List ℕ). steps kind start p i n m) (at .held-is) ∙ sym (laid-steps kind start held i n m)
-
-    ticks-rest-goes : (n : ℕ) → running (c .core) ≡ false → Goes i m (tick T c m n)
-    ticks-rest-goes n r =
-        leaves (tick T c m n) (ticksMemory-rest S n (c .core) (c .held) m r) (worked-rest S n (c .core) r) (ap (λ (q : Core). q .job) (ticks-rest S n (c .core) r)) (ticksLoad-rest S n (c .core) (c .held) r) (ap bitsOf (ticks-rest S n (c .core) r))
 
     ticks-some-go : (n : ℕ) → running (c .core) ≡ true → n < total kind S - i → Goes i m (tick T c m n)
     ticks-some-go n r l =
@@ -262,7 +237,7 @@ module _ (T : Setting) (kind : JobKind) (start : ℕ) (held : List ℕ) (bits : 
           inr (
             omega (arith, w, left-is),
             record {
-              job-none = ap (λ (q : Core). q .job) core-is ∙ ended-idle kind (c .core);
+              job-none = ap (λ (q : Core). q .job) core-is ∙ ended-none kind (c .core);
               load-blank = ticksLoad-over S (c .core) r n enough (c .held);
               bits-are = ap bitsOf core-is ∙ ended-bits kind (c .core) ∙ ap (bitsAfter kind) (at .bits-are);
             },
@@ -273,12 +248,12 @@ module _ (T : Setting) (kind : JobKind) (start : ℕ) (held : List ℕ) (bits : 
     tick-goes n = go (running (c .core)) refl (decLt n (total kind S - i))
       where
         go : (b : Bool) → running (c .core) ≡ b → Dec (n < total kind S - i) → Goes i m (tick T c m n)
-        go false r d = ticks-rest-goes n r
+        go false r d = unchanged-goes _ (ticks-unchanged T c m n r)
         go true r (yes l) = ticks-some-go n r l
         go true r (no l) = ticks-all-go n r (omega arith)
 
     -- every event that spares the job
-    pub event-goes : (kind′ body : ℕ) → Spares T c m kind′ → Goes i m (applied T c m kind′ body)
+    pub event-goes : (kind′ body : ℕ) → Spares T c kind′ → Goes i m (applied T c m kind′ body)
     event-goes kind′ body s = sparing-each T c m kind′ body (Goes i m) s unchanged-goes tick-goes
 
   -- ---- once the job is over
@@ -300,17 +275,9 @@ module _ (T : Setting) (kind : JobKind) (start : ℕ) (held : List ℕ) (bits : 
     )
 
     tick-rests : (n : ℕ) → Rests (tick T c m n)
-    tick-rests n =
-        unchanged-rests (tick T c m n)
-        (record {
-          memory-same = ticksMemory-rest S n (c .core) (c .held) m over-rests;
-          works-none = worked-rest S n (c .core) over-rests;
-          job-same = ap (λ (q : Core). q .job) (ticks-rest S n (c .core) over-rests);
-          held-same = ticksLoad-rest S n (c .core) (c .held) over-rests;
-          bits-same = ap bitsOf (ticks-rest S n (c .core) over-rests);
-        })
+    tick-rests n = unchanged-rests (tick T c m n) (ticks-unchanged T c m n over-rests)
 
-    pub event-rests : (kind′ body : ℕ) → Spares T c m kind′ → Rests (applied T c m kind′ body)
+    pub event-rests : (kind′ body : ℕ) → Spares T c kind′ → Rests (applied T c m kind′ body)
     event-rests kind′ body s = sparing-each T c m kind′ body Rests s unchanged-rests tick-rests
 
   -- ---- the machine
@@ -328,7 +295,7 @@ module _ (T : Setting) (kind : JobKind) (start : ℕ) (held : List ℕ) (bits : 
         worked = λ e w. does T e w .ticks;
         At = λ i w. (i < total kind S) × At i (w .chip);
         Over = λ w. Over (w .chip);
-        Spares = λ e w. Spares T (w .chip) (w .memory) (e .kind);
+        Spares = λ e w. Spares T (w .chip) (e .kind);
         goes = λ i e w a s. went i (does T e w) (w .memory) (event-goes i (w .chip) (w .memory) (a .1) (a .0) (e .kind) (e .body) s);
         rests = λ e w o s. event-rests (w .chip) (w .memory) o (e .kind) (e .body) s;
       }

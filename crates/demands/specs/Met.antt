@@ -7,7 +7,8 @@ use Rattle.part.specs.Part.{permitted}
 use Rattle.commands.specs.Table.{isProgram}
 use Rattle.chip.specs.declared.Chip.{Chip}
 use Rattle.chip.specs.declared.Frame.{Frame}
-use Rattle.chip.specs.Chip.{fresh}
+use Rattle.chip.specs.Fields.{withSelected, withOpcode, withCount}
+use Rattle.chip.specs.Chip.{whole, emptyFrame, blankLoad, fresh}
 use Rattle.legal.specs.Legal.{legalJob, legalCore, legalFrame, isEmpty, isBlank, legal}
 use Rattle.frame.specs.Frame.{readsCell, takesData}
 use Rattle.kinds.specs.Kinds.{SELECT, EXCHANGE, DESELECT, TICK, WP, knownIn, kindRowIn, knownKind, kindRow}
@@ -16,10 +17,10 @@ use Rattle.script.specs.Script.{faultAt, eventAt, walk, eventsFrom, events, fir
 
 -- a frame of that opcode with so many bytes, selected and not judged
 abbrev framed : ℕ → ℕ → Frame
-framed opcode count = record { selected = true; opcode = opcode; address = 0; place = 0; slot = 0; count = count; judgement = 0 }
+framed opcode count = withSelected true (withOpcode opcode (withCount count emptyFrame))
 
 abbrev counted-to-7 : Chip
-counted-to-7 = record { core = fresh 0x00 .core; frame = framed 0x03 7; load = fresh 0x00 .load; held = fresh 0x00 .held }
+counted-to-7 = whole (fresh 0x00 .core) (framed 0x03 7) blankLoad blankLoad
 
 -- `legal-applied`, `legal-runs`, `good-alone`: a fresh state is legal, on the smallest and on the real part
 pub legal-met : (legal (fresh 0x00) 65536 ≡ true) × (legal (fresh 0xFF) 2097152 ≡ true)
