@@ -34,6 +34,7 @@ refusedEvent given number = record { chip = given; refusal = number; size = 0; b
 abbrev pub doneEvent : Answer → EventNumbers
 doneEvent a = record { chip = numbersOf (a .chip); refusal = 0; size = length (recordBytes (a .said)); bytes = padded (a .said); ticks = a .ticks }
 
+-- the answer of an event on the chip that the numbers given mean
 unfoldable pub eventNumbers : ChipNumbers → Answer → EventNumbers
 eventNumbers given a = cond (eqb (a .refusal) 0) (doneEvent a) (refusedEvent given (a .refusal))
 
@@ -46,12 +47,14 @@ eventMemory c m kind body = cond (isState c) (alone.memoryOf (chipOf c) m kind b
 
 -- ---- a run
 
+-- the same of a run
 abbrev pub refusedRun : ChipNumbers → ℕ → ℕ → RunNumbers
 refusedRun given number offset = record { chip = given; refusal = number; offset = offset; written = 0; ticks = 0 }
 
 abbrev pub doneRun : Ran → RunNumbers
 doneRun a = record { chip = numbersOf (a .chip); refusal = 0; offset = 0; written = a .written; ticks = a .ticks }
 
+-- the answer of a run on that chip
 unfoldable pub runNumbers : ChipNumbers → Ran → RunNumbers
 runNumbers given a = cond (eqb (a .refusal) 0) (doneRun a) (refusedRun given (a .refusal) (a .offset))
 

@@ -2,7 +2,7 @@
 use Prim.Native.Nat.{ℕ, _<_}
 use mathlib.Core.Bool.{Bool, true, false, _&&_}
 use mathlib.Core.List.{List}
-use mathlib.Core.Path.{_≡_, refl, sym, ap, _∙_}
+use mathlib.Core.Path.{_≡_, refl, sym, ap, subst, _∙_}
 use lib.Dec.{eqb, leb}
 use native.Mathlib.Omega.{arith}
 use native.Mathlib.Decide.{decLt}
@@ -84,12 +84,15 @@ numbers-are-state c =
 flag-again : (v : ℕ) → leb v 1 ≡ true → flagNumber (flagOf v) ≡ v
 flag-again v h = go (decLt v 1)
   where
-    again : (w : ℕ) → v ≡ w → flagNumber (flagOf w) ≡ w → flagNumber (flagOf v) ≡ v
-    again w e p = ap (λ (n : ℕ). flagNumber (flagOf n)) e ∙ p ∙ sym e
+    Again : ℕ → Type 0
+    Again n = flagNumber (flagOf n) ≡ n
 
-    go : Dec (v < 1) → flagNumber (flagOf v) ≡ v
-    go (yes l) = again 0 (omega (arith, l)) refl
-    go (no l) = again 1 (omega (arith, l, leb-true v 1 h)) refl
+    at : (n : ℕ) → n ≡ v → Again n → Again v
+    at n e = subst Again e
+
+    go : Dec (v < 1) → Again v
+    go (yes l) = at 0 (omega (arith, l)) refl
+    go (no l) = at 1 (omega (arith, l, leb-true v 1 h)) refl
 
 -- eight flags and one test more, joined as `isStateOf` joins them: each flag's test holds
 eight-true : (a b c d e f g h k : Bool) → (a && b && c && d && e && f && g && h && k) ≡ true
@@ -133,16 +136,19 @@ pub kind-again : (kind value : ℕ) → leb kind 5 ≡ true → kindNumber (kind
 unfolding kindOf
 kind-again kind value h = go (decLt kind 1) (decLt kind 2) (decLt kind 3) (decLt kind 4) (decLt kind 5)
   where
-    again : (w : ℕ) → kind ≡ w → kindNumber (kindOf w value) ≡ w → kindNumber (kindOf kind value) ≡ kind
-    again w e p = ap (λ (n : ℕ). kindNumber (kindOf n value)) e ∙ p ∙ sym e
+    Again : ℕ → Type 0
+    Again n = kindNumber (kindOf n value) ≡ n
 
-    go : Dec (kind < 1) → Dec (kind < 2) → Dec (kind < 3) → Dec (kind < 4) → Dec (kind < 5) → kindNumber (kindOf kind value) ≡ kind
-    go (yes u) _ _ _ _ = again 0 (omega (arith, u)) refl
-    go (no l) (yes u) _ _ _ = again 1 (omega (arith, l, u)) refl
-    go (no _) (no l) (yes u) _ _ = again 2 (omega (arith, l, u)) refl
-    go (no _) (no _) (no l) (yes u) _ = again 3 (omega (arith, l, u)) refl
-    go (no _) (no _) (no _) (no l) (yes u) = again 4 (omega (arith, l, u)) refl
-    go (no _) (no _) (no _) (no _) (no l) = again 5 (omega (arith, l, leb-true kind 5 h)) refl
+    at : (n : ℕ) → n ≡ kind → Again n → Again kind
+    at n e = subst Again e
+
+    go : Dec (kind < 1) → Dec (kind < 2) → Dec (kind < 3) → Dec (kind < 4) → Dec (kind < 5) → Again kind
+    go (yes u) _ _ _ _ = at 0 (omega (arith, u)) refl
+    go (no l) (yes u) _ _ _ = at 1 (omega (arith, l, u)) refl
+    go (no _) (no l) (yes u) _ _ = at 2 (omega (arith, l, u)) refl
+    go (no _) (no _) (no l) (yes u) _ = at 3 (omega (arith, l, u)) refl
+    go (no _) (no _) (no _) (no l) (yes u) = at 4 (omega (arith, l, u)) refl
+    go (no _) (no _) (no _) (no _) (no l) = at 5 (omega (arith, l, leb-true kind 5 h)) refl
 
 -- ---- an answer as numbers
 

@@ -2,7 +2,8 @@
 use Prim.Native.Nat.{ℕ}
 use mathlib.Core.Bool.{Bool}
 use mathlib.Core.List.{List}
-use mathlib.Core.Path.{_≡_, sym, _∙_}
+use mathlib.Core.Path.{_≡_}
+use Rattle.cells.specs.Choice.{same}
 use Rattle.chip.specs.Chip.{fresh}
 use Rattle.boundary.specs.declared.ChipNumbers.{ChipNumbers}
 use Rattle.boundary.specs.declared.EventNumbers.{EventNumbers}
@@ -11,21 +12,21 @@ use Rattle.boundary.specs.Numbers.{numbersOf, legalNumbers}
 use Rattle.boundary.specs.Answers.{eventOf, eventMemory, runOf, runMemory, runOutput}
 
 pub chip-fresh-unique : (status : ℕ) (r r′ : ChipNumbers) → r ≡ numbersOf (fresh status) → r′ ≡ numbersOf (fresh status) → r ≡ r′
-chip-fresh-unique status r r′ h h′ = h ∙ sym h′
+chip-fresh-unique status r r′ h h′ = same h h′
 
 pub chip-legal-unique : (c : ChipNumbers) (n : ℕ) (r r′ : Bool) → r ≡ legalNumbers c n → r′ ≡ legalNumbers c n → r ≡ r′
-chip-legal-unique c n r r′ h h′ = h ∙ sym h′
+chip-legal-unique c n r r′ h h′ = same h h′
 
 -- `chip_event` and `chip_event_lent`, which have one contract: r the answer, z the memory at exit
 pub chip-event-unique : (c : ChipNumbers) (m : List ℕ) (kind body : ℕ) (r r′ : EventNumbers) (z z′ : List ℕ)
     → (r ≡ eventOf c m kind body) × (z ≡ eventMemory c m kind body)
     → (r′ ≡ eventOf c m kind body) × (z′ ≡ eventMemory c m kind body)
     → (r ≡ r′) × (z ≡ z′)
-chip-event-unique c m kind body r r′ z z′ h h′ = (h .0 ∙ sym (h′ .0), h .1 ∙ sym (h′ .1))
+chip-event-unique c m kind body r r′ z z′ h h′ = (same (h .0) (h′ .0), same (h .1) (h′ .1))
 
 -- `chip_run`: r the answer, z the memory and o the output at exit
 pub chip-run-unique : (c : ChipNumbers) (m s out : List ℕ) (r r′ : RunNumbers) (z z′ o o′ : List ℕ)
     → (r ≡ runOf c m s out) × (z ≡ runMemory c m s out) × (o ≡ runOutput c m s out)
     → (r′ ≡ runOf c m s out) × (z′ ≡ runMemory c m s out) × (o′ ≡ runOutput c m s out)
     → (r ≡ r′) × (z ≡ z′) × (o ≡ o′)
-chip-run-unique c m s out r r′ z z′ o o′ h h′ = (h .0 ∙ sym (h′ .0), h .1 ∙ sym (h′ .1), h .2 ∙ sym (h′ .2))
+chip-run-unique c m s out r r′ z z′ o o′ h h′ = (same (h .0) (h′ .0), same (h .1) (h′ .1), same (h .2) (h′ .2))

@@ -1,9 +1,13 @@
--- Laws of `cond`, the choice by a test, over any type: what every layer's laws and proofs pass on.
+-- Laws of equality and of `cond`, the choice by a test, over any type: what every layer's laws and proofs pass on.
 use mathlib.Core.Bool.{Bool, true, false, cond, not, _&&_, _||_, false≢true}
 use mathlib.Core.Path.{_≡_, refl, sym, ap, _∙_}
 use Prim.Native.Nat.{ℕ}
 use lib.Dec.{eqb}
 use borrow.Author.Tests.{eqb-true}
+
+-- two answers that are equal to one thing are equal
+pub same : {A : Type 0} {a r r′ : A} → r ≡ a → r′ ≡ a → r ≡ r′
+same p q = p ∙ sym q
 
 pub cond-yes : {A : Type 0} (b : Bool) (x y : A) → b ≡ true → cond b x y ≡ x
 cond-yes b x y h = ap (λ (t : Bool). cond t x y) h

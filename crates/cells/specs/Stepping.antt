@@ -1,5 +1,5 @@
 -- A job cut into steps, in any machine: whatever events come between, memory has exactly the steps that were worked, and at the end all of them.
--- Nothing here speaks of a part: `Demands` uses it for this one, and another part can use it as it stands.
+-- Nothing here speaks of a part: the crate `demands` uses it for this one, and another part can use it as it stands.
 use Prim.Native.Nat.{ℕ, zero, suc, _+_, _<_}
 use mathlib.Core.List.{List, [], _∷_}
 use mathlib.Core.Path.{_≡_, refl, sym, ap, subst, _∙_}

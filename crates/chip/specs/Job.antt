@@ -62,7 +62,7 @@ total SmallErase S = 16
 total SectorErase S = 256
 total ChipErase S = 256 * S
 
--- what becomes of a cell: ANDed with its load byte, or FFh; the kinds without cells change none
+-- what becomes of a cell: ANDed with its load byte, or FFh; for the kinds whose steps have no cells any rule will do
 abbrev pub rule : JobKind → List ℕ → Rule
 rule Idle load = blanked
 rule (WriteStatus value) load = blanked

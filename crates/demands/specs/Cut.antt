@@ -11,7 +11,7 @@ use lib.ListN.{length, getD, length-append, List·getD-append}
 use lib.Seq.{getD-append-add}
 use borrow.Author.Tests.{ne-eqb, eqb-false, lt-ltb, le-ltb}
 use Rattle.cells.specs.Choice.{cond-no}
-use Rattle.part.specs.Part.{permitted, sectors, Setting, settingOf}
+use Rattle.part.specs.Part.{permitted, sectorsIn, Setting, settingOf}
 use Rattle.kinds.specs.Kinds.{knownKind, bodyLength, inRange, roomOf}
 use Rattle.kinds.specs.Body.{numberAt, bodyAt, nextAt}
 use Rattle.chip.specs.declared.Chip.{Chip}
@@ -229,7 +229,7 @@ length-runs T [] w = refl
 length-runs T (e ∷ es) w =
     length-runs T es (onward T e w) ∙ length-applied T (w .chip) (w .memory) (e .kind) (e .body)
 
-module _ (T : Setting) (n : ℕ) (part : T .sectors ≡ sectors n) where
+module _ (T : Setting) (n : ℕ) (part : T .sectors ≡ sectorsIn n) where
   pub legal-runs : (es : List Event) (w : World) → length (w .memory) ≡ n → legal (w .chip) n ≡ true → legal (runs T es w .chip) n ≡ true
   unfolding runs
   legal-runs [] w l h = h
@@ -238,7 +238,7 @@ module _ (T : Setting) (n : ℕ) (part : T .sectors ≡ sectors n) where
       legal-on : (e : Event) (w : World) → length (w .memory) ≡ n → legal (w .chip) n ≡ true → legal (does T e w .chip) n ≡ true
       legal-on e w l h =
           subst (λ (q : ℕ). legal (does T e w .chip) q ≡ true) l
-          (legal-applied T (w .chip) (w .memory) (e .kind) (e .body) (part ∙ ap sectors (sym l)) (subst (λ (q : ℕ). legal (w .chip) q ≡ true) (sym l) h))
+          (legal-applied T (w .chip) (w .memory) (e .kind) (e .body) (part ∙ ap sectorsIn (sym l)) (subst (λ (q : ℕ). legal (w .chip) q ≡ true) (sym l) h))
 
   -- nor does a run leave anything of a gone job: from a legal state without leftovers
   pub no-leftovers-runs : (es : List Event) (w : World) → length (w .memory) ≡ n → legal (w .chip) n ≡ true → NoLeftovers (w .chip .core) (w .chip .held)
@@ -300,7 +300,7 @@ pub one-by-one : (c : Chip) (m s : List ℕ) (at : ℕ) → Alone.refusal c (len
     × (Alone.memoryOf c m (getD s at 0) (bodyAt s at) ≡ applied (settingOf (length m)) c m (getD s at 0) (bodyAt s at) .memory)
 one-by-one c m s at h =
     let same : applied (settingOf (length m)) c m (getD s at 0) (bodyAt s at) ≡ Alone.happens c m (getD s at 0) (bodyAt s at) =
-    happens-as c m (getD s at 0) (bodyAt s at) (sectors (length m)) (bodyAt s at) refl (sym (used-at s at)) in (
+    happens-as c m (getD s at 0) (bodyAt s at) (sectorsIn (length m)) (bodyAt s at) refl (sym (used-at s at)) in (
       answer-done c m (getD s at 0) (bodyAt s at) h ∙ ap Alone.done (sym same),
       memory-done c m (getD s at 0) (bodyAt s at) h ∙ ap (λ (o : Outcome). o .memory) (sym same),
     )

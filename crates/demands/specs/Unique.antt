@@ -3,7 +3,8 @@
 use Prim.Native.Nat.{ℕ}
 use mathlib.Core.Bool.{Bool}
 use mathlib.Core.List.{List}
-use mathlib.Core.Path.{_≡_, sym, ap, _∙_}
+use mathlib.Core.Path.{_≡_, ap}
+use Rattle.cells.specs.Choice.{same}
 use Rattle.part.specs.Part.{Setting}
 use Rattle.chip.specs.declared.Chip.{Chip}
 use Rattle.chip.specs.declared.Core.{Core}
@@ -20,10 +21,6 @@ use Rattle.event.specs.Event.{Outcome, outcome, applied}
 use Rattle.event.specs.Alone as Alone
 use Rattle.script.specs.declared.Ran.{Ran}
 use Rattle.script.specs.Run as Run
-
--- two answers that are equal to one thing are equal
-pub same : {A : Type 0} {a r r′ : A} → r ≡ a → r′ ≡ a → r ≡ r′
-same p q = p ∙ sym q
 
 -- `Chip::fresh`
 pub unique-fresh : (status : ℕ) (r r′ : Chip) → r ≡ fresh status → r′ ≡ fresh status → r ≡ r′

@@ -4,12 +4,12 @@ use mathlib.Core.Bool.{Bool, true, false, cond}
 use mathlib.Core.List.{List}
 use lib.Dec.{eqb}
 use Rattle.part.specs.Part.{Setting}
-use Rattle.kinds.specs.Kinds.{SELECT, EXCHANGE, DESELECT, TICK, TICKS, WP, POWER}
+use Rattle.kinds.specs.Kinds.{SELECT, EXCHANGE, DESELECT, TICK, TICKS, WP, POWER, Says}
 use Rattle.chip.specs.declared.Chip.{Chip}
 use Rattle.chip.specs.declared.Core.{Core}
 use Rattle.chip.specs.declared.Frame.{Frame}
 use Rattle.chip.specs.declared.Record.{Record}
-use Rattle.chip.specs.declared.Record.the-variants.{Nothing, Verdict}
+use Rattle.chip.specs.declared.Record.the-variants.{Nothing, Floating, Driven, Verdict}
 use Rattle.chip.specs.Fields.{withWp, withDeep, withArmed, withSelected}
 use Rattle.chip.specs.Chip.{whole, emptyFrame, blankLoad}
 use Rattle.job.specs.Tick.{ticksCore, ticksLoad, ticksMemory, worked}
@@ -76,3 +76,10 @@ applied T c m kind body =
     (cond (eqb kind WP) (setWp c m body)
     (cond (eqb kind POWER) (cutPower c m)
     (deselect T c m true)))))))
+
+-- what sort of thing a record says, in the words of the table of kinds (RULES, Records)
+abbrev pub sortOf : Record → Says
+sortOf Nothing = Says.silent
+sortOf Floating = Says.line
+sortOf (Driven b) = Says.line
+sortOf (Verdict v) = Says.verdict

@@ -19,12 +19,9 @@ use Rattle.verdict.specs.Laws.{acted-nothing}
 use Rattle.event.specs.Event.{Outcome, deselect, applied}
 use Rattle.event.specs.Laws.{applied-each}
 
--- the outcome of a deselect has the memory as it was, and no working tick
-pub deselect-memory : (T : Setting) (c : Chip) (m : List ℕ) (loose : Bool) → deselect T c m loose .memory ≡ m
-deselect-memory T c m loose = cond-either (λ (o : Outcome). o .memory ≡ m) (c .frame .selected) _ _ (λ _. refl) (λ _. refl)
-
-pub deselect-works-none : (T : Setting) (c : Chip) (m : List ℕ) (loose : Bool) → deselect T c m loose .ticks ≡ 0
-deselect-works-none T c m loose = cond-either (λ (o : Outcome). o .ticks ≡ 0) (c .frame .selected) _ _ (λ _. refl) (λ _. refl)
+-- a deselect has the memory as it was, and no working tick
+deselect-still : (T : Setting) (c : Chip) (m : List ℕ) (loose : Bool) → (deselect T c m loose .memory ≡ m) × (deselect T c m loose .ticks ≡ 0)
+deselect-still T c m loose = cond-either (λ (o : Outcome). (o .memory ≡ m) × (o .ticks ≡ 0)) (c .frame .selected) _ _ (λ _. (refl, refl)) (λ _. (refl, refl))
 
 -- Memory keeps its length.
 pub length-applied : (T : Setting) (c : Chip) (m : List ℕ) (kind body : ℕ) → length (applied T c m kind body .memory) ≡ length m
@@ -32,37 +29,31 @@ length-applied T c m kind body =
     applied-each T c m kind body (λ (o : Outcome). length (o .memory) ≡ length m)
     (λ _. refl)
     (λ _. refl)
-    (λ _. ap length (deselect-memory T c m false))
+    (λ _. ap length (deselect-still T c m false .0))
     (λ _. length-ticks (T .sectors) 1 (c .core) (c .held) m)
     (λ _. length-ticks (T .sectors) body (c .core) (c .held) m)
     (λ _. refl)
     (λ _. refl)
-    (λ _. ap length (deselect-memory T c m true))
+    (λ _. ap length (deselect-still T c m true .0))
 
--- An event of a kind other than ticks works no tick and changes no cell.
-pub works-none : (T : Setting) (c : Chip) (m : List ℕ) (kind body : ℕ) → (kind ≡ TICK → ⊥) → (kind ≡ TICKS → ⊥) → applied T c m kind body .ticks ≡ 0
-works-none T c m kind body not-tick not-ticks =
-    applied-each T c m kind body (λ (o : Outcome). o .ticks ≡ 0)
-    (λ _. refl)
-    (λ _. refl)
-    (λ _. deselect-works-none T c m false)
+-- An event of a kind other than ticks changes no cell and works no tick.
+still : (T : Setting) (c : Chip) (m : List ℕ) (kind body : ℕ) → (kind ≡ TICK → ⊥) → (kind ≡ TICKS → ⊥) → (applied T c m kind body .memory ≡ m) × (applied T c m kind body .ticks ≡ 0)
+still T c m kind body not-tick not-ticks =
+    applied-each T c m kind body (λ (o : Outcome). (o .memory ≡ m) × (o .ticks ≡ 0))
+    (λ _. (refl, refl))
+    (λ _. (refl, refl))
+    (λ _. deselect-still T c m false)
     (λ e. absurd (not-tick e))
     (λ e. absurd (not-ticks e))
-    (λ _. refl)
-    (λ _. refl)
-    (λ _. deselect-works-none T c m true)
+    (λ _. (refl, refl))
+    (λ _. (refl, refl))
+    (λ _. deselect-still T c m true)
 
 pub cells-stay : (T : Setting) (c : Chip) (m : List ℕ) (kind body : ℕ) → (kind ≡ TICK → ⊥) → (kind ≡ TICKS → ⊥) → applied T c m kind body .memory ≡ m
-cells-stay T c m kind body not-tick not-ticks =
-    applied-each T c m kind body (λ (o : Outcome). o .memory ≡ m)
-    (λ _. refl)
-    (λ _. refl)
-    (λ _. deselect-memory T c m false)
-    (λ e. absurd (not-tick e))
-    (λ e. absurd (not-ticks e))
-    (λ _. refl)
-    (λ _. refl)
-    (λ _. deselect-memory T c m true)
+cells-stay T c m kind body not-tick not-ticks = still T c m kind body not-tick not-ticks .0
+
+pub works-none : (T : Setting) (c : Chip) (m : List ℕ) (kind body : ℕ) → (kind ≡ TICK → ⊥) → (kind ≡ TICKS → ⊥) → applied T c m kind body .ticks ≡ 0
+works-none T c m kind body not-tick not-ticks = still T c m kind body not-tick not-ticks .1
 
 -- Verdicts 3 to 12 change no job and no status bit, and WEN stays; so do all verdicts but 1 and 2.
 pub record Untouched (k k′ : Core) : Type 0 where

@@ -10,7 +10,7 @@ use lib.ListN.{length}
 use lib.Dec.{eqb}
 use borrow.Author.Tests.{eq-eqb, ne-eqb, eqb-true, eqb-false}
 use Rattle.cells.specs.Choice.{cond-yes, cond-no, cond-either, chosen-number}
-use Rattle.part.specs.Part.{permitted, Setting, setting, sectors}
+use Rattle.part.specs.Part.{permitted, Setting, setting, sectorsIn}
 use Rattle.kinds.specs.Kinds.{SELECT, EXCHANGE, DESELECT, TICK, TICKS, WP, POWER, LOOSE, Says, KindRow, kindRowIn, kindRow, knownKind, bodyLength, inRange, saysOf, isSaid, roomOf}
 use Rattle.kinds.specs.Laws.{kind-each, last-kind, range-small}
 use Rattle.chip.specs.declared.Chip.{Chip}
@@ -25,7 +25,7 @@ use Rattle.frame.specs.Frame.{Exchange, exchanged}
 use Rattle.frame.specs.Legality.{taken-each, exchanged-each}
 use Rattle.verdict.specs.Verdict.{verdict}
 use Rattle.event.specs.declared.Answer.{Answer}
-use Rattle.event.specs.Event.{Outcome, outcome, select, exchangeByte, deselect, closes, tick, setWp, cutPower, applied}
+use Rattle.event.specs.Event.{Outcome, outcome, select, exchangeByte, deselect, closes, tick, setWp, cutPower, applied, sortOf}
 use Rattle.event.specs.Alone.{bodyUsed, refusal, refused, done, happens, answerOf, memoryOf}
 
 -- ---- a deselect
@@ -40,7 +40,7 @@ deselect-selected T c m loose h = cond-yes (c .frame .selected) _ _ h
 
 -- ---- one event, by its kind
 
--- what holds of each kind's outcome holds of the event's; the last is for 8, the one known kind that is left
+-- what holds of each kind's outcome holds of the event's; the last is for LOOSE, the one known kind that is left
 pub applied-each : (T : Setting) (c : Chip) (m : List ℕ) (kind body : ℕ) (P : Outcome → Type 0)
     → (kind ≡ SELECT → P (select c m))
     → (kind ≡ EXCHANGE → P (exchangeByte T c m (body % 256)))
@@ -118,18 +118,11 @@ used-small kind body h =
     (λ some. ⊎-elim (λ none. absurd (eqb-false _ _ some none)) (λ small. small) (range-small kind body h))
 
 -- what an event does, from the number of sectors and the body that are used for it
-pub happens-as : (c : Chip) (m : List ℕ) (kind body S used : ℕ) → S ≡ sectors (length m) → used ≡ bodyUsed kind body → applied (setting S) c m kind used ≡ happens c m kind body
+pub happens-as : (c : Chip) (m : List ℕ) (kind body S used : ℕ) → S ≡ sectorsIn (length m) → used ≡ bodyUsed kind body → applied (setting S) c m kind used ≡ happens c m kind body
 unfolding happens
 happens-as c m kind body S used e u = rw (e, u)
 
 -- ---- what an event says
-
--- the sort of a record, as the table of kinds has it
-abbrev pub sortOf : Record → Says
-sortOf Nothing = Says.silent
-sortOf Floating = Says.line
-sortOf (Driven b) = Says.line
-sortOf (Verdict v) = Says.verdict
 
 exchange-sort : (T : Setting) (k : Core) (f : Frame) (load m : List ℕ) (b : ℕ) → sortOf (exchanged T k f load m b .said) ≡ Says.line
 exchange-sort T k f load m b =

@@ -7,7 +7,7 @@ use native.Mathlib.Omega.{arith}
 use lib.Dec.{eqb}
 use lib.ListN.{length}
 use Rattle.cells.specs.Choice.{cond-either}
-use Rattle.part.specs.Part.{sectors, Setting}
+use Rattle.part.specs.Part.{sectorsIn, Setting}
 use Rattle.part.specs.Laws.{permitted-some}
 use Rattle.chip.specs.declared.Chip.{Chip}
 use Rattle.chip.specs.declared.Frame.{Frame}
@@ -97,16 +97,16 @@ module _ (T : Setting) (c : Chip) (m : List ℕ) (some : 1 ≤ T .sectors) (l : 
       (λ _. deselect-legal true)
 
 -- A legal state stays legal under every event, on a part of the memory's length.
-pub legal-applied : (T : Setting) (c : Chip) (m : List ℕ) (kind body : ℕ) → T .sectors ≡ sectors (length m) → legal c (length m) ≡ true → legal (applied T c m kind body .chip) (length m) ≡ true
+pub legal-applied : (T : Setting) (c : Chip) (m : List ℕ) (kind body : ℕ) → T .sectors ≡ sectorsIn (length m) → legal c (length m) ≡ true → legal (applied T c m kind body .chip) (length m) ≡ true
 legal-applied T c m kind body same h = chip-legal _ _ (whole (event-legal T c m (subst (λ (S : ℕ). 1 ≤ S) (sym same) (permitted-some _ (l .length-permitted))) (on (sym same) l) kind body))
   where
     l : LegalChip c (length m)
     l = chip-facts _ _ h
 
-    on : {S : ℕ} {c : Chip} → sectors (length m) ≡ S → LegalChip c (length m) → LegalOn S c
+    on : {S : ℕ} {c : Chip} → sectorsIn (length m) ≡ S → LegalChip c (length m) → LegalOn S c
     on {S} {c} e l = subst (λ (q : ℕ). LegalOn q c) e (record { core-part = l .core-part; frame-part = l .frame-part; tidy-part = l .tidy-part })
 
     whole : {c : Chip} → LegalOn (T .sectors) c → LegalChip c (length m)
     whole {c} l′ =
-        let there : LegalOn (sectors (length m)) c = subst (λ (q : ℕ). LegalOn q c) same l′ in
+        let there : LegalOn (sectorsIn (length m)) c = subst (λ (q : ℕ). LegalOn q c) same l′ in
         record { length-permitted = l .length-permitted; core-part = there .core-part; frame-part = there .frame-part; tidy-part = there .tidy-part }

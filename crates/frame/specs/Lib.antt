@@ -2,3 +2,4 @@ pub mod Frame
 pub mod Laws
 pub mod Legality
 pub mod Stream
+pub mod StreamLaws

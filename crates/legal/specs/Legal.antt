@@ -3,7 +3,7 @@ use Prim.Native.Nat.{ℕ, _+_, _%_, _^_}
 use mathlib.Core.Bool.{Bool, true, cond, not, _&&_, _||_}
 use mathlib.Core.List.{List, [], _∷_}
 use lib.Dec.{eqb, ltb, leb}
-use Rattle.part.specs.Part.{permitted, sectors, lengthOf, page, smallSector, sector, jedecCycle}
+use Rattle.part.specs.Part.{permitted, sectorsIn, lengthOf, page, smallSector, sector, jedecCycle}
 use Rattle.commands.specs.Table.{jedecId}
 use Rattle.chip.specs.declared.Chip.{Chip}
 use Rattle.chip.specs.declared.Core.{Core}
@@ -86,4 +86,4 @@ tidy f load = begun f || isEmpty f && isBlank load
 
 -- whether a state is legal for a memory of n cells; for a length that no part has, none is
 unfoldable pub legal : Chip → ℕ → Bool
-legal c n = permitted n && legalCore (sectors n) (c .core) && legalFrame (sectors n) (c .frame) && tidy (c .frame) (c .load)
+legal c n = permitted n && legalCore (sectorsIn n) (c .core) && legalFrame (sectorsIn n) (c .frame) && tidy (c .frame) (c .load)

@@ -7,7 +7,7 @@ use native.Mathlib.Omega.{arith}
 use lib.Dec.{eqb, ltb, leb}
 use borrow.Author.Tests.{lt-ltb, le-leb, ltb-true, leb-true, eq-eqb, not-true}
 use Rattle.cells.specs.Choice.{and-left, and-right, and-both, and-true, and-four, four-and, means-holds, means-shown}
-use Rattle.part.specs.Part.{permitted, sectors}
+use Rattle.part.specs.Part.{permitted, sectorsIn}
 use Rattle.chip.specs.declared.Chip.{Chip}
 use Rattle.chip.specs.declared.Core.{Core}
 use Rattle.chip.specs.declared.Frame.{Frame}
@@ -96,20 +96,20 @@ frame-legal S f l =
 
 pub record LegalChip (c : Chip) (n : ℕ) : Type 0 where
   pub length-permitted : permitted n ≡ true
-  pub core-part : LegalCore (sectors n) (c .core)
-  pub frame-part : LegalFrame (sectors n) (c .frame)
+  pub core-part : LegalCore (sectorsIn n) (c .core)
+  pub frame-part : LegalFrame (sectorsIn n) (c .frame)
   pub tidy-part : tidy (c .frame) (c .load) ≡ true
 
 pub chip-facts : (c : Chip) (n : ℕ) → legal c n ≡ true → LegalChip c n
 unfolding legal
 chip-facts c n h =
-    let four = and-four (permitted n) (legalCore (sectors n) (c .core)) (legalFrame (sectors n) (c .frame)) (tidy (c .frame) (c .load)) h in
+    let four = and-four (permitted n) (legalCore (sectorsIn n) (c .core)) (legalFrame (sectorsIn n) (c .frame)) (tidy (c .frame) (c .load)) h in
     record { length-permitted = four .0; core-part = core-facts _ _ (four .1); frame-part = frame-facts _ _ (four .2); tidy-part = four .3 }
 
 pub chip-legal : (c : Chip) (n : ℕ) → LegalChip c n → legal c n ≡ true
 unfolding legal
 chip-legal c n l =
-    four-and (permitted n) (legalCore (sectors n) (c .core)) (legalFrame (sectors n) (c .frame)) (tidy (c .frame) (c .load))
+    four-and (permitted n) (legalCore (sectorsIn n) (c .core)) (legalFrame (sectorsIn n) (c .frame)) (tidy (c .frame) (c .load))
     (l .length-permitted) (core-legal _ _ (l .core-part)) (frame-legal _ _ (l .frame-part)) (l .tidy-part)
 
 -- ---- the empty frame
@@ -134,11 +134,11 @@ unbegun-empty f load h e = and-left (isEmpty f) (isBlank load) (go (f .selected)
 
 module _ (c : Chip) (n : ℕ) (part : permitted n ≡ true) where
   abbrev sound : Bool
-  sound = legalCore (sectors n) (c .core) && legalFrame (sectors n) (c .frame)
+  sound = legalCore (sectorsIn n) (c .core) && legalFrame (sectorsIn n) (c .frame)
 
   pub legal-begun : begun (c .frame) ≡ true → legal c n ≡ sound
   unfolding legal
-  legal-begun h = rw (part, h) (and-true (legalCore (sectors n) (c .core) && legalFrame (sectors n) (c .frame)))
+  legal-begun h = rw (part, h) (and-true (legalCore (sectorsIn n) (c .core) && legalFrame (sectorsIn n) (c .frame)))
 
   pub legal-empty : begun (c .frame) ≡ false → legal c n ≡ (sound && (isEmpty (c .frame) && isBlank (c .load)))
   unfolding legal

@@ -1,7 +1,8 @@
 -- Unique answers: any two answers, chips at exit and memories at exit that a contract of this crate allows are equal.
 use Prim.Native.Nat.{ℕ}
 use mathlib.Core.List.{List}
-use mathlib.Core.Path.{_≡_, sym, _∙_}
+use mathlib.Core.Path.{_≡_}
+use Rattle.cells.specs.Choice.{same}
 use Rattle.chip.specs.declared.Chip.{Chip}
 use Rattle.event.specs.declared.Answer.{Answer}
 use Rattle.event.specs.Alone.{answerOf, memoryOf}
@@ -11,11 +12,11 @@ pub event-on-unique : (c : Chip) (m : List ℕ) (kind body : ℕ) (r r′ : Answ
     → (r ≡ answerOf c m kind body) × (d ≡ answerOf c m kind body .chip) × (z ≡ memoryOf c m kind body)
     → (r′ ≡ answerOf c m kind body) × (d′ ≡ answerOf c m kind body .chip) × (z′ ≡ memoryOf c m kind body)
     → (r ≡ r′) × (d ≡ d′) × (z ≡ z′)
-event-on-unique c m kind body r r′ d d′ z z′ h h′ = (h .0 ∙ sym (h′ .0), h .1 ∙ sym (h′ .1), h .2 ∙ sym (h′ .2))
+event-on-unique c m kind body r r′ d d′ z z′ h h′ = (same (h .0) (h′ .0), same (h .1) (h′ .1), same (h .2) (h′ .2))
 
 -- `event_by_lending`: r the answer, z the memory at exit
 pub event-by-lending-unique : (c : Chip) (m : List ℕ) (kind body : ℕ) (r r′ : Answer) (z z′ : List ℕ)
     → (r ≡ answerOf c m kind body) × (z ≡ memoryOf c m kind body)
     → (r′ ≡ answerOf c m kind body) × (z′ ≡ memoryOf c m kind body)
     → (r ≡ r′) × (z ≡ z′)
-event-by-lending-unique c m kind body r r′ z z′ h h′ = (h .0 ∙ sym (h′ .0), h .1 ∙ sym (h′ .1))
+event-by-lending-unique c m kind body r r′ z z′ h h′ = (same (h .0) (h′ .0), same (h .1) (h′ .1))

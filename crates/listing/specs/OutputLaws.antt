@@ -14,7 +14,8 @@ use Rattle.kinds.specs.Body.{nextAt}
 use Rattle.chip.specs.declared.Record.{Record}
 use Rattle.chip.specs.declared.Record.the-variants.{Nothing, Floating, Driven, Verdict}
 use Rattle.chip.specs.Record.{recordBytes}
-use Rattle.event.specs.Laws.{sortOf, says-its-kind}
+use Rattle.event.specs.Event.{sortOf}
+use Rattle.event.specs.Laws.{says-its-kind}
 use Rattle.script.specs.Script.{Event, faultAt, eventsFrom, Refusal, firstBad}
 use Rattle.script.specs.Run.{World, does, onward, runs}
 use Rattle.script.specs.Laws.{events-none, events-more, firstBad-later, no-fault, good-event}

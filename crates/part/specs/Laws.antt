@@ -6,7 +6,7 @@ use native.Mathlib.Omega.{arith}
 use lib.Dec.{eqb, ltb}
 use borrow.Author.Tests.{eqb-true}
 use Rattle.cells.specs.Choice.{cond-yes, cond-no, cond-either}
-use Rattle.part.specs.Part.{permitted, sectors, lengthOf}
+use Rattle.part.specs.Part.{permitted, sectorsIn, lengthOf}
 use Rattle.part.specs.Protection.{protectedCount}
 
 -- ---- protection
@@ -33,31 +33,28 @@ permitted-each P p₁ p₂ p₄ p₈ p₁₆ p₃₂ n h =
     or false b p q e = q e
 
 -- a permitted length is a whole number of sectors, 1 to 32
-pub permitted-whole : (n : ℕ) → permitted n ≡ true → lengthOf (sectors n) ≡ n
-permitted-whole = permitted-each (λ n. lengthOf (sectors n) ≡ n) refl refl refl refl refl refl
+pub permitted-whole : (n : ℕ) → permitted n ≡ true → lengthOf (sectorsIn n) ≡ n
+permitted-whole = permitted-each (λ n. lengthOf (sectorsIn n) ≡ n) refl refl refl refl refl refl
 
-pub permitted-some : (n : ℕ) → permitted n ≡ true → 1 ≤ sectors n
-permitted-some = permitted-each (λ n. 1 ≤ sectors n) (omega arith) (omega arith) (omega arith) (omega arith) (omega arith) (omega arith)
-
-pub permitted-few : (n : ℕ) → permitted n ≡ true → sectors n ≤ 32
-permitted-few = permitted-each (λ n. sectors n ≤ 32) (omega arith) (omega arith) (omega arith) (omega arith) (omega arith) (omega arith)
+pub permitted-some : (n : ℕ) → permitted n ≡ true → 1 ≤ sectorsIn n
+permitted-some = permitted-each (λ n. 1 ≤ sectorsIn n) (omega arith) (omega arith) (omega arith) (omega arith) (omega arith) (omega arith)
 
 -- a number of sectors, 0 for a length that no part has, tells which lengths are permitted
-pub no-sectors : (n s : ℕ) → s ≡ cond (permitted n) (sectors n) 0 → s ≡ 0 → permitted n ≡ false
+pub no-sectors : (n s : ℕ) → s ≡ cond (permitted n) (sectorsIn n) 0 → s ≡ 0 → permitted n ≡ false
 no-sectors n s e z = go (permitted n) refl
   where
     go : (b : Bool) → permitted n ≡ b → b ≡ false
     go true p =
-        let q : s ≡ sectors n = e ∙ cond-yes (permitted n) (sectors n) 0 p in
+        let q : s ≡ sectorsIn n = e ∙ cond-yes (permitted n) (sectorsIn n) 0 p in
         absurd (omega (arith, permitted-some n p))
     go false p = refl
 
-pub some-sectors : (n s : ℕ) → s ≡ cond (permitted n) (sectors n) 0 → (s ≡ 0 → ⊥) → permitted n ≡ true
+pub some-sectors : (n s : ℕ) → s ≡ cond (permitted n) (sectorsIn n) 0 → (s ≡ 0 → ⊥) → permitted n ≡ true
 some-sectors n s e z = go (permitted n) refl
   where
     go : (b : Bool) → permitted n ≡ b → b ≡ true
     go true p = refl
-    go false p = absurd (z (e ∙ cond-no (permitted n) (sectors n) 0 p))
+    go false p = absurd (z (e ∙ cond-no (permitted n) (sectorsIn n) 0 p))
 
-pub sectors-are : (n s : ℕ) → s ≡ cond (permitted n) (sectors n) 0 → (s ≡ 0 → ⊥) → s ≡ sectors n
-sectors-are n s e z = e ∙ cond-yes (permitted n) (sectors n) 0 (some-sectors n s e z)
+pub sectors-are : (n s : ℕ) → s ≡ cond (permitted n) (sectorsIn n) 0 → (s ≡ 0 → ⊥) → s ≡ sectorsIn n
+sectors-are n s e z = e ∙ cond-yes (permitted n) (sectorsIn n) 0 (some-sectors n s e z)

@@ -16,8 +16,8 @@ abbrev pub sector : ℕ
 sector = 65536
 
 -- S, the number of sectors of a memory of n cells
-abbrev pub sectors : ℕ → ℕ
-sectors n = n / sector
+abbrev pub sectorsIn : ℕ → ℕ
+sectorsIn n = n / sector
 
 -- and the number of cells of a part of S sectors
 abbrev pub lengthOf : ℕ → ℕ
@@ -37,7 +37,7 @@ setting S = record { sectors = S }
 
 -- the setting that goes with a memory of n cells
 abbrev pub settingOf : ℕ → Setting
-settingOf n = setting (sectors n)
+settingOf n = setting (sectorsIn n)
 
 -- the cell that an address means on a part of S sectors: the rest of a division by the length (RULES, The array)
 abbrev pub reduced : ℕ → ℕ → ℕ

@@ -2,7 +2,7 @@
 ghost use mathlib.Core.Path.{_≡_};
 ghost use mathlib.Core.Bool.{cond};
 ghost use Prim.Native.Nat.{_≤_, min};
-ghost use Rattle.part.specs.Part.{permitted, reduced, sectors, lengthOf, jedecByte};
+ghost use Rattle.part.specs.Part.{permitted, reduced, sectorsIn, lengthOf, jedecByte};
 ghost use Rattle.part.specs.Protection.{protectedCount, protectedSector};
 
 // The part's own numbers are constants of this type; it holds nothing.
@@ -25,7 +25,7 @@ impl Part {
 
 // The number of sectors of a memory of n cells, or 0 where no part has that length.
 pub fn sectors_of(n: usize) -> u8
-    ensures { λ r. ⌜ r ≡ cond (permitted n) (sectors n) 0 ⌝ }
+    ensures { λ r. ⌜ r ≡ cond (permitted n) (sectorsIn n) 0 ⌝ }
 {
     match n {
         65536 => 1,

@@ -11,7 +11,7 @@ use lib.Seq.{take-suc-set, drop-set-lt}
 use native.Mathlib.Numerals.{add-one}
 use borrow.Author.Tests.{eq-eqb, ne-eqb, eqb-true, eqb-false, lt-ltb, le-ltb, lt-leb, le-leb, ltb-false}
 use Rattle.cells.specs.Choice.{cond-yes, cond-no, chosen-number}
-use Rattle.part.specs.Part.{permitted, sectors, Setting, setting}
+use Rattle.part.specs.Part.{permitted, sectorsIn, Setting, setting}
 use Rattle.kinds.specs.Kinds.{EXCHANGE, kindRowIn, kindRow, knownIn, knownKind, bodyLength, inRange, roomOf}
 use Rattle.kinds.specs.Body.{bodyAt, nextAt}
 use Rattle.kinds.specs.Laws.{body-one, exchange-range}
@@ -274,6 +274,6 @@ module _ (c : Chip) (m s out : List ℕ) where
     output-done = cond-yes _ _ _ (eq-eqb _ _ ok)
 
 -- what playing comes to is the world after the run
-pub worldAfter-as : (c : Chip) (m s : List ℕ) (S : ℕ) → S ≡ sectors (length m) → runs (setting S) (events s) (world c m [] 0) ≡ worldAfter c m s
+pub worldAfter-as : (c : Chip) (m s : List ℕ) (S : ℕ) → S ≡ sectorsIn (length m) → runs (setting S) (events s) (world c m [] 0) ≡ worldAfter c m s
 unfolding worldAfter
 worldAfter-as c m s S e = rw e

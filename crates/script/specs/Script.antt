@@ -21,6 +21,7 @@ faultAt s at =
     (cond (ltb (length s) (nextAt s at)) 4
     (cond (not (inRange (getD s at 0) (bodyAt s at))) 6 0))
 
+-- the event at an offset, with what is wrong with it
 abbrev pub eventAt : List ℕ → ℕ → Event
 eventAt s at = record { offset = at; kind = getD s at 0; body = bodyAt s at; fault = faultAt s at }
 
@@ -33,6 +34,7 @@ walk (suc fuel) s at = cond (leb (length s) at) [] (eventAt s at ∷ walk fuel s
 unfoldable pub eventsFrom : List ℕ → ℕ → List Event
 eventsFrom s at = walk (length s) s at
 
+-- all of them
 abbrev pub events : List ℕ → List Event
 events s = eventsFrom s 0
 

@@ -3,7 +3,7 @@ use mathlib.Core.Path.{_≡_, sym, _∙_, ap}
 use native.Mathlib.Omega.{arith}
 use lib.ListN.{length}
 use Rattle.cells.specs.Choice.{cond-yes}
-use Rattle.part.specs.Part.{sectors}
+use Rattle.part.specs.Part.{sectorsIn}
 use Rattle.event.specs.Event.{Outcome}
 use Rattle.event.specs.Alone.{refusal, refused, done}
 use Rattle.event.specs.Laws.{answer-refused, memory-refused, answer-done, memory-done, accepted, used-small, happens-as}
@@ -39,7 +39,7 @@ same-length c = search needs
 returns-2 : tie.Need-returns-2
 returns-2 c =
     let z : refusal (c .before .before .before .before .before .before .before .before .before .args .chip) (length (c .before .before .before .before .before .before .before .before .before .args .mem .now)) (c .before .before .before .before .before .before .before .before .before .args .kind) (c .before .before .before .before .before .before .before .before .before .args .body) ≡ 0 = sym (c .before .before .before .before .before .before .before .refuses .ensures) ∙ c .before .before .before .before .before .before .if1 .left in
-    let s : c .before .before .before .sectors-of .result ≡ sectors (length (c .before .before .before .before .before .before .before .before .before .args .mem .now)) = c .before .before .before .sectors-of .ensures ∙ cond-yes _ _ _ (accepted _ _ _ _ z .length-permitted) in (
+    let s : c .before .before .before .sectors-of .result ≡ sectorsIn (length (c .before .before .before .before .before .before .before .before .before .args .mem .now)) = c .before .before .before .sectors-of .ensures ∙ cond-yes _ _ _ (accepted _ _ _ _ z .length-permitted) in (
       c .before .before .carry-out .ensures .0 ∙ ap done (happens-as _ _ _ _ _ _ s (c .before .before .before .before .before .body-used .ensures)) ∙ sym (answer-done _ _ _ _ z),
       c .before .before .carry-out .ensures .1 ∙ ap (λ (o : Outcome). o .memory) (happens-as _ _ _ _ _ _ s (c .before .before .before .before .before .body-used .ensures)) ∙ sym (memory-done _ _ _ _ z),
     )

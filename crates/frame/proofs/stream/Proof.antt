@@ -1,6 +1,6 @@
 -- `frame::stream` meets its contract. A cell is driven, or the byte goes into the load: each by its law.
 use mathlib.Core.Path.{sym, _∙_}
-use Rattle.frame.specs.Stream.{streamed-cell, streamed-load}
+use Rattle.frame.specs.StreamLaws.{streamed-cell, streamed-load}
 use borrow.Author.Needs.{needs}
 use Rattle.frame.proofs.stream.Statement.{statement}
 use Rattle.frame.proofs.stream.Tie as tie

@@ -2,7 +2,8 @@
 use mathlib.Core.Bool.{false}
 use mathlib.Core.Path.{_≡_, sym, _∙_}
 use Rattle.frame.specs.Laws.{taken-status, taken-jedec, taken-device, taken-address}
-use Rattle.frame.specs.Stream.{isData, taken-stream, no-cell, no-load}
+use Rattle.frame.specs.Stream.{isData}
+use Rattle.frame.specs.StreamLaws.{taken-stream, no-cell, no-load}
 use borrow.Author.Needs.{needs}
 use Rattle.frame.proofs.take.Statement.{statement}
 use Rattle.frame.proofs.take.Tie as tie

@@ -7,7 +7,7 @@ use Rattle.part.specs.Part.{setting}
 use Rattle.kinds.specs.Body.{nextAt}
 use Rattle.kinds.specs.Laws.{step-inside}
 use Rattle.chip.specs.Chip.{whole}
-use Rattle.frame.specs.Stream.{exchanged-stream}
+use Rattle.frame.specs.StreamLaws.{exchanged-stream}
 use Rattle.event.specs.Event.{applied}
 use Rattle.script.proofs.Playing.{Playing, starts, finds-room, exchange-inside, turns, exchange-finds-room, exchange-turns, ends}
 use borrow.Author.Needs.{needs}

@@ -3,7 +3,7 @@ use mathlib.Core.Path.{_≡_, sym, _∙_, ap}
 use mathlib.Core.List.{_++_}
 use lib.ListN.{length, drop}
 use Rattle.cells.specs.Choice.{cond-yes}
-use Rattle.part.specs.Part.{sectors}
+use Rattle.part.specs.Part.{sectorsIn}
 use Rattle.script.specs.Script.{Refusal}
 use Rattle.script.specs.Run.{World, refusal, refused, done}
 use Rattle.script.specs.Laws.{accepted, answer-refused, memory-refused, output-refused, answer-done, memory-done, output-done, worldAfter-as}
@@ -42,7 +42,7 @@ returns-2 : tie.Need-returns-2
 returns-2 c =
     let ok : refusal (c .before .before .before .before .before .before .before .before .before .before .before .before .before .before .args .chip) (length (c .before .before .before .before .before .before .before .before .before .before .before .before .before .before .args .mem .now)) (c .before .before .before .before .before .before .before .before .before .before .before .before .before .before .args .script .now) (length (c .before .before .before .before .before .before .before .before .before .before .before .before .before .before .args .out .now)) .number ≡ 0 =
     sym (ap (λ (r : Refusal). r .number) (c .before .before .before .before .before .before .before .before .before .before .refuses .ensures)) ∙ c .before .before .before .before .before .before .before .before .if1 .left in
-    let s : c .before .before .before .before .before .sectors-of .result ≡ sectors (length (c .before .before .before .before .before .before .before .before .before .before .before .before .before .before .args .mem .now)) = c .before .before .before .before .before .sectors-of .ensures ∙ cond-yes _ _ _ (accepted _ _ _ _ ok .length-permitted) in (
+    let s : c .before .before .before .before .before .sectors-of .result ≡ sectorsIn (length (c .before .before .before .before .before .before .before .before .before .before .before .before .before .before .args .mem .now)) = c .before .before .before .before .before .sectors-of .ensures ∙ cond-yes _ _ _ (accepted _ _ _ _ ok .length-permitted) in (
       c .before .before .before .before .play .ensures .answer ∙ ap done (worldAfter-as _ _ _ _ s) ∙ sym (answer-done _ _ _ _ ok),
       c .before .before .before .before .play .ensures .memory ∙ ap (λ (w : World). w .memory) (worldAfter-as _ _ _ _ s) ∙ sym (memory-done _ _ _ _ ok),
       c .before .before .before .before .play .ensures .output ∙ ap (λ (w : World). w .written ++ drop (length (w .written)) (c .before .before .before .before .before .before .before .before .before .before .before .before .before .before .args .out .now)) (worldAfter-as _ _ _ _ s) ∙ sym (output-done _ _ _ _ ok),

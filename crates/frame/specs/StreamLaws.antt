@@ -1,0 +1,72 @@
+-- What is true of a data byte: each way it goes, and that it is what the exchange does.
+use Prim.Native.Nat.{ℕ}
+use mathlib.Core.Bool.{Bool, true, false, cond, _&&_, _||_, false≢true}
+use mathlib.Core.List.{List}
+use mathlib.Core.Path.{_≡_, refl, sym, subst, _∙_}
+use lib.Dec.{eqb, leb}
+use lib.ListN.{getD, set}
+use borrow.Author.Tests.{eqb-true}
+use Rattle.cells.specs.Choice.{cond-yes, cond-no, and-left, and-right}
+use Rattle.part.specs.Part.{Setting, lengthOf}
+use Rattle.commands.specs.Table.{isProgram, lowPowerRead, highSpeedRead}
+use Rattle.chip.specs.declared.Core.{Core}
+use Rattle.chip.specs.declared.Frame.{Frame}
+use Rattle.chip.specs.declared.Record.the-variants.{Floating, Driven}
+use Rattle.frame.specs.Frame.{Exchange, exchange, reading, loading, readsCell, takesData, taken, exchanged}
+use Rattle.frame.specs.Laws.{exchanged-taken}
+use Rattle.frame.specs.Stream.{isData, streams, streamed}
+
+module _ (T : Setting) (f : Frame) (load m : List ℕ) (b : ℕ) where
+  pub streamed-cell : readsCell f ≡ true → streamed T f load m b ≡ exchange (Driven (getD m (f .place) 0)) (reading (lengthOf (T .sectors)) f) load
+  unfolding streamed
+  streamed-cell h = cond-yes _ _ _ h
+
+  pub streamed-load : readsCell f ≡ false → streamed T f load m b ≡ exchange Floating (loading f) (set load (f .slot) b)
+  unfolding streamed
+  streamed-load h = cond-no _ _ _ h
+
+-- a byte that is no data byte is of neither kind
+neither : (a b : Bool) → (a || b) ≡ false → (a ≡ false) × (b ≡ false)
+neither true b h = absurd (false≢true (sym h))
+neither false b h = (refl, h)
+
+pub no-cell : (f : Frame) → isData f ≡ false → readsCell f ≡ false
+no-cell f h = neither (readsCell f) (takesData f) h .0
+
+pub no-load : (f : Frame) → isData f ≡ false → takesData f ≡ false
+no-load f h = neither (readsCell f) (takesData f) h .1
+
+-- ---- it is what the exchange does
+
+module _ (T : Setting) (k : Core) (f : Frame) (load m : List ℕ) (b : ℕ) where
+  pub taken-stream : isData f ≡ true → taken T k f load m b ≡ streamed T f load m b
+  unfolding taken streamed
+  taken-stream h = go (readsCell f) (takesData f) _ _ _ h
+    where
+      go : (cell load : Bool) (x y z : Exchange) → (cell || load) ≡ true → cond cell x (cond load y z) ≡ cond cell x y
+      go true load x y z e = refl
+      go false true x y z e = refl
+      go false false x y z e = absurd (false≢true e)
+
+  -- data comes after the address
+  begun : isData f ≡ true → f .count ≡ 0 → ⊥
+  begun h z =
+      go (eqb (f .opcode) lowPowerRead) (eqb (f .opcode) highSpeedRead) (isProgram (f .opcode))
+      (subst (λ (n : ℕ). (eqb (f .opcode) lowPowerRead && leb 4 n || eqb (f .opcode) highSpeedRead && leb 5 n || isProgram (f .opcode) && leb 4 n) ≡ true) z h)
+    where
+      go : (low high program : Bool) → (low && false || high && false || program && false) ≡ true → ⊥
+      go true true true e = false≢true e
+      go true true false e = false≢true e
+      go true false true e = false≢true e
+      go true false false e = false≢true e
+      go false true true e = false≢true e
+      go false true false e = false≢true e
+      go false false true e = false≢true e
+      go false false false e = false≢true e
+
+  pub exchanged-stream : streams f ≡ true → exchanged T k f load m b ≡ streamed T f load m b
+  exchanged-stream h =
+      let is : isData f ≡ true = and-right (f .selected && eqb (f .judgement) 0) (isData f) h in
+      let ready : (f .selected && eqb (f .judgement) 0) ≡ true = and-left (f .selected && eqb (f .judgement) 0) (isData f) h in
+      exchanged-taken T k f load m b (and-left (f .selected) (eqb (f .judgement) 0) ready) (begun is) (eqb-true _ _ (and-right (f .selected) (eqb (f .judgement) 0) ready))
+      ∙ taken-stream is
