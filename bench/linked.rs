@@ -25,27 +25,16 @@ struct RunNumbers {
     ticks: u64,
 }
 
+/// A function that applies one event: its answer, the chip, the memory with its length, the event's
+/// kind and its body.
 type EventFunction = unsafe extern "C" fn(*mut EventNumbers, *mut Image, *mut u8, usize, u64, u64);
 
 extern "C" {
     fn chip_fresh(answer: *mut Image, status: u8);
     fn chip_legal(chip: *mut Image, length: usize) -> bool;
-    fn chip_event(
-        answer: *mut EventNumbers,
-        chip: *mut Image,
-        memory: *mut u8,
-        length: usize,
-        kind: u64,
-        body: u64,
-    );
-    fn chip_event_lent(
-        answer: *mut EventNumbers,
-        chip: *mut Image,
-        memory: *mut u8,
-        length: usize,
-        kind: u64,
-        body: u64,
-    );
+    // Both are an `EventFunction`.
+    fn chip_event(_: *mut EventNumbers, _: *mut Image, _: *mut u8, _: usize, _: u64, _: u64);
+    fn chip_event_lent(_: *mut EventNumbers, _: *mut Image, _: *mut u8, _: usize, _: u64, _: u64);
     fn chip_run(
         answer: *mut RunNumbers,
         chip: *mut Image,
@@ -138,9 +127,5 @@ impl Side for Linked {
 
     fn output(&mut self) -> &mut [u8] {
         &mut self.output
-    }
-
-    fn has_lent(&self) -> bool {
-        true
     }
 }

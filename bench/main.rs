@@ -36,7 +36,7 @@ mod timing;
 
 use bench::Bench;
 use case::{Case, Content, Start, Step};
-use event::{script_of, Event, LONGEST};
+use event::{frame_of, kind, script_of, Event, LONGEST};
 use generate::Writer;
 use model::Chip;
 use rng::Rng;
@@ -49,15 +49,9 @@ const SINGLE: usize = 20_000;
 /// Events of the cases of idle ticks.
 const IDLE: usize = 20_000;
 
-/// The events of a frame.
-fn frame(bytes: impl IntoIterator<Item = u8>) -> Vec<Event> {
-    let sent = bytes.into_iter().map(|byte| (2, u64::from(byte)));
-    [(1, 0)].into_iter().chain(sent).chain([(3, 0)]).collect()
-}
-
 /// The events of a job: write enable, its frame, and its ticks.
 fn job(bytes: Vec<u8>, ticks: u64) -> Vec<Event> {
-    [frame([0x06]), frame(bytes), vec![(5, ticks)]].concat()
+    [frame_of([0x06]), frame_of(bytes), vec![(kind::TICKS, ticks)]].concat()
 }
 
 /// The events of as many page programs of so many bytes as a script has room for.
@@ -88,7 +82,7 @@ fn mixed(length: usize) -> Vec<Event> {
         events.pop();
     }
     let short = LONGEST - script_of(&events).len();
-    events.extend(std::iter::repeat_n((4, 0), short));
+    events.extend(std::iter::repeat_n((kind::TICK, 0), short));
     events
 }
 
@@ -119,9 +113,10 @@ fn row(words: &'static str, sectors: usize, steps: Vec<Step>, target: Option<f64
 /// All cases.
 fn rows() -> Vec<Row> {
     let data = std::iter::repeat_n(0, 30_000);
-    let low_power = frame([0x03, 0, 0, 0].into_iter().chain(data.clone()));
-    let high_speed = frame([0x0B, 0, 0, 0, 0].into_iter().chain(data));
+    let low_power = frame_of([0x03, 0, 0, 0].into_iter().chain(data.clone()));
+    let high_speed = frame_of([0x0B, 0, 0, 0, 0].into_iter().chain(data));
     let mix = mixed(Chip::SECTOR);
+    let (many_idle, one_idle) = (vec![(kind::TICKS, 65_535); IDLE], vec![(kind::TICKS, 1); IDLE]);
     vec![
         run("a  read of 30,000 bytes, 03h", 32, &low_power, Some(1.5)),
         run("a  read of 30,000 bytes, 0Bh", 32, &high_speed, Some(1.5)),
@@ -130,8 +125,8 @@ fn rows() -> Vec<Row> {
         run("c  mixed script of 65,536 bytes", 1, &mix, Some(2.0)),
         erase("d  erase of a sector", vec![0xD8, 0, 0, 0], Chip::SECTOR),
         erase("d  erase of the 2 MiB part", vec![0x60], 32 * Chip::SECTOR),
-        run("e  20,000 times 65,535 idle ticks", 1, &vec![(5, 65_535); IDLE], None),
-        run("e  20,000 times 1 idle tick", 1, &vec![(5, 1); IDLE], None),
+        run("e  20,000 times 65,535 idle ticks", 1, &many_idle, None),
+        run("e  20,000 times 1 idle tick", 1, &one_idle, None),
         single("f  single events", &mix[..SINGLE], false),
         single("f  single events, lent chip", &mix[..SINGLE], true),
     ]

@@ -54,11 +54,6 @@ impl<'a> Bench<'a> {
         Bench { expected, length, memory, output, scratch, differs: true, other }
     }
 
-    /// Whether the other side has the event through a lent chip record.
-    pub fn has_lent(&self) -> bool {
-        self.other.has_lent()
-    }
-
     /// Makes both memory areas the same again, if they may differ.
     fn wipe(&mut self) {
         if self.differs {

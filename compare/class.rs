@@ -16,6 +16,10 @@ pub enum Class {
 /// The jobs that can be suspended.
 pub const LONG_JOBS: [Class; 4] = [Class::Program, Class::SmallSector, Class::Sector, Class::Chip];
 
+/// All jobs, those that can be suspended first.
+pub const ALL_JOBS: [Class; 5] =
+    [Class::Program, Class::SmallSector, Class::Sector, Class::Chip, Class::WriteStatus];
+
 impl Class {
     /// The class of a job.
     pub fn of(job: &Job) -> Class {

@@ -3,7 +3,7 @@
 use crate::case::{Start, Step, LENGTHS};
 use crate::class::Class;
 use crate::commands::{COMMANDS, EMPTY, UNKNOWN, UNSELECTED};
-use crate::event::{events_of, Event, LONGEST};
+use crate::event::{events_of, kind, Event, LONGEST};
 use crate::expected::{Expected, NOTHING};
 use crate::image::{Edit, FLAGS};
 use crate::model::{Chip, Record};
@@ -107,7 +107,6 @@ pub struct Coverage {
     over_top: [[u64; 2]; 6],
     rules: [u64; RULES.len()],
     flags: [[u64; 3]; FLAGS.len()],
-    has_lent: bool,
     /// The flag of the case that is a byte above 1.
     bad_flag: Option<usize>,
     frame_lent: bool,
@@ -118,7 +117,7 @@ pub struct Coverage {
 
 impl Coverage {
     /// Nothing yet.
-    pub fn new(has_lent: bool) -> Coverage {
+    pub fn new() -> Coverage {
         Coverage {
             verdicts: [[0; 13]; 23],
             refusals: [[0; 8]; 3],
@@ -127,7 +126,6 @@ impl Coverage {
             over_top: [[0; 2]; 6],
             rules: [0; RULES.len()],
             flags: [[0; 3]; FLAGS.len()],
-            has_lent,
             bad_flag: None,
             frame_lent: false,
             frame_bytes: 0,
@@ -215,11 +213,13 @@ impl Coverage {
             let (before, after) = (&before.chip, &after.chip);
             self.note_job(before, *event, answer.record, after, length);
             match event.0 {
-                1 => self.saw("select while selected", before.selected),
-                2 => self.note_exchange(before, answer.record, length),
-                3 | 8 => self.note_deselect(before, answer.record, length),
-                4 | 5 => self.note_ticks(before, after, answer.ticks),
-                7 => self.close_frame(),
+                kind::SELECT => self.saw("select while selected", before.selected),
+                kind::EXCHANGE => self.note_exchange(before, answer.record, length),
+                kind::DESELECT | kind::LOOSE_DESELECT => {
+                    self.note_deselect(before, answer.record, length)
+                }
+                kind::TICK | kind::TICKS => self.note_ticks(before, after, answer.ticks),
+                kind::POWER_CUT => self.close_frame(),
                 _ => {}
             }
         }
@@ -238,17 +238,17 @@ impl Coverage {
         self.saw("leftovers kept", before.left != NOTHING && before.left == after.left);
         let job = after.chip.job.as_ref().map(Class::of);
         let name = match (event.0, record, before.chip.frame.opcode) {
-            (4 | 5, _, _) if job.is_none() => "leftovers gone by a last step",
-            (3, Record::Verdict(1), 0x99) if before.chip.job.is_none() => {
+            (kind::TICK | kind::TICKS, _, _) if job.is_none() => "leftovers gone by a last step",
+            (kind::DESELECT, Record::Verdict(1), 0x99) if before.chip.job.is_none() => {
                 "leftovers gone by a reset without a job"
             }
-            (3, Record::Verdict(1), 0x99) => "leftovers gone by the reset of a job",
-            (3, Record::Verdict(2), _) => match job {
+            (kind::DESELECT, Record::Verdict(1), 0x99) => "leftovers gone by the reset of a job",
+            (kind::DESELECT, Record::Verdict(2), _) => match job {
                 Some(Class::WriteStatus) => "leftovers gone by a write status begun",
                 Some(Class::Program) => "leftovers replaced by a program begun",
                 _ => "leftovers gone by an erase begun",
             },
-            (7, _, _) => "leftovers gone by a power cut",
+            (kind::POWER_CUT, _, _) => "leftovers gone by a power cut",
             _ => return,
         };
         self.saw(name, before.holds_something() && after.left == NOTHING);
@@ -360,12 +360,12 @@ impl Coverage {
         };
         let suspended = usize::from(before.suspended);
         let fate = match (event.0, record, before.frame.opcode) {
-            (4 | 5, _, _) if after.job.is_none() => 0,
-            (3, Record::Verdict(1), 0xB0) => 1,
-            (3, Record::Verdict(1), 0x30) => 2,
-            (3, Record::Verdict(2), _) => 3,
-            (3, Record::Verdict(1), 0x99) => 4 + suspended,
-            (7, _, _) => 6 + suspended,
+            (kind::TICK | kind::TICKS, _, _) if after.job.is_none() => 0,
+            (kind::DESELECT, Record::Verdict(1), 0xB0) => 1,
+            (kind::DESELECT, Record::Verdict(1), 0x30) => 2,
+            (kind::DESELECT, Record::Verdict(2), _) => 3,
+            (kind::DESELECT, Record::Verdict(1), 0x99) => 4 + suspended,
+            (kind::POWER_CUT, _, _) => 6 + suspended,
             _ => return,
         };
         self.saw("job begun while suspended after ticks", fate == 3 && job.steps_done > 0);
@@ -405,10 +405,6 @@ impl Coverage {
         println!("{:24}{head}", "");
         let mut faults = 0;
         for ((name, numbers), counts) in ENTRIES.iter().zip(&self.refusals) {
-            if *name == "event, lent" && !self.has_lent {
-                println!("{name:24} not in the library");
-                continue;
-            }
             print!("{name:24}");
             faults += print_cells(counts, |number| numbers.contains(&(number as u8)));
         }
@@ -427,7 +423,7 @@ impl Coverage {
         println!("{:24}{:>8}{:>8}{:>8}", "", "event", "lent", "run");
         for (name, counts) in FLAGS.iter().zip(&self.flags) {
             print!("{name:24}");
-            faults += print_cells(counts, |entry| entry != 1 || self.has_lent);
+            faults += print_cells(counts, |_| true);
         }
         faults
     }

@@ -2,11 +2,20 @@
 
 use crate::model;
 
+#[path = "../tools/kind.rs"]
+pub mod kind;
+
 /// The longest script that a run takes.
 pub const LONGEST: usize = 65_536;
 
 /// An event as numbers: its kind and its body.
 pub type Event = (u64, u64);
+
+/// The events of a frame: a select, an exchange for each byte, and a deselect.
+pub fn frame_of(bytes: impl IntoIterator<Item = u8>) -> Vec<Event> {
+    let sent = bytes.into_iter().map(|byte| (kind::EXCHANGE, u64::from(byte)));
+    [(kind::SELECT, 0)].into_iter().chain(sent).chain([(kind::DESELECT, 0)]).collect()
+}
 
 /// The first event of a script and the bytes after it; none at the end, or where the first event
 /// is bad, being of an unknown kind or without its whole body.
@@ -38,11 +47,16 @@ pub fn script_of(events: &[Event]) -> Vec<u8> {
     script
 }
 
+/// Whether events of a kind yield a record.
+fn yields_record(kind: u64) -> bool {
+    matches!(kind, kind::EXCHANGE | kind::DESELECT | kind::LOOSE_DESELECT)
+}
+
 /// The room that a run of a script asks for: two bytes for each event that yields a record.
 pub fn room_needed(script: &[u8]) -> i64 {
     let (mut records, mut rest) = (0, script);
     while let Some(((kind, _), after)) = first_event(rest) {
-        records += i64::from(matches!(kind, 2 | 3 | 8));
+        records += i64::from(yields_record(kind));
         rest = after;
     }
     2 * records

@@ -1,6 +1,6 @@
 // The chip that a side is to have: the model's, and what stands in its numbers without a job.
 
-use crate::event::Event;
+use crate::event::{kind, Event};
 use crate::image::{image_difference, image_of, Image, BLANK};
 use crate::model::{self, Chip, EventAnswer, Record};
 
@@ -63,10 +63,10 @@ impl Expected {
         let (job, opcode) = (self.chip.job.is_some(), self.chip.frame.opcode);
         let answer = model::event(&mut self.chip, memory, kind, body);
         let cleared = match (kind, answer.record) {
-            (4 | 5, _) => job && self.chip.job.is_none(),
+            (kind::TICK | kind::TICKS, _) => job && self.chip.job.is_none(),
             (_, Record::Verdict(1)) => opcode == RESET,
             (_, Record::Verdict(2)) => true,
-            _ => kind == 7,
+            _ => kind == kind::POWER_CUT,
         };
         if cleared && answer.refusal == 0 {
             self.left = NOTHING;

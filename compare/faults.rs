@@ -1,6 +1,6 @@
 // A copy of the model as the other side, with a planted fault or none, to test the harness itself.
 
-use crate::event::{events_of, Event, LONGEST};
+use crate::event::{events_of, kind, Event, LONGEST};
 use crate::expected::Expected;
 use crate::image::{with_flags, Image};
 use crate::model::{self, Chip, EventAnswer, Job, JobKind, Record};
@@ -69,8 +69,8 @@ impl WrongCopy {
     fn apply(&mut self, length: usize, (kind, body): Event) -> Answer {
         let (kind, body) = match kind {
             256.. if self.has(12) => (kind % 256, body),
-            8 if self.has(13) && (1..=7).contains(&body) => (3, 0),
-            5 if self.has(6) && body > 2 && body < 65_536 => (5, body - 1),
+            kind::LOOSE_DESELECT if self.has(13) && (1..=7).contains(&body) => (kind::DESELECT, 0),
+            kind::TICKS if self.has(6) && body > 2 && body < 65_536 => (kind, body - 1),
             _ => (kind, body),
         };
         let before = self.expected.clone();
@@ -93,7 +93,7 @@ impl WrongCopy {
     /// Plants the faults that are seen in the state or in memory.
     fn spoil_state(&mut self, before: &Chip, kind: u64, record: Record) {
         let program = matches!(before.frame.opcode, 0x02 | 0x0A);
-        let job = before.job.as_ref();
+        let (job, ticks) = (before.job.as_ref(), matches!(kind, kind::TICK | kind::TICKS));
         let chip = &mut self.expected.chip;
         match (record, self.fault) {
             (Record::Verdict(2), Some(0)) if program => {
@@ -108,11 +108,9 @@ impl WrongCopy {
                     *load = before.frame.load;
                 }
             }
-            (Record::None, Some(1)) if matches!(kind, 4 | 5) => self.store(job),
-            (Record::None, Some(5)) => {
-                chip.wen |= job.is_some() && matches!(kind, 4 | 5);
-            }
-            (Record::None, Some(14)) if kind == 7 => chip.wp_high = true,
+            (Record::None, Some(1)) if ticks => self.store(job),
+            (Record::None, Some(5)) if ticks => chip.wen |= job.is_some(),
+            (Record::None, Some(14)) if kind == kind::POWER_CUT => chip.wp_high = true,
             _ => {}
         }
     }
@@ -130,7 +128,9 @@ impl WrongCopy {
     fn spoil_leftovers(&mut self, before: &Expected, kind: u64, record: Record) {
         let Chip { job, frame, .. } = &before.chip;
         let kept = match (record, self.fault) {
-            (Record::None, Some(17)) => matches!(kind, 4 | 5) && self.expected.chip.job.is_none(),
+            (Record::None, Some(17)) => {
+                matches!(kind, kind::TICK | kind::TICKS) && self.expected.chip.job.is_none()
+            }
             (Record::Verdict(2), Some(18)) => {
                 matches!(frame.opcode, 0x20 | 0xD7 | 0xD8 | 0x60 | 0xC7)
             }
@@ -236,9 +236,5 @@ impl Side for WrongCopy {
 
     fn output(&mut self) -> &mut [u8] {
         &mut self.output
-    }
-
-    fn has_lent(&self) -> bool {
-        true
     }
 }

@@ -1,8 +1,8 @@
 // Writes rows of events for a chip, looking at what the model's chip is doing.
 
-use crate::class::{Class, LONG_JOBS};
+use crate::class::{Class, ALL_JOBS, LONG_JOBS};
 use crate::commands::COMMANDS;
-use crate::event::Event;
+use crate::event::{kind, Event};
 use crate::model::{self, Chip};
 use crate::rng::Rng;
 
@@ -50,7 +50,7 @@ impl<'a> Writer<'a> {
 
     /// Selects.
     pub fn select(&mut self) {
-        self.put(1, 0);
+        self.put(kind::SELECT, 0);
     }
 
     /// Exchanges bytes, now and then with something else between them.
@@ -59,7 +59,7 @@ impl<'a> Writer<'a> {
             if !self.calm && self.rng.once_in(24) {
                 self.disturb();
             }
-            self.put(2, u64::from(*byte));
+            self.put(kind::EXCHANGE, u64::from(*byte));
         }
     }
 
@@ -69,26 +69,26 @@ impl<'a> Writer<'a> {
             0 => self.select(),
             1 => self.wp(),
             2 => self.some_ticks(),
-            3 => self.put(5, 1),
-            _ => self.put(4, 0),
+            3 => self.put(kind::TICKS, 1),
+            _ => self.put(kind::TICK, 0),
         }
     }
 
     /// Any WP level.
     pub fn wp(&mut self) {
         let level = self.rng.below(2) as u64;
-        self.put(6, level);
+        self.put(kind::WP_LEVEL, level);
     }
 
     /// Ends a frame on a byte boundary.
     pub fn end(&mut self) {
-        self.put(3, 0);
+        self.put(kind::DESELECT, 0);
     }
 
     /// Ends a frame loosely.
     pub fn end_loose(&mut self) {
         let bits = 1 + self.rng.below(7) as u64;
-        self.put(8, bits);
+        self.put(kind::LOOSE_DESELECT, bits);
     }
 
     /// Ends a frame in one of the two ways.
@@ -118,12 +118,12 @@ impl<'a> Writer<'a> {
     /// Lets ticks pass, 65,535 at most in one event, as single ticks if they are few.
     pub fn ticks(&mut self, mut count: u32) {
         if count <= 3 && self.rng.once_in(2) {
-            (0..count).for_each(|_| self.put(4, 0));
+            (0..count).for_each(|_| self.put(kind::TICK, 0));
             return;
         }
         while count > 0 {
             let part = count.min(65_535);
-            self.put(5, u64::from(part));
+            self.put(kind::TICKS, u64::from(part));
             count -= part;
         }
     }
@@ -139,7 +139,7 @@ impl<'a> Writer<'a> {
         let left = self.steps_left();
         let few = 1 + self.rng.below(20) as u32;
         let count = self.rng.pick(&[1, 2, few, left.max(2) - 1, left, left + 1, left / 2, 65_535]);
-        self.put(5, u64::from(count.clamp(1, 65_535)));
+        self.put(kind::TICKS, u64::from(count.clamp(1, 65_535)));
     }
 
     /// Whether a job is running.
@@ -152,7 +152,7 @@ impl<'a> Writer<'a> {
         self.settle();
         if self.chip.deep {
             if self.rng.once_in(5) {
-                self.put(7, 0);
+                self.put(kind::POWER_CUT, 0);
             } else {
                 let length = 1 + self.rng.below(7);
                 let bytes = vec![0xAB; length];
@@ -168,7 +168,7 @@ impl<'a> Writer<'a> {
             return;
         }
         match self.rng.below(6) {
-            0 => self.put(7, 0),
+            0 => self.put(kind::POWER_CUT, 0),
             1 => self.reset(),
             _ => {
                 if self.chip.suspended {
@@ -179,7 +179,7 @@ impl<'a> Writer<'a> {
             }
         }
         if self.chip.job.is_some() {
-            self.put(7, 0);
+            self.put(kind::POWER_CUT, 0);
         }
     }
 
@@ -200,7 +200,7 @@ impl<'a> Writer<'a> {
     pub fn write_status(&mut self, status: u8) {
         self.idle();
         if self.chip.srwp && !self.chip.wp_high {
-            self.put(6, 1);
+            self.put(kind::WP_LEVEL, 1);
         }
         self.enable();
         self.frame(&[0x01, status]);
@@ -296,7 +296,7 @@ impl<'a> Writer<'a> {
         self.idle();
         self.unprotect(class);
         if class == Class::WriteStatus && self.chip.srwp && !self.chip.wp_high {
-            self.put(6, 1);
+            self.put(kind::WP_LEVEL, 1);
         }
         self.enable();
         let bytes = self.job_frame(class);
@@ -335,8 +335,7 @@ impl<'a> Writer<'a> {
         if self.running() {
             return self.settle();
         }
-        let all = [LONG_JOBS.as_slice(), &[Class::WriteStatus]].concat();
-        let class = self.rng.pick(&all);
+        let class = self.rng.pick(&ALL_JOBS);
         self.begin(class);
     }
 

@@ -48,18 +48,17 @@ pub struct Library {
     command: Vec<String>,
     shared: *mut u8,
     process: Option<Process>,
-    lent: bool,
 }
 
 impl Library {
-    /// Makes the shared file, starts the library process over it and asks what it has.
+    /// Makes the shared file and starts the library process over it. Its first request, for a fresh
+    /// chip, tells whether it can run at all: that is an error, and no difference.
     pub fn new(path: &str, command: &[String]) -> Result<Library, String> {
         let mut command = command.to_vec();
         command.push(path.to_string());
         let shared = map_file(path)?;
-        let mut library = Library { command, shared, process: None, lent: false };
-        library.call(b'h', [0; 3])?;
-        library.lent = library.number(0) != 0;
+        let mut library = Library { command, shared, process: None };
+        library.fresh(0)?;
         Ok(library)
     }
 
@@ -224,9 +223,5 @@ impl Side for Library {
 
     fn output(&mut self) -> &mut [u8] {
         self.part(OUTPUT, OUTPUT_AREA)
-    }
-
-    fn has_lent(&self) -> bool {
-        self.lent
     }
 }

@@ -1,9 +1,9 @@
 // The cases that are planned, so that whatever can occur does, at any seed.
 
-use crate::case::{Content, Start, Step, LENGTHS};
-use crate::class::{Class, LONG_JOBS};
-use crate::commands::COMMANDS;
-use crate::event::{script_of, LONGEST};
+use crate::case::{Content, Start, LENGTHS};
+use crate::class::{Class, ALL_JOBS, LONG_JOBS};
+use crate::commands::{Command, COMMANDS, UNKNOWN};
+use crate::event::{frame_of, kind, script_of, LONGEST};
 use crate::generate::Writer;
 use crate::image::Edit;
 use crate::scenes::SCENES;
@@ -35,7 +35,7 @@ impl Session<'_> {
     fn fresh_states(&mut self) -> Outcome {
         for status in 0..=255 {
             self.open(LENGTHS[0], Start::Fresh(status), Content::Blank)?;
-            self.one_run(&[(1, 0), (2, 0x05), (2, 0), (3, 0)])?;
+            self.one_run(&frame_of([0x05, 0]))?;
             self.close()?;
         }
         Ok(())
@@ -44,25 +44,29 @@ impl Session<'_> {
     /// States with a job of each class or none that are lent with leftovers: whatever leaves jobs
     /// alone keeps them, and each event that has to clear them does.
     fn leftovers(&mut self) -> Outcome {
-        let classes = [LONG_JOBS.as_slice(), &[Class::WriteStatus]].concat();
-        for class in classes.into_iter().map(Some).chain([None]) {
+        for class in ALL_JOBS.into_iter().map(Some).chain([None]) {
             for end in ENDS.repeat(if class.is_none() { 16 } else { 4 }) {
-                let length = self.rng.pick(&LENGTHS[..2]);
-                let mut chip = states::legal_unselected(&mut self.rng, length, class);
-                (chip.deep, chip.srwp, chip.level) = (false, false, 0);
-                let (edit, content) = (Edit::Free(self.rng.next()), Content::Blank);
-                self.open(length, Start::Lent(Box::new(chip), edit), content)?;
-                let events = self.write(|writer| {
-                    writer.calm = true;
-                    writer.leave_alone();
-                    end(writer);
-                    writer.leave_alone();
-                });
-                self.deliver(&events)?;
-                self.close()?;
+                self.leftovers_until(class, end)?;
             }
         }
         Ok(())
+    }
+
+    /// A state with a job of a class or none, lent with leftovers, and what may become of them.
+    fn leftovers_until(&mut self, class: Option<Class>, end: fn(&mut Writer)) -> Outcome {
+        let length = self.rng.pick(&LENGTHS[..2]);
+        let mut chip = states::legal_unselected(&mut self.rng, length, class);
+        (chip.deep, chip.srwp, chip.level) = (false, false, 0);
+        let (edit, content) = (Edit::Free(self.rng.next()), Content::Blank);
+        self.open(length, Start::Lent(Box::new(chip), edit), content)?;
+        let events = self.write(|writer| {
+            writer.calm = true;
+            writer.leave_alone();
+            end(writer);
+            writer.leave_alone();
+        });
+        self.deliver(&events)?;
+        self.close()
     }
 
     /// States that break one rule alone, every rule in every way.
@@ -77,57 +81,91 @@ impl Session<'_> {
     /// Every opcode with every verdict that it can get, by events and by runs, on all lengths.
     fn all_cells(&mut self) -> Outcome {
         for length in LENGTHS {
-            self.open_fresh(length, 0)?;
-            for opcode in [0x03, 0x0B] {
-                let events = self.write(|writer| writer.over_top(opcode));
-                self.deliver(&events)?;
-            }
-            for command in &COMMANDS[..21] {
-                self.open_fresh(length, 0)?;
-                for verdict in command.verdicts {
-                    let events = self.write(|writer| {
-                        writer.calm = true;
-                        writer.reach(command.opcode, *verdict);
-                    });
-                    self.deliver(&events)?;
-                }
-                self.close()?;
+            self.reads_over_top(length)?;
+            for command in &COMMANDS[..=UNKNOWN] {
+                self.all_verdicts(length, command)?;
             }
         }
+        self.without_opcode()
+    }
+
+    /// Both reads of cells, across the top.
+    fn reads_over_top(&mut self, length: usize) -> Outcome {
+        self.open_fresh(length, 0)?;
+        for opcode in [0x03, 0x0B] {
+            let events = self.write(|writer| writer.over_top(opcode));
+            self.deliver(&events)?;
+        }
+        Ok(())
+    }
+
+    /// An opcode, or bytes that are none, with every verdict that it can get.
+    fn all_verdicts(&mut self, length: usize, command: &Command) -> Outcome {
+        self.open_fresh(length, 0)?;
+        for verdict in command.verdicts {
+            let events = self.write(|writer| {
+                writer.calm = true;
+                writer.reach(command.opcode, *verdict);
+            });
+            self.deliver(&events)?;
+        }
+        self.close()
+    }
+
+    /// Empty frames, and deselects of both kinds and an exchange without a frame.
+    fn without_opcode(&mut self) -> Outcome {
+        let (select, deselect) = ((kind::SELECT, 0), (kind::DESELECT, 0));
+        let (three_loose, seven_loose) = ((kind::LOOSE_DESELECT, 3), (kind::LOOSE_DESELECT, 7));
         self.open_fresh(LENGTHS[0], 0)?;
-        self.one_by_one(&[(1, 0), (3, 0), (3, 0), (1, 0), (8, 3), (8, 7), (2, 0)])?;
+        self.one_by_one(&[select, deselect, deselect])?;
+        self.one_by_one(&[select, three_loose, seven_loose, (kind::EXCHANGE, 0)])?;
         self.close()
     }
 
     /// Frames of every opcode and byte count that come with a lent state, gone on with and ended.
     fn lent_frames(&mut self) -> Outcome {
-        for command in &COMMANDS[..21] {
+        for command in &COMMANDS[..=UNKNOWN] {
             for count in [1, 2, 3, 4, 5, 6].repeat(8) {
-                let length = self.rng.pick(&[LENGTHS[0], LENGTHS[0], LENGTHS[1], LENGTHS[3]]);
-                let opcode = command.opcode.unwrap_or(self.rng.byte());
-                let chip = states::with_frame(&mut self.rng, length, opcode, count);
-                let (edit, content) = (self.any_edit(), Content::Noise(self.rng.next()));
-                self.open(length, Start::Lent(Box::new(chip), edit), content)?;
-                let events = self.write(|writer| writer.go_on());
-                self.deliver(&events)?;
-                self.close()?;
+                self.lent_frame(command, count)?;
             }
         }
         Ok(())
+    }
+
+    /// One lent frame of an opcode, or of any byte, and a byte count.
+    fn lent_frame(&mut self, command: &Command, count: u8) -> Outcome {
+        let length = self.rng.pick(&[LENGTHS[0], LENGTHS[0], LENGTHS[1], LENGTHS[3]]);
+        let opcode = command.opcode.unwrap_or(self.rng.byte());
+        let chip = states::with_frame(&mut self.rng, length, opcode, count);
+        let (edit, content) = (self.any_edit(), Content::Noise(self.rng.next()));
+        self.open(length, Start::Lent(Box::new(chip), edit), content)?;
+        let events = self.write(|writer| writer.go_on());
+        self.deliver(&events)?;
+        self.close()
     }
 
     /// Every fate of every job after every k steps, on the one-sector part.
     fn all_fates(&mut self) -> Outcome {
         for class in LONG_JOBS {
             for fate in 0..6 {
-                self.open_fresh(LENGTHS[0], 0)?;
-                for k in 0..class.steps(LENGTHS[0]) {
-                    let events = self.write(|writer| fate_after(writer, class, fate, k));
-                    self.deliver(&events)?;
-                }
-                self.close()?;
+                self.fate_after_each_step(class, fate)?;
             }
         }
+        self.write_status_fates()
+    }
+
+    /// One fate of a job of a class, after every k steps.
+    fn fate_after_each_step(&mut self, class: Class, fate: u32) -> Outcome {
+        self.open_fresh(LENGTHS[0], 0)?;
+        for k in 0..class.steps(LENGTHS[0]) {
+            let events = self.write(|writer| fate_after(writer, class, fate, k));
+            self.deliver(&events)?;
+        }
+        self.close()
+    }
+
+    /// The fates of a write status: it has one step and cannot be suspended.
+    fn write_status_fates(&mut self) -> Outcome {
         self.open_fresh(LENGTHS[0], 0)?;
         for fate in [0, 2, 4] {
             let events = self.write(|writer| fate_after(writer, Class::WriteStatus, fate, 0));
@@ -157,11 +195,8 @@ impl Session<'_> {
             writer.begin(Class::Chip);
         });
         self.one_run(&events)?;
-        let frame = |bytes: &[u64]| {
-            let exchanges = bytes.iter().map(|byte| (2, *byte));
-            [vec![(1, 0)], exchanges.collect(), vec![(3, 0)]].concat()
-        };
-        let one_step = [frame(&[0xB0]), frame(&[0x05, 0]), frame(&[0x30]), vec![(4, 0)]].concat();
+        let (suspend, resume, tick) = (frame_of([0xB0]), frame_of([0x30]), vec![(kind::TICK, 0)]);
+        let one_step = [suspend, frame_of([0x05, 0]), resume, tick].concat();
         while self.bench.expected.chip.job.is_some() {
             self.one_run(&one_step.repeat(64))?;
         }
@@ -171,23 +206,40 @@ impl Session<'_> {
     /// Scripts of 65,536 bytes and more, and the rooms about what they ask for.
     fn limits(&mut self, length: usize) -> Outcome {
         self.open_fresh(length, 0)?;
-        for kind in [4, 3] {
-            for (bytes, spare) in [(LONGEST, -1), (LONGEST, 0), (LONGEST - 1, 5), (LONGEST + 1, 0)]
-            {
-                self.step(Step::Run { script: vec![kind; bytes], spare, length: None })?;
-            }
+        for kind in [kind::TICK, kind::DESELECT] {
+            self.long_scripts_of(kind)?;
         }
-        let mut script = vec![4; LONGEST];
-        script[LONGEST - 1] = 2;
-        self.step(Step::Run { script, spare: 0, length: None })?;
-        self.step(Step::Run { script: vec![9; LONGEST + 1], spare: 0, length: None })?;
+        self.long_and_bad()?;
         for extra in [0, 1, 2, LONGEST] {
-            for spare in [-1, 0, 1] {
-                let script = self.long_script(LONGEST + extra);
-                self.step(Step::Run { script, spare, length: None })?;
-            }
+            self.rooms_of(LONGEST + extra)?;
         }
         self.close()
+    }
+
+    /// Scripts about the longest, of one kind of event that has no body.
+    fn long_scripts_of(&mut self, kind: u64) -> Outcome {
+        for (bytes, spare) in [(LONGEST, -1), (LONGEST, 0), (LONGEST - 1, 5), (LONGEST + 1, 0)] {
+            self.run(script_of(&vec![(kind, 0); bytes]), spare)?;
+        }
+        Ok(())
+    }
+
+    /// The longest script, its last event an exchange without its byte; and a script that is a byte
+    /// too long and has unknown kinds alone, where 3 comes before 5.
+    fn long_and_bad(&mut self) -> Outcome {
+        let mut script = script_of(&vec![(kind::TICK, 0); LONGEST]);
+        script[LONGEST - 1] = kind::EXCHANGE as u8;
+        self.run(script, 0)?;
+        self.run(vec![9; LONGEST + 1], 0)
+    }
+
+    /// Random scripts of so many bytes, with just too little room, enough, and more.
+    fn rooms_of(&mut self, bytes: usize) -> Outcome {
+        for spare in [-1, 0, 1] {
+            let script = self.long_script(bytes);
+            self.run(script, spare)?;
+        }
+        Ok(())
     }
 
     /// A script of so many bytes for the chip as it is.
@@ -203,7 +255,7 @@ impl Session<'_> {
         });
         let mut script = script_of(&events);
         script.truncate(bytes.min(script.len()));
-        script.resize(bytes, 4);
+        script.resize(bytes, kind::TICK as u8);
         script
     }
 
@@ -235,7 +287,7 @@ const ENDS: [fn(&mut Writer); 9] = [
         writer.ticks(writer.steps_left());
     },
     |writer| writer.reset(),
-    |writer| writer.put(7, 0),
+    |writer| writer.put(kind::POWER_CUT, 0),
     |writer| begin_here(writer, Class::WriteStatus),
     |writer| begin_here(writer, Class::Program),
     |writer| begin_here(writer, Class::SmallSector),
@@ -261,23 +313,20 @@ fn fate_after(writer: &mut Writer, class: Class, fate: u32, k: u32) {
     }
     writer.begin(class);
     writer.ticks(k);
-    let frame = |writer: &mut Writer, opcode: u64| {
-        [(1, 0), (2, opcode), (3, 0)].into_iter().for_each(|(kind, body)| writer.put(kind, body));
-    };
     if matches!(fate, 0 | 1 | 3 | 5) && class != Class::WriteStatus {
-        frame(writer, 0xB0);
+        writer.frame(&[0xB0]);
     }
     match fate {
         0 => {
-            frame(writer, 0x30);
+            writer.frame(&[0x30]);
             let left = class.steps(writer.length()) - k;
-            writer.put(5, u64::from(left));
+            writer.put(kind::TICKS, u64::from(left));
         }
         1 => {
             let next = writer.rng.pick(&LONG_JOBS);
             writer.drop_by(next);
         }
         2 | 3 => writer.reset(),
-        _ => writer.put(7, 0),
+        _ => writer.put(kind::POWER_CUT, 0),
     }
 }

@@ -1,7 +1,7 @@
 // Steps that are refused: by the state, the memory length, the script, its events or the room.
 
 use crate::case::{Content, Start, Step};
-use crate::event::{room_needed, script_of, LONGEST};
+use crate::event::{kind, room_needed, script_of, Event, LONGEST};
 use crate::image::Edit;
 use crate::model::Chip;
 use crate::scenes::SCENES;
@@ -22,17 +22,28 @@ const WRONG_LENGTHS: [usize; 11] = [
     64 * Chip::SECTOR,
 ];
 
+/// Good events, in a legal state.
+const SELECT: Event = (kind::SELECT, 0);
+const OPCODE: Event = (kind::EXCHANGE, 0x05);
+const TICK: Event = (kind::TICK, 0);
+const POWER_CUT: Event = (kind::POWER_CUT, 0);
+/// An event of an unknown kind.
+const UNKNOWN: Event = (0, 0);
+/// An event whose body is out of range.
+const OUT_OF_RANGE: Event = (kind::WP_LEVEL, 2);
+
+// The scripts below are raw bytes: some of them are no events, or not whole ones.
 impl Session<'_> {
     /// A state that is not legal: refused by 2 at every entry point and before 3 to 7, and not
     /// before 1.
     pub fn broken_state(&mut self, length: usize, chip: Chip, edit: Edit) -> Outcome {
         self.open(length, Start::Lent(Box::new(chip), edit), Content::Blank)?;
-        let events = [(1, 0), (2, 0x05), (4, 0), (7, 0), (0, 0), (6, 2)];
+        let events = [SELECT, OPCODE, TICK, POWER_CUT, UNKNOWN, OUT_OF_RANGE];
         let (first, second) = (self.rng.pick(&events), self.rng.pick(&events));
-        let mut steps = vec![Step::Event { event: first, lent: false, length: None }];
-        if self.bench.has_lent() {
-            steps.push(Step::Event { event: second, lent: true, length: None });
-        }
+        let mut steps = vec![
+            Step::Event { event: first, lent: false, length: None },
+            Step::Event { event: second, lent: true, length: None },
+        ];
         let scripts = [vec![], vec![1, 2, 5, 2, 0, 3], vec![1, 9], vec![2], vec![4; LONGEST + 1]];
         for script in scripts {
             let spare = self.rng.pick(&[0, -1, 3]);
@@ -50,7 +61,7 @@ impl Session<'_> {
     fn wrong_length(&mut self) -> Outcome {
         let length = Some(self.rng.pick(&WRONG_LENGTHS));
         let lent = self.lent();
-        let event = self.rng.pick(&[(1, 0), (4, 0), (0, 0), (6, 2), (7, 0)]);
+        let event = self.rng.pick(&[SELECT, TICK, UNKNOWN, OUT_OF_RANGE, POWER_CUT]);
         self.step(Step::Event { event, lent, length })?;
         let script =
             self.rng.pick(&[&[][..], &[1, 2, 5, 3], &[9], &[5, 0], &[4; LONGEST + 1]]).to_vec();
@@ -83,9 +94,9 @@ impl Session<'_> {
     /// A run of a script that is too long, with or without a bad event in it.
     fn too_long(&mut self) -> Outcome {
         let bytes = LONGEST + self.rng.pick(&[1, 1, 2, 4_000, LONGEST]);
-        let kind = self.rng.pick(&[4, 4, 3, 9, 0]);
+        let kind = self.rng.pick(&[kind::TICK, kind::TICK, kind::DESELECT, 9, 0]);
         let spare = self.rng.pick(&[0, -1]);
-        self.step(Step::Run { script: vec![kind; bytes], spare, length: None }).map(|_| ())
+        self.run(vec![kind as u8; bytes], spare)
     }
 
     /// A run with bad events, or with too little room, or both.
@@ -105,7 +116,7 @@ impl Session<'_> {
         }
         let needed = room_needed(&script);
         let spare = self.rng.pick(&[-1, -1, -2, -needed, 0, 1, 50]);
-        self.step(Step::Run { script, spare, length: None }).map(|_| ())
+        self.run(script, spare)
     }
 
     /// The bytes of an event with an unknown kind or with a body outside its range.

@@ -2,6 +2,7 @@
 
 use crate::class::{Class, LONG_JOBS};
 use crate::commands::COMMANDS;
+use crate::event::kind;
 use crate::generate::Writer;
 
 impl Writer<'_> {
@@ -96,7 +97,7 @@ impl Writer<'_> {
             self.enable();
         }
         if self.chip.srwp && !self.chip.wp_high && self.rng.once_in(2) {
-            self.put(6, 1);
+            self.put(kind::WP_LEVEL, 1);
         }
         let sector = self.sector(false).unwrap_or(0);
         let address = self.address_in(sector);
@@ -161,7 +162,7 @@ impl Writer<'_> {
             self.write_status(status);
         }
         self.idle();
-        self.put(6, 0);
+        self.put(kind::WP_LEVEL, 0);
         self.enable();
         let status = self.rng.byte();
         self.frame(&[0x01, status]);
@@ -221,7 +222,7 @@ impl Writer<'_> {
                 7 => self.frame(&[0x66]),
                 _ if !self.running() => self.some_ticks(),
                 _ if self.steps_left() > 1 => self.ticks(1),
-                _ => self.put(2, 0x99),
+                _ => self.put(kind::EXCHANGE, 0x99),
             }
         }
     }
@@ -259,7 +260,7 @@ impl Writer<'_> {
         self.select();
         self.send(&bytes);
         match self.rng.below(12) {
-            0 => self.put(7, 0),
+            0 => self.put(kind::POWER_CUT, 0),
             1 => {}
             2 | 3 => self.end_loose(),
             _ => self.end(),
@@ -271,15 +272,15 @@ impl Writer<'_> {
         for _ in 0..1 + self.rng.below(5) {
             match self.rng.below(9) {
                 0 => self.select(),
-                1 => self.put(2, 0xAB),
+                1 => self.put(kind::EXCHANGE, 0xAB),
                 2 => self.end(),
                 3 => self.end_loose(),
                 4 => self.wp(),
-                5 => self.put(7, 0),
-                6 => self.put(4, 0),
+                5 => self.put(kind::POWER_CUT, 0),
+                6 => self.put(kind::TICK, 0),
                 7 => {
                     let any = 1 + self.rng.below(65_535) as u64;
-                    self.put(5, any);
+                    self.put(kind::TICKS, any);
                 }
                 _ => self.some_ticks(),
             }

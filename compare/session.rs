@@ -6,7 +6,7 @@ use crate::coverage::Coverage;
 use crate::event::{script_of, Event};
 use crate::generate::Writer;
 use crate::image::Edit;
-use crate::model::Chip;
+use crate::model::{body_length, Chip};
 use crate::rng::Rng;
 use crate::scenes::SCENES;
 
@@ -33,10 +33,9 @@ pub struct Session<'a> {
 impl<'a> Session<'a> {
     /// A session with nothing done.
     pub fn new(bench: Bench<'a>, seed: u64) -> Session<'a> {
-        let coverage = Coverage::new(bench.has_lent());
         let (start, content) = (Start::Fresh(0), Content::Blank);
         let case = Case { length: LENGTHS[0], start, content, steps: Vec::new() };
-        let (rng, scratch) = (Rng::new(seed), vec![0; LENGTHS[5]]);
+        let (coverage, rng, scratch) = (Coverage::new(), Rng::new(seed), vec![0; LENGTHS[5]]);
         Session { bench, coverage, cases: 0, events: 0, case, rng, scratch }
     }
 
@@ -97,15 +96,15 @@ impl<'a> Session<'a> {
 
     /// Whether the next single event goes through a lent chip record.
     pub fn lent(&mut self) -> bool {
-        self.bench.has_lent() && self.rng.once_in(3)
+        self.rng.once_in(3)
     }
 
     /// Applies events one by one; a body that an event has not may be any number.
     pub fn one_by_one(&mut self, events: &[Event]) -> Outcome {
         for (kind, body) in events {
             let any = self.rng.next();
-            let body = match kind {
-                1 | 3 | 4 | 7 => self.rng.pick(&[0, 0, 1, any]),
+            let body = match body_length(*kind as u8) {
+                Some(0) => self.rng.pick(&[0, 0, 1, any]),
                 _ => *body,
             };
             let lent = self.lent();
@@ -114,11 +113,15 @@ impl<'a> Session<'a> {
         Ok(())
     }
 
+    /// Runs a script over the case's memory, with some bytes of room more or less than it asks for.
+    pub fn run(&mut self, script: Vec<u8>, spare: i64) -> Outcome {
+        self.step(Step::Run { script, spare, length: None }).map(|_| ())
+    }
+
     /// Runs events as one script.
     pub fn one_run(&mut self, events: &[Event]) -> Outcome {
         let spare = self.rng.pick(&[0, 0, 0, 1, 2, 7, 100]);
-        let script = script_of(events);
-        self.step(Step::Run { script, spare, length: None }).map(|_| ())
+        self.run(script_of(events), spare)
     }
 
     /// Delivers events: one by one, as one run, or as runs one after another. Many events, and

@@ -28,11 +28,9 @@ struct run_answer { struct chip chip; u8 refusal; u64 offset, written, ticks; };
 struct chip chip_fresh(u8 status);
 _Bool chip_legal(struct chip c, u64 memory_length);
 struct event_answer chip_event(struct chip c, u8 *mem, u64 mem_len, u64 kind, u64 body);
+struct event_answer chip_event_lent(struct chip c, u8 *mem, u64 mem_len, u64 kind, u64 body);
 struct run_answer chip_run(struct chip c, u8 *mem, u64 mem_len, const u8 *script, u64 script_len,
                            u8 *out, u64 out_len);
-#ifdef LENT
-struct event_answer chip_event_lent(struct chip c, u8 *mem, u64 mem_len, u64 kind, u64 body);
-#endif
 
 // The areas of the shared file; the harness has the same numbers.
 enum { SECTOR = 65536, MEMORY = 0, SCRIPT = 65 * SECTOR, OUTPUT = 68 * SECTOR, DESK = 73 * SECTOR };
@@ -86,15 +84,10 @@ static void serve(u8 request) {
     case 'p': cross(0); break;
     case 'l': desk[0] = chip_legal(chip, desk[0]); break;
     case 'e': event_done(chip_event(chip, mem, desk[0], desk[1], desk[2]), desk); break;
+    case 'b': event_done(chip_event_lent(chip, mem, desk[0], desk[1], desk[2]), desk); break;
     case 'r':
         run_done(chip_run(chip, mem, desk[0], shared + SCRIPT, desk[1], shared + OUTPUT, desk[2]), desk);
         break;
-#ifdef LENT
-    case 'b': event_done(chip_event_lent(chip, mem, desk[0], desk[1], desk[2]), desk); break;
-    case 'h': desk[0] = 1; break;
-#else
-    case 'h': desk[0] = 0; break;
-#endif
     }
     cross(1);
 }

@@ -184,29 +184,37 @@ impl Shrinker<'_, '_> {
         let mut changes = vec![self.case.clone(), self.case.clone()];
         changes[0].content = Content::Blank;
         changes[1].start = Start::Fresh(0);
-        if let Start::Fresh(status) = self.case.start {
-            for bit in [0x80, 0x20, 0x10, 0x08, 0x04] {
-                let start = Start::Fresh(status & !bit);
-                changes.push(Case { start, ..self.case.clone() });
-            }
-        }
-        // The edits that are not legal go with a model's chip that is not, so they are left alone.
-        if let Start::Lent(chip, edit @ (Edit::None | Edit::Free(_))) = &self.case.start {
-            for edit in [&Edit::None, edit] {
-                for chip in [vec![(**chip).clone()], plainer_chips(chip)].concat() {
-                    let start = Start::Lent(Box::new(chip), edit.clone());
-                    changes.push(Case { start, ..self.case.clone() });
-                }
-            }
-        }
-        for length in LENGTHS {
-            changes.push(Case { length, ..self.case.clone() });
-        }
+        let plainer = plainer_starts(&self.case.start).into_iter();
+        changes.extend(plainer.map(|start| Case { start, ..self.case.clone() }));
+        changes.extend(LENGTHS.map(|length| Case { length, ..self.case.clone() }));
         let new = |case: &Case, old: &Case| {
             (case.content, &case.start) != (old.content, &old.start) || case.length < old.length
         };
         changes.into_iter().any(|changed| new(&changed, &self.case) && self.keep(changed))
     }
+}
+
+/// Starts of the same sort that are plainer, if only in one thing.
+fn plainer_starts(start: &Start) -> Vec<Start> {
+    match start {
+        Start::Fresh(status) => {
+            [0x80, 0x20, 0x10, 0x08, 0x04].map(|bit| Start::Fresh(status & !bit)).to_vec()
+        }
+        Start::Lent(chip, edit @ (Edit::None | Edit::Free(_))) => plainer_lent(chip, edit),
+        // The edits that are not legal go with a model's chip that is not, so they are left alone.
+        Start::Lent(..) => Vec::new(),
+    }
+}
+
+/// Lent starts with a plainer chip, or without the edit.
+fn plainer_lent(chip: &Chip, edit: &Edit) -> Vec<Start> {
+    let chips = [vec![chip.clone()], plainer_chips(chip)].concat();
+    let mut starts = Vec::new();
+    for edit in [&Edit::None, edit] {
+        let lent = |chip: &Chip| Start::Lent(Box::new(chip.clone()), edit.clone());
+        starts.extend(chips.iter().map(lent));
+    }
+    starts
 }
 
 /// Events with the same kind and a smaller body, the smallest first.

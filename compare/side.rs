@@ -69,6 +69,4 @@ pub trait Side {
     fn memory(&mut self) -> &mut [u8];
     /// The whole output area.
     fn output(&mut self) -> &mut [u8];
-    /// Whether the side has the event through a lent chip record.
-    fn has_lent(&self) -> bool;
 }

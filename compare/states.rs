@@ -1,9 +1,9 @@
 // States that are lent: legal ones of every sort, and those that break one rule of legality alone.
 
-use crate::class::{Class, LONG_JOBS};
+use crate::class::{Class, ALL_JOBS, LONG_JOBS};
 use crate::commands::COMMANDS;
 use crate::image::{flags_of, with_flags, Edit, FLAGS};
-use crate::model::{Chip, Job, JobKind};
+use crate::model::{Chip, Frame, Job, JobKind};
 use crate::rng::Rng;
 
 /// A rule of legality: its words, and whether a chip over a memory length keeps it.
@@ -189,35 +189,52 @@ fn spoilt_frame(rng: &mut Rng, length: usize, opcode: u8, change: impl Fn(&mut C
     chip
 }
 
+/// The same with a frame of any opcode.
+fn spoilt_any_frame(rng: &mut Rng, length: usize, change: impl Fn(&mut Chip)) -> Chip {
+    let opcode = any_opcode(rng);
+    spoilt_frame(rng, length, opcode, change)
+}
+
 /// States that break one rule about the job alone.
 fn broken_jobs(rng: &mut Rng, length: usize) -> Vec<Chip> {
     let mut states = Vec::new();
-    for class in [LONG_JOBS.as_slice(), &[Class::WriteStatus]].concat() {
-        let total = class.steps(length);
-        let off = match class {
-            Class::Program => [1, 255, 128],
-            Class::SmallSector => [1, 256, 4_095],
-            Class::Sector => [1, 256, 4_096],
-            Class::Chip | Class::WriteStatus => [1, 256, length as u32 - 256],
-        };
-        for off in off {
-            states.push(spoilt_job(rng, length, class, |_, job| job.place += off));
-        }
-        for done in [total, total + 1, u32::MAX] {
-            states.push(spoilt_job(rng, length, class, |_, job| job.steps_done = done));
-        }
+    for class in ALL_JOBS {
+        states.extend(unaligned_jobs(rng, length, class));
+        states.extend(overdone_jobs(rng, length, class));
         states.push(spoilt_job(rng, length, class, |chip, _| chip.wen = false));
         states.push(spoilt_job(rng, length, class, |chip, _| {
             (chip.deep, chip.armed) = (true, false);
         }));
     }
     for class in &LONG_JOBS[..3] {
-        for place in [length as u32, 2 * length as u32, 1 << 31] {
-            states.push(spoilt_job(rng, length, *class, |_, job| job.place = place));
-        }
+        states.extend(outside_jobs(rng, length, *class));
     }
     states.push(spoilt_job(rng, length, Class::WriteStatus, |chip, _| chip.suspended = true));
     states
+}
+
+/// Jobs inside memory that begin at no multiple of their size.
+fn unaligned_jobs(rng: &mut Rng, length: usize, class: Class) -> [Chip; 3] {
+    let distances = match class {
+        Class::Program => [1, 255, 128],
+        Class::SmallSector => [1, 256, 4_095],
+        Class::Sector => [1, 256, 4_096],
+        Class::Chip | Class::WriteStatus => [1, 256, length as u32 - 256],
+    };
+    distances.map(|distance| spoilt_job(rng, length, class, |_, job| job.place += distance))
+}
+
+/// Jobs with as many steps done as they have, or more.
+fn overdone_jobs(rng: &mut Rng, length: usize, class: Class) -> [Chip; 3] {
+    let total = class.steps(length);
+    let counts = [total, total + 1, u32::MAX];
+    counts.map(|done| spoilt_job(rng, length, class, |_, job| job.steps_done = done))
+}
+
+/// Jobs that are aligned, but not inside memory.
+fn outside_jobs(rng: &mut Rng, length: usize, class: Class) -> [Chip; 3] {
+    let places = [length as u32, 2 * length as u32, 1 << 31];
+    places.map(|place| spoilt_job(rng, length, class, |_, job| job.place = place))
 }
 
 /// States that break one rule alone, about neither job nor frame.
@@ -240,60 +257,75 @@ fn broken_flags(rng: &mut Rng, length: usize) -> Vec<Chip> {
 
 /// States that break one rule about an open frame alone.
 fn broken_frames(rng: &mut Rng, length: usize) -> Vec<Chip> {
+    let end = length as u32;
+    let addresses = [1 << 24, (1 << 24) + 1, u32::MAX];
+    let places = [end, end + 1, u32::MAX];
+    let judgements = [1, 2, 4, 8, 9, 10, 11, 12, 13, 255];
+    [
+        spoilt_frames(rng, length, &addresses, |frame, address| frame.address = address),
+        spoilt_frames(rng, length, &places, |frame, place| frame.read_place = place),
+        spoilt_frames(rng, length, &[7, 8, 255], |frame, count| frame.byte_count = count),
+        spoilt_frames(rng, length, &judgements, |frame, verdict| frame.judgement = Some(verdict)),
+        places_outside_the_cycle(rng, length).to_vec(),
+    ]
+    .concat()
+}
+
+/// States with an open frame of any opcode, one for each value that a change puts into it.
+fn spoilt_frames<T: Copy>(
+    rng: &mut Rng,
+    length: usize,
+    values: &[T],
+    change: impl Fn(&mut Frame, T),
+) -> Vec<Chip> {
     let mut states = Vec::new();
-    let mut push = |rng: &mut Rng, change: &dyn Fn(&mut Chip)| {
-        let opcode = any_opcode(rng);
-        states.push(spoilt_frame(rng, length, opcode, change));
-    };
-    for address in [1 << 24, (1 << 24) + 1, u32::MAX] {
-        push(rng, &|chip| chip.frame.address = address);
-    }
-    for place in [length as u32, length as u32 + 1, u32::MAX] {
-        push(rng, &|chip| chip.frame.read_place = place);
-    }
-    for count in [7, 8, 255] {
-        push(rng, &|chip| chip.frame.byte_count = count);
-    }
-    for judgement in [1, 2, 4, 8, 9, 10, 11, 12, 13, 255] {
-        push(rng, &|chip| chip.frame.judgement = Some(judgement));
-    }
-    for place in [CYCLE, CYCLE + 1, length as u32 - 1] {
-        states.push(spoilt_frame(rng, length, 0x9F, |chip| chip.frame.read_place = place));
+    for value in values {
+        states.push(spoilt_any_frame(rng, length, |chip| change(&mut chip.frame, *value)));
     }
     states
 }
 
+/// States with an open frame of 9Fh whose read place, though inside memory, is not in the cycle.
+fn places_outside_the_cycle(rng: &mut Rng, length: usize) -> [Chip; 3] {
+    let places = [CYCLE, CYCLE + 1, length as u32 - 1];
+    places.map(|place| spoilt_frame(rng, length, 0x9F, |chip| chip.frame.read_place = place))
+}
+
 /// States whose frame is not empty though they are unselected or have no byte.
 fn broken_empty_frames(rng: &mut Rng, length: usize) -> Vec<Chip> {
-    let changes: [fn(&mut Chip); 9] = [
-        |chip| chip.frame.opcode = 0x05,
-        |chip| chip.frame.opcode = 0xFF,
-        |chip| chip.frame.address = 1,
-        |chip| chip.frame.read_place = 1,
-        |chip| chip.frame.load_place = 1,
-        |chip| chip.frame.judgement = Some(6),
-        |chip| chip.frame.load[0] = 0,
-        |chip| chip.frame.load[128] = 0x7F,
-        |chip| chip.frame.load[255] = 0xFE,
-    ];
     let mut states = Vec::new();
     for selected in [false, true] {
-        for change in changes {
-            let class = any_class(rng);
-            let mut chip = legal_unselected(rng, length, class);
-            chip.selected = selected;
-            change(&mut chip);
-            states.push(chip);
-        }
+        states.extend(filled_empty_frames(rng, length, selected));
     }
     for count in 1..=6 {
         let mut chip = legal_unselected(rng, length, None);
         chip.frame.byte_count = count;
         states.push(chip);
     }
-    let opcode = any_opcode(rng);
-    states.push(spoilt_frame(rng, length, opcode, |chip| chip.selected = false));
+    states.push(spoilt_any_frame(rng, length, |chip| chip.selected = false));
     states
+}
+
+/// States without a byte whose frame has, in one place, what only a byte could have left there.
+fn filled_empty_frames(rng: &mut Rng, length: usize, selected: bool) -> [Chip; 9] {
+    let changes: [fn(&mut Frame); 9] = [
+        |frame| frame.opcode = 0x05,
+        |frame| frame.opcode = 0xFF,
+        |frame| frame.address = 1,
+        |frame| frame.read_place = 1,
+        |frame| frame.load_place = 1,
+        |frame| frame.judgement = Some(6),
+        |frame| frame.load[0] = 0,
+        |frame| frame.load[128] = 0x7F,
+        |frame| frame.load[255] = 0xFE,
+    ];
+    changes.map(|change| {
+        let class = any_class(rng);
+        let mut chip = legal_unselected(rng, length, class);
+        chip.selected = selected;
+        change(&mut chip.frame);
+        chip
+    })
 }
 
 /// A legal state that stays legal with a flag 0 and with it 1.
@@ -331,23 +363,36 @@ pub fn with_bad_flag(rng: &mut Rng, length: usize, flag: usize, byte: u8) -> (Ch
 
 /// States that are not legal and that the model has no room for; its chip is not legal in a near way.
 fn broken_images(rng: &mut Rng, length: usize) -> Vec<(Chip, Edit)> {
+    let mut states = unknown_jobs(rng, length).to_vec();
+    states.extend(places_above_32_bits(rng, length));
+    states.extend(flags_above_1(rng, length));
+    states
+}
+
+/// States with a job that is none of the five.
+fn unknown_jobs(rng: &mut Rng, length: usize) -> [(Chip, Edit); 4] {
+    let change = |chip: &mut Chip, job: &mut Job| {
+        chip.suspended = false;
+        job.place = u32::MAX;
+    };
+    let kinds = [6, 7, 128, 255];
+    kinds.map(|kind| (spoilt_job(rng, length, Class::Program, change), Edit::JobKind(kind)))
+}
+
+/// States with a read place that takes more than 32 bits.
+fn places_above_32_bits(rng: &mut Rng, length: usize) -> [(Chip, Edit); 4] {
+    [1 << 32, (1 << 32) + 2, 1 << 63, u64::MAX].map(|place| {
+        let chip = spoilt_any_frame(rng, length, |chip| chip.frame.read_place = u32::MAX);
+        (chip, Edit::Place(place))
+    })
+}
+
+/// States with a flag that is a byte above 1, every flag in some ways.
+fn flags_above_1(rng: &mut Rng, length: usize) -> Vec<(Chip, Edit)> {
     let mut states = Vec::new();
-    for number in [6, 7, 128, 255] {
-        let change = |chip: &mut Chip, job: &mut Job| {
-            chip.suspended = false;
-            job.place = u32::MAX;
-        };
-        states.push((spoilt_job(rng, length, Class::Program, change), Edit::JobKind(number)));
-    }
-    for place in [1 << 32, (1 << 32) + 2, 1 << 63, u64::MAX] {
-        let opcode = any_opcode(rng);
-        let chip = spoilt_frame(rng, length, opcode, |chip| chip.frame.read_place = u32::MAX);
-        states.push((chip, Edit::Place(place)));
-    }
     for flag in 0..FLAGS.len() {
-        for byte in [2, 3, 255, 2 << rng.below(7), rng.byte().max(2)] {
-            states.push(with_bad_flag(rng, length, flag, byte));
-        }
+        let bytes = [2, 3, 255, 2 << rng.below(7), rng.byte().max(2)];
+        states.extend(bytes.map(|byte| with_bad_flag(rng, length, flag, byte)));
     }
     states
 }
@@ -358,17 +403,17 @@ pub fn broken(rng: &mut Rng, length: usize) -> Vec<(usize, Chip, Edit)> {
     states.extend(broken_jobs(rng, length));
     states.extend(broken_frames(rng, length));
     states.extend(broken_empty_frames(rng, length));
-    let mut list = Vec::new();
-    for chip in states {
-        let broken: Vec<usize> =
-            (0..RULES.len()).filter(|rule| !RULES[*rule].1(&chip, length)).collect();
-        assert_eq!(broken.len(), 1, "a state that breaks not one rule alone: {broken:?} {chip:?}");
-        list.push((broken[0], chip, Edit::None));
-    }
-    for (chip, edit) in broken_images(rng, length) {
-        list.push((rule_of(&edit), chip, edit));
-    }
-    list
+    let edited = broken_images(rng, length);
+    let plain = states.into_iter().map(|chip| (broken_rule(&chip, length), chip, Edit::None));
+    plain.chain(edited.into_iter().map(|(chip, edit)| (rule_of(&edit), chip, edit))).collect()
+}
+
+/// The number of the one rule that a chip breaks.
+fn broken_rule(chip: &Chip, length: usize) -> usize {
+    let broken: Vec<usize> =
+        (0..RULES.len()).filter(|rule| !RULES[*rule].1(chip, length)).collect();
+    assert_eq!(broken.len(), 1, "a state that breaks not one rule alone: {broken:?} {chip:?}");
+    broken[0]
 }
 
 /// The number of the rule that an edit breaks.

@@ -1,21 +1,21 @@
 // Cases in words, for the report of a difference.
 
 use crate::case::{room, Case, Start, Step};
-use crate::event::{events_of, Event};
+use crate::event::{events_of, kind, Event};
 use crate::image::BLANK;
 
 /// One event in words.
 fn event_words((kind, body): Event) -> String {
     match (kind, body) {
-        (1, _) => "select".to_string(),
-        (2, 0..=255) => format!("exchange {body:02X}h"),
-        (3, _) => "deselect".to_string(),
-        (4, _) => "tick".to_string(),
-        (5, 1..=65_535) => format!("{body} ticks"),
-        (6, 0) => "WP low".to_string(),
-        (6, 1) => "WP high".to_string(),
-        (7, _) => "power cut".to_string(),
-        (8, 1..=7) => format!("loose deselect, {body} bits"),
+        (kind::SELECT, _) => "select".to_string(),
+        (kind::EXCHANGE, 0..=255) => format!("exchange {body:02X}h"),
+        (kind::DESELECT, _) => "deselect".to_string(),
+        (kind::TICK, _) => "tick".to_string(),
+        (kind::TICKS, 1..=65_535) => format!("{body} ticks"),
+        (kind::WP_LEVEL, 0) => "WP low".to_string(),
+        (kind::WP_LEVEL, 1) => "WP high".to_string(),
+        (kind::POWER_CUT, _) => "power cut".to_string(),
+        (kind::LOOSE_DESELECT, 1..=7) => format!("loose deselect, {body} bits"),
         _ => format!("event of kind {kind:X}h with body {body:X}h"),
     }
 }

@@ -20,20 +20,10 @@
 //!
 //! Bad text gives no bytes, one line on standard error (`line N: reason`) and exit status 1.
 
+mod kind;
+
 use std::io::{self, Read, Write};
 use std::process::ExitCode;
-
-/// The kinds of event a script is made of.
-mod kind {
-    pub const SELECT: u8 = 0x01;
-    pub const EXCHANGE: u8 = 0x02;
-    pub const DESELECT: u8 = 0x03;
-    pub const TICK: u8 = 0x04;
-    pub const TICKS: u8 = 0x05;
-    pub const WP_LEVEL: u8 = 0x06;
-    pub const POWER_CUT: u8 = 0x07;
-    pub const LOOSE_DESELECT: u8 = 0x08;
-}
 
 /// The largest count of ticks, reads and repeats.
 const LARGEST_COUNT: usize = 65_535;
@@ -81,14 +71,14 @@ fn words_of_line(line: &str) -> Vec<&str> {
 /// The script bytes of one line's words, none of them a repeat.
 fn events_of_words(words: &[&str]) -> Result<Vec<u8>, String> {
     match words {
-        ["select"] => Ok(vec![kind::SELECT]),
-        ["deselect"] => Ok(vec![kind::DESELECT]),
-        ["tick"] => Ok(vec![kind::TICK]),
-        ["power"] => Ok(vec![kind::POWER_CUT]),
-        ["wp", "low"] => Ok(vec![kind::WP_LEVEL, 0]),
-        ["wp", "high"] => Ok(vec![kind::WP_LEVEL, 1]),
+        ["select"] => Ok(event(kind::SELECT, &[])),
+        ["deselect"] => Ok(event(kind::DESELECT, &[])),
+        ["tick"] => Ok(event(kind::TICK, &[])),
+        ["power"] => Ok(event(kind::POWER_CUT, &[])),
+        ["wp", "low"] => Ok(event(kind::WP_LEVEL, &[0])),
+        ["wp", "high"] => Ok(event(kind::WP_LEVEL, &[1])),
         ["ticks", count] => Ok(ticks(number(count, LARGEST_COUNT)? as u16)),
-        ["loose", bits] => Ok(vec![kind::LOOSE_DESELECT, number(bits, LARGEST_BITS)? as u8]),
+        ["loose", bits] => Ok(event(kind::LOOSE_DESELECT, &[number(bits, LARGEST_BITS)? as u8])),
         ["send", bytes @ ..] if !bytes.is_empty() => exchanges(bytes),
         ["frame", bytes @ ..] if !bytes.is_empty() => frame(bytes),
         ["bytes", bytes @ ..] if !bytes.is_empty() => bytes.iter().map(|word| byte(word)).collect(),
@@ -97,10 +87,14 @@ fn events_of_words(words: &[&str]) -> Result<Vec<u8>, String> {
     }
 }
 
+/// The script bytes of an event: its kind, which is one byte there, and its body.
+fn event(kind: u64, body: &[u8]) -> Vec<u8> {
+    [&[kind as u8], body].concat()
+}
+
 /// The event of that many ticks, high byte first.
 fn ticks(count: u16) -> Vec<u8> {
-    let [high, low] = count.to_be_bytes();
-    vec![kind::TICKS, high, low]
+    event(kind::TICKS, &count.to_be_bytes())
 }
 
 /// One exchange for each byte, and as many more of the filler as a last word `+N` says.
@@ -111,18 +105,15 @@ fn exchanges(words: &[&str]) -> Result<Vec<u8>, String> {
     };
     let mut script = Vec::new();
     for word in sent {
-        script.extend([kind::EXCHANGE, byte(word)?]);
+        script.extend(event(kind::EXCHANGE, &[byte(word)?]));
     }
-    script.extend([kind::EXCHANGE, FILLER].repeat(more));
+    script.extend(event(kind::EXCHANGE, &[FILLER]).repeat(more));
     Ok(script)
 }
 
 /// A select, the exchanges and a deselect.
 fn frame(words: &[&str]) -> Result<Vec<u8>, String> {
-    let mut script = vec![kind::SELECT];
-    script.extend(exchanges(words)?);
-    script.push(kind::DESELECT);
-    Ok(script)
+    Ok([event(kind::SELECT, &[]), exchanges(words)?, event(kind::DESELECT, &[])].concat())
 }
 
 /// The byte that two hex digits name.
