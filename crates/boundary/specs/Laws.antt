@@ -131,8 +131,8 @@ flags-back c h =
       selected = flag-again (f .selected) (t .7) i;
     }
 
--- and so does the number of its job's kind: each number from 0 to 5 means a kind of its own
-pub kind-again : (kind value : ℕ) → leb kind 5 ≡ true → kindNumber (kindOf kind value) ≡ kind
+-- each number from 0 to 5 means a kind of its own
+kind-again : (kind value : ℕ) → leb kind 5 ≡ true → kindNumber (kindOf kind value) ≡ kind
 unfolding kindOf
 kind-again kind value h = go (decLt kind 1) (decLt kind 2) (decLt kind 3) (decLt kind 4) (decLt kind 5)
   where
@@ -149,6 +149,12 @@ kind-again kind value h = go (decLt kind 1) (decLt kind 2) (decLt kind 3) (decLt
     go (no _) (no _) (no l) (yes u) _ = at 3 (omega (arith, l, u)) refl
     go (no _) (no _) (no _) (no l) (yes u) = at 4 (omega (arith, l, u)) refl
     go (no _) (no _) (no _) (no _) (no l) = at 5 (omega (arith, l, leb-true kind 5 h)) refl
+
+-- so the number of its job's kind comes back too, and a number that is no kind's is no state
+pub kind-number-back : (c : ChipNumbers) → isState c ≡ true → numbersOf (chipOf c) .kind ≡ c .kind
+unfolding isStateOf chipOf numbersOf
+kind-number-back c h = let f = c .flags in
+    kind-again (c .kind) (c .value) (and-right (leb (f .tb) 1 && leb (f .srwp) 1 && leb (f .wen) 1 && leb (f .suspended) 1 && leb (f .wp) 1 && leb (f .deep) 1 && leb (f .armed) 1 && leb (f .selected) 1) (leb (c .kind) 5) h)
 
 -- ---- an answer as numbers
 
