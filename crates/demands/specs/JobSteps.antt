@@ -7,11 +7,11 @@ use mathlib.Core.Path.{_≡_, refl, sym, ap, subst, _∙_}
 use mathlib.Core.Logic.{_⊎_, inl, inr, ⊎-elim}
 use native.Mathlib.Nat.{add-zero}
 use native.Mathlib.Numerals.{add-one}
-use native.Mathlib.Decide.{decLt, ℕ-discrete}
+use native.Mathlib.Decide.{decLt}
 use native.Mathlib.Omega.{arith}
 use lib.Dec.{eqb}
-use borrow.Author.Tests.{eq-eqb, ne-eqb}
-use Rattle.cells.specs.Choice.{cond-either, cond-yes, cond-no, and-both}
+use borrow.Author.Tests.{eq-eqb}
+use Rattle.cells.specs.Choice.{cond-either, and-both}
 use Rattle.cells.specs.Stepping.{Steps, laid, Machine}
 use Rattle.part.specs.Part.{Setting}
 use Rattle.commands.specs.Table.{reset}

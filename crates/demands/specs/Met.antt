@@ -3,6 +3,7 @@ use Prim.Native.Nat.{ℕ}
 use mathlib.Core.Bool.{true}
 use mathlib.Core.List.{List, [], _∷_}
 use mathlib.Core.Path.{_≡_, refl}
+use lib.ListN.{replicate}
 use Rattle.part.specs.Part.{permitted}
 use Rattle.commands.specs.Table.{isProgram}
 use Rattle.chip.specs.declared.Chip.{Chip}
@@ -13,6 +14,7 @@ use Rattle.legal.specs.Legal.{legalJob, legalCore, legalFrame, isEmpty, isBlank
 use Rattle.frame.specs.Frame.{readsCell, takesData}
 use Rattle.kinds.specs.Kinds.{SELECT, EXCHANGE, DESELECT, TICK, WP, knownIn, kindRowIn, knownKind, kindRow}
 use Rattle.event.specs.Alone.{refusal}
+use Rattle.script.specs.Run as Run
 use Rattle.script.specs.Script.{faultAt, eventAt, walk, eventsFrom, events, firstBad, room}
 
 -- a frame of that opcode with so many bytes, selected and not judged
@@ -36,6 +38,11 @@ frames-met = (refl, refl, refl)
 pub refusals-met : (refusal (fresh 0x00) 65537 TICK 0 ≡ 1) × (refusal counted-to-7 65536 TICK 0 ≡ 2) × (refusal (fresh 0x00) 65536 9 0 ≡ 5) × (refusal (fresh 0x00) 65536 EXCHANGE 256 ≡ 6) × (refusal (fresh 0x00) 65536 TICK 0 ≡ 0)
 unfolding refusal legal legalCore legalJob legalFrame isEmpty isBlank permitted fresh knownKind knownIn kindRow kindRowIn
 refusals-met = (refl, refl, refl, refl, refl)
+
+-- `run-refused-when`: so does each number of a run; 65,537 ticks are too many bytes, and a deselect needs two of output
+pub run-refusals-met : (Run.refusal (fresh 0x00) 65537 [] 0 .number ≡ 1) × (Run.refusal counted-to-7 65536 [] 0 .number ≡ 2) × (Run.refusal (fresh 0x00) 65536 (replicate 65537 TICK) 0 .number ≡ 3) × (Run.refusal (fresh 0x00) 65536 (DESELECT ∷ []) 1 .number ≡ 7) × (Run.refusal (fresh 0x00) 65536 (DESELECT ∷ []) 2 .number ≡ 0)
+unfolding Run.refusal firstBad room eventsFrom walk faultAt legal legalCore legalJob legalFrame isEmpty isBlank permitted fresh knownKind knownIn kindRow kindRowIn
+run-refusals-met = (refl, refl, refl, refl, refl)
 
 -- `pieces`, `first-bad-decides`: a script without a bad event, and one for each fault
 pub scripts-met : (firstBad (events (SELECT ∷ EXCHANGE ∷ 0x06 ∷ DESELECT ∷ [])) .number ≡ 0) × (firstBad (events (TICK ∷ EXCHANGE ∷ [])) .number ≡ 4) × (firstBad (events (TICK ∷ 9 ∷ [])) .number ≡ 5) × (firstBad (events (WP ∷ 2 ∷ [])) .number ≡ 6)

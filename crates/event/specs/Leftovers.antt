@@ -21,7 +21,7 @@ use Rattle.chip.specs.Job.{isJob, hasLoad, noJob}
 use Rattle.chip.specs.Chip.{blankLoad, fresh, running, NoLeftovers}
 use Rattle.legal.specs.Legal.{legal, judgementKnown}
 use Rattle.legal.specs.Legality.{chip-facts}
-use Rattle.job.specs.Tick.{endedAs, ticksCore, ticksLoad, ticksLeft}
+use Rattle.job.specs.Tick.{ticksCore, ticksLoad, ticksLeft}
 use Rattle.job.specs.Laws.{ticks-rest, ticksLoad-rest, ticks-go, ticksLoad-go, ticks-over, ticksLoad-over, ended-none}
 use Rattle.job.specs.Legality.{running-job}
 use Rattle.verdict.specs.Verdict.{jobOf, jobAsked, verdict}

@@ -1,5 +1,4 @@
 -- `report` goes by the script's length: too long, only that line, else the run's text; either stands at the start of the text.
-use Prim.Native.Nat.{_*_}
 use mathlib.Core.Path.{sym, ap, _∙_}
 use native.Mathlib.Omega.{arith}
 use lib.ListN.{replicate}

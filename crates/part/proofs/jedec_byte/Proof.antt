@@ -1,6 +1,6 @@
 -- `part::jedec_byte` meets its contract. Inside the cycle the array's byte; past its end the list's default.
 use lib.ListN.{List·getD-eq-default}
-use mathlib.Core.List.{List, [], _∷_}
+use mathlib.Core.List.{[], _∷_}
 use mathlib.Core.Path.{sym}
 use borrow.Author.Needs.{needs}
 use Rattle.part.proofs.jedec_byte.Statement.{statement}
