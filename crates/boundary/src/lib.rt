@@ -7,7 +7,7 @@
 ghost use mathlib.Core.Path.{_≡_};
 ghost use Rattle.chip.specs.Chip.{fresh};
 ghost use Rattle.boundary.specs.Numbers.{kindOf, kindNumber, kindValue, flagNumber, isStateOf, chipOf, numbersOf, legalNumbers};
-ghost use Rattle.boundary.specs.Answers.{padded, noState, refusedEvent, doneEvent, eventNumbers, eventOf, eventMemory, refusedRun, doneRun, runNumbers, runOf, runMemory, runOutput};
+ghost use Rattle.boundary.specs.Answers.{padded, noState, refusedEvent, doneEvent, eventOf, eventMemory, refusedRun, doneRun, runOf, runMemory, runOutput};
 use chip::Chip;
 use chip::Core;
 use chip::Frame;
@@ -259,16 +259,6 @@ fn event_done(a: Answer) -> EventNumbers
     }
 }
 
-// An event's answer as numbers: refused, the chip's are those given.
-fn event_numbers(given: ChipNumbers, a: Answer) -> EventNumbers
-    ensures { λ r. ⌜ r ≡ eventNumbers given a ⌝ }
-{
-    if a.refusal != 0 {
-        return refuse_event(given, a.refusal);
-    }
-    event_done(a)
-}
-
 fn refuse_run(given: ChipNumbers, number: u8, offset: usize) -> RunNumbers
     ensures { λ r. ⌜ r ≡ refusedRun given number offset ⌝ }
 {
@@ -292,16 +282,6 @@ fn run_done(a: Ran) -> RunNumbers
         written: a.written,
         ticks: a.ticks,
     }
-}
-
-// A run's answer as numbers: refused, the chip's are those given.
-fn run_numbers(given: ChipNumbers, a: Ran) -> RunNumbers
-    ensures { λ r. ⌜ r ≡ runNumbers given a ⌝ }
-{
-    if a.refusal != 0 {
-        return refuse_run(given, a.refusal, a.offset);
-    }
-    run_done(a)
 }
 
 // The numbers of a fresh chip, from any status byte.
@@ -331,7 +311,11 @@ pub extern "C" fn chip_event(c: ChipNumbers, mem: &mut [u8], kind: u64, body: u6
     if !is_state(c.flags, c.kind) {
         return refuse_event(c, no_state(mem.len()));
     }
-    event_numbers(c, event::event(chip_of(c), mem, kind, body))
+    let a = event::event(chip_of(c), mem, kind, body);
+    if a.refusal != 0 {
+        return refuse_event(c, a.refusal);
+    }
+    event_done(a)
 }
 
 // The same event, on a chip that is lent.
@@ -347,7 +331,11 @@ pub extern "C" fn chip_event_lent(
     if !is_state(c.flags, c.kind) {
         return refuse_event(c, no_state(mem.len()));
     }
-    event_numbers(c, lent::event_by_lending(chip_of(c), mem, kind, body))
+    let a = lent::event_by_lending(chip_of(c), mem, kind, body);
+    if a.refusal != 0 {
+        return refuse_event(c, a.refusal);
+    }
+    event_done(a)
 }
 
 // A script run, for every state, memory, script and output.
@@ -365,5 +353,9 @@ pub extern "C" fn chip_run(
     if !is_state(c.flags, c.kind) {
         return refuse_run(c, no_state(mem.len()), 0);
     }
-    run_numbers(c, script::run(chip_of(c), mem, script, out))
+    let a = script::run(chip_of(c), mem, script, out);
+    if a.refusal != 0 {
+        return refuse_run(c, a.refusal, a.offset);
+    }
+    run_done(a)
 }

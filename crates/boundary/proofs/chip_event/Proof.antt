@@ -1,9 +1,9 @@
--- `boundary::chip_event` meets its contract. Numbers that are no state are refused first; otherwise the event answers for the chip that they mean.
+-- `boundary::chip_event` meets its contract. Numbers that are no state are refused first; otherwise the event answers for the chip that they mean, refused or done.
 use mathlib.Core.Path.{sym, _∙_, _≡_}
 use mathlib.Core.Bool.{true, false}
 use borrow.Author.Tests.{not-true, not-false}
 use Rattle.boundary.specs.Numbers.{isState}
-use Rattle.boundary.specs.Laws.{event-no-state, event-memory-no-state, event-state, event-memory-state}
+use Rattle.boundary.specs.Laws.{event-refused, event-done, event-no-state, event-memory-no-state, event-state, event-memory-state}
 use borrow.Author.Needs.{needs}
 use Rattle.boundary.proofs.chip_event.Statement.{statement}
 use Rattle.boundary.proofs.chip_event.Tie as tie
@@ -28,17 +28,30 @@ chip-of-requires c κs = search needs
 event-requires : tie.Need-event-requires
 event-requires c κs = search needs
 
-event-numbers-requires : tie.Need-event-numbers-requires
-event-numbers-requires c κs = search needs
+refuse-event-requires-2 : tie.Need-refuse-event-requires-2
+refuse-event-requires-2 c κs = search needs
 
 same-length : tie.Need-same-length
 same-length c = search needs
 
 returns-2 : tie.Need-returns-2
 returns-2 c =
-    let is : isState (c .before .before .before .before .before .before .before .before .before .args .c) ≡ true = sym (c .before .before .before .before .before .before .before .is-state .ensures) ∙ not-false _ (c .before .before .before .before .before .before .if1 .left) in (
-      event-state _ _ _ _ _ _ _ is (c .before .before .before .before .before .chip-of .ensures) (c .before .before .before .event .ensures .0) (c .event-numbers .ensures),
-      event-memory-state _ _ _ _ _ _ is (c .before .before .before .before .before .chip-of .ensures) (c .before .before .before .event .ensures .1),
+    let is : isState (c .before .before .before .before .before .before .before .before .before .before .before .args .c) ≡ true = sym (c .before .before .before .before .before .before .before .before .before .is-state .ensures) ∙ not-false _ (c .before .before .before .before .before .before .before .before .if1 .left) in (
+      event-state _ _ _ _ _ _ _ is (c .before .before .before .before .before .before .before .chip-of .ensures) (c .before .before .before .before .before .event .ensures .0) (c .refuse-event2 .ensures ∙ sym (event-refused _ _ (c .before .if2 .taken))),
+      event-memory-state _ _ _ _ _ _ is (c .before .before .before .before .before .before .before .chip-of .ensures) (c .before .before .before .before .before .event .ensures .1),
+    )
+
+event-done-requires : tie.Need-event-done-requires
+event-done-requires c κs = search needs
+
+same-length-2 : tie.Need-same-length-2
+same-length-2 c = search needs
+
+returns-3 : tie.Need-returns-3
+returns-3 c =
+    let is : isState (c .before .before .before .before .before .before .before .before .before .before .before .args .c) ≡ true = sym (c .before .before .before .before .before .before .before .before .before .is-state .ensures) ∙ not-false _ (c .before .before .before .before .before .before .before .before .if1 .left) in (
+      event-state _ _ _ _ _ _ _ is (c .before .before .before .before .before .before .before .chip-of .ensures) (c .before .before .before .before .before .event .ensures .0) (c .event-done .ensures ∙ sym (event-done _ _ (c .before .if2 .left))),
+      event-memory-state _ _ _ _ _ _ is (c .before .before .before .before .before .before .before .chip-of .ensures) (c .before .before .before .before .before .event .ensures .1),
     )
 
 pub chip-event-spec : {M : Type 1} → statement M
@@ -51,6 +64,9 @@ chip-event-spec =
     returns
     chip-of-requires
     event-requires
-    event-numbers-requires
+    refuse-event-requires-2
     same-length
-    returns-2)
+    returns-2
+    event-done-requires
+    same-length-2
+    returns-3)
