@@ -1,10 +1,11 @@
--- A refusal touches nothing (RULES, Refusals): an answer that refuses has exactly the numbers that were given, the free ones too.
+-- A refusal touches nothing (RULES, Refusals): an answer that refuses has exactly the numbers that were given, the free ones too. And which number refuses what is no state.
 use Prim.Native.Nat.{ℕ}
-use mathlib.Core.Bool.{true}
+use mathlib.Core.Bool.{true, false}
 use mathlib.Core.List.{List}
 use mathlib.Core.Path.{_≡_, refl, sym, ap, _∙_}
 use lib.ListN.{length}
-use Rattle.cells.specs.Choice.{cond-either, chosen-number}
+use Rattle.cells.specs.Choice.{cond-yes, cond-no, cond-either, chosen-number}
+use Rattle.part.specs.Part.{permitted}
 use Rattle.event.specs.declared.Answer.{Answer}
 use Rattle.event.specs.Alone as alone
 use Rattle.event.specs.Laws as alone-laws
@@ -15,8 +16,8 @@ use Rattle.boundary.specs.declared.ChipNumbers.{ChipNumbers}
 use Rattle.boundary.specs.declared.EventNumbers.{EventNumbers}
 use Rattle.boundary.specs.declared.RunNumbers.{RunNumbers}
 use Rattle.boundary.specs.Numbers.{isState, chipOf}
-use Rattle.boundary.specs.Answers.{refusedEvent, doneEvent, eventNumbers, eventOf, eventMemory, refusedRun, doneRun, runNumbers, runOf, runMemory, runOutput}
-use Rattle.boundary.specs.Laws.{event-state, event-refused, run-state, run-refused}
+use Rattle.boundary.specs.Answers.{noState, refusedEvent, doneEvent, eventNumbers, eventOf, eventMemory, refusedRun, doneRun, runNumbers, runOf, runMemory, runOutput}
+use Rattle.boundary.specs.Laws.{event-no-state, event-state, event-refused, run-no-state, run-state, run-refused}
 
 -- the number in an answer's numbers is the answer's
 event-number : (c : ChipNumbers) (a : Answer) → eventNumbers c a .refusal ≡ a .refusal
@@ -65,3 +66,25 @@ module _ (c : ChipNumbers) (m s out : List ℕ) (no : runOf c m s out .refusal �
   unfolding runOutput
   run-output-as-given =
       cond-either (λ (o : List ℕ). o ≡ out) (isState c) _ _ (λ is. script-laws.output-refused (chipOf c) m s out (run-refused-inside is)) (λ _. refl)
+
+-- ---- numbers that are no state
+
+-- they are refused by 2, but by 1 where the memory is no part's (RULES, Legal states)
+no-state-wrong-length : (n : ℕ) → permitted n ≡ false → noState n ≡ 1
+unfolding noState
+no-state-wrong-length n h = cond-no (permitted n) 2 1 h
+
+no-state-right-length : (n : ℕ) → permitted n ≡ true → noState n ≡ 2
+unfolding noState
+no-state-right-length n h = cond-yes (permitted n) 2 1 h
+
+module _ (c : ChipNumbers) (over : isState c ≡ false) (m : List ℕ) where
+  pub no-state-event : (kind body : ℕ) → (permitted (length m) ≡ true → eventOf c m kind body .refusal ≡ 2) × (permitted (length m) ≡ false → eventOf c m kind body .refusal ≡ 1)
+  no-state-event kind body =
+      let number : noState (length m) ≡ eventOf c m kind body .refusal = ap (λ (r : EventNumbers). r .refusal) (event-no-state c m kind body _ _ over refl refl) in
+      (λ h. sym number ∙ no-state-right-length _ h, λ h. sym number ∙ no-state-wrong-length _ h)
+
+  pub no-state-run : (s out : List ℕ) → (permitted (length m) ≡ true → runOf c m s out .refusal ≡ 2) × (permitted (length m) ≡ false → runOf c m s out .refusal ≡ 1)
+  no-state-run s out =
+      let number : noState (length m) ≡ runOf c m s out .refusal = ap (λ (r : RunNumbers). r .refusal) (run-no-state c m s out _ _ over refl refl) in
+      (λ h. sym number ∙ no-state-right-length _ h, λ h. sym number ∙ no-state-wrong-length _ h)

@@ -9,7 +9,8 @@ use Rattle.chip.specs.declared.Chip.{Chip}
 use Rattle.chip.specs.declared.Core.{Core}
 use Rattle.chip.specs.declared.Frame.{Frame}
 use Rattle.chip.specs.Fields.{withLevel, withTb, withSrwp}
-use Rattle.chip.specs.Job.{isJob, hasLoad, noJob}
+use Rattle.chip.specs.declared.JobKind.the-variants.{Idle, Program}
+use Rattle.chip.specs.Job.{isJob, noJob}
 
 -- the chip of its four parts: core, frame, the frame's load, the job's load
 abbrev pub whole : Core → Frame → List ℕ → List ℕ → Chip
@@ -59,5 +60,5 @@ statusByte k =
 
 -- nothing is left of a gone job: only a program holds a load, and no job has a start or steps (RULES, Jobs)
 pub record NoLeftovers (k : Core) (held : List ℕ) : Type 0 where
-  pub load-blank : hasLoad (k .job .kind) ≡ false → held ≡ blankLoad
-  pub job-none : isJob (k .job .kind) ≡ false → k .job ≡ noJob
+  pub load-blank : (k .job .kind ≡ Program → ⊥) → held ≡ blankLoad
+  pub job-none : k .job .kind ≡ Idle → k .job ≡ noJob

@@ -26,15 +26,6 @@ hasCells SmallErase = true
 hasCells SectorErase = true
 hasCells ChipErase = true
 
--- whether the job holds a load: a program does
-abbrev pub hasLoad : JobKind → Bool
-hasLoad Idle = false
-hasLoad (WriteStatus value) = false
-hasLoad Program = true
-hasLoad SmallErase = false
-hasLoad SectorErase = false
-hasLoad ChipErase = false
-
 -- the number of cells of a job on a part of S sectors, which is its size
 abbrev pub span : JobKind → ℕ → ℕ
 span Idle S = 0

@@ -39,6 +39,21 @@ pub refusals-met : (refusal (fresh 0x00) 65537 TICK 0 ≡ 1) × (refusal counted
 unfolding refusal legal legalCore legalJob legalFrame isEmpty isBlank permitted fresh knownKind knownIn kindRow kindRowIn
 refusals-met = (refl, refl, refl, refl, refl)
 
+-- an event alone, by what refuses it on a fresh state of the smallest part
+abbrev refuses : ℕ → ℕ → ℕ
+refuses kind body = refusal (fresh 0x00) 65536 kind body
+
+-- the least and the greatest body of each kind are taken, and what lies next to them is not (RULES, Events)
+pub ranges-met : (refuses 0x02 0 ≡ 0) × (refuses 0x02 255 ≡ 0) × (refuses 0x02 256 ≡ 6) × (refuses 0x05 0 ≡ 6) × (refuses 0x05 1 ≡ 0) × (refuses 0x05 65535 ≡ 0) × (refuses 0x05 65536 ≡ 6)
+    × (refuses 0x06 0 ≡ 0) × (refuses 0x06 1 ≡ 0) × (refuses 0x06 2 ≡ 6) × (refuses 0x08 0 ≡ 6) × (refuses 0x08 1 ≡ 0) × (refuses 0x08 7 ≡ 0) × (refuses 0x08 8 ≡ 6)
+unfolding refusal legal legalCore legalJob legalFrame isEmpty isBlank permitted fresh knownKind knownIn kindRow kindRowIn
+ranges-met = (refl, refl, refl, refl, refl, refl, refl, refl, refl, refl, refl, refl, refl, refl)
+
+-- a kind without a body takes any number for one, and no number beside 1 to 8 is a kind (RULES, Events)
+pub bodiless-met : (body : ℕ) → (refuses 0x01 body ≡ 0) × (refuses 0x03 body ≡ 0) × (refuses 0x04 body ≡ 0) × (refuses 0x07 body ≡ 0) × (refuses 0x00 body ≡ 5) × (refuses 0x09 body ≡ 5) × (refuses 0x101 body ≡ 5)
+unfolding refusal legal legalCore legalJob legalFrame isEmpty isBlank permitted fresh knownKind knownIn kindRow kindRowIn
+bodiless-met body = (refl, refl, refl, refl, refl, refl, refl)
+
 -- `run-refused-when`: so does each number of a run; 65,537 ticks are too many bytes, and a deselect needs two of output
 pub run-refusals-met : (Run.refusal (fresh 0x00) 65537 [] 0 .number ≡ 1) × (Run.refusal counted-to-7 65536 [] 0 .number ≡ 2) × (Run.refusal (fresh 0x00) 65536 (replicate 65537 TICK) 0 .number ≡ 3) × (Run.refusal (fresh 0x00) 65536 (DESELECT ∷ []) 1 .number ≡ 7) × (Run.refusal (fresh 0x00) 65536 (DESELECT ∷ []) 2 .number ≡ 0)
 unfolding Run.refusal firstBad room eventsFrom walk faultAt legal legalCore legalJob legalFrame isEmpty isBlank permitted fresh knownKind knownIn kindRow kindRowIn
@@ -53,7 +68,7 @@ scripts-met = (refl, refl, refl, refl)
 abbrev each-kind : List ℕ
 each-kind = 0x01 ∷ 0x02 ∷ 0x9F ∷ 0x03 ∷ 0x04 ∷ 0x05 ∷ 0x01 ∷ 0x02 ∷ 0x06 ∷ 0x01 ∷ 0x07 ∷ 0x08 ∷ 0x07 ∷ []
 
--- nothing is wrong with it; it has an exchange and two deselects to say, of two bytes each; and the ends of the ranges (RULES, Refusals)
-pub kinds-met : (firstBad (events each-kind) .number ≡ 0) × (room (events each-kind) ≡ 6) × (eventAt each-kind 5 .body ≡ 258) × (firstBad (events (0x05 ∷ 0 ∷ 0 ∷ [])) .number ≡ 6) × (firstBad (events (0x08 ∷ 0 ∷ [])) .number ≡ 6) × (firstBad (events (0x08 ∷ 8 ∷ [])) .number ≡ 6)
+-- nothing is wrong with it; it has an exchange and two deselects to say, of two bytes each (RULES, Refusals)
+pub kinds-met : (firstBad (events each-kind) .number ≡ 0) × (room (events each-kind) ≡ 6) × (eventAt each-kind 5 .body ≡ 258)
 unfolding firstBad room eventsFrom walk faultAt knownKind knownIn kindRow kindRowIn
-kinds-met = (refl, refl, refl, refl, refl, refl)
+kinds-met = (refl, refl, refl)

@@ -10,14 +10,15 @@ use borrow.Author.Tests.{eq-eqb, ne-eqb}
 use Rattle.cells.specs.Choice.{cond-yes, cond-no, cond-either, not-so}
 use Rattle.part.specs.Part.{Setting}
 use Rattle.commands.specs.Table.{isProgram, writeStatus, reset}
+use Rattle.kinds.specs.Kinds.{POWER}
 use Rattle.chip.specs.declared.Chip.{Chip}
 use Rattle.chip.specs.declared.Core.{Core}
 use Rattle.chip.specs.declared.Frame.{Frame}
 use Rattle.chip.specs.declared.Job.{Job}
 use Rattle.chip.specs.declared.JobKind.{JobKind}
-use Rattle.chip.specs.declared.JobKind.the-variants.{Program}
+use Rattle.chip.specs.declared.JobKind.the-variants.{Idle, Program}
 use Rattle.chip.specs.Fields.{withDone}
-use Rattle.chip.specs.Job.{isJob, hasLoad, noJob}
+use Rattle.chip.specs.Job.{isJob, noJob}
 use Rattle.chip.specs.Chip.{blankLoad, fresh, running, NoLeftovers}
 use Rattle.legal.specs.Legal.{legal, judgementKnown}
 use Rattle.legal.specs.Legality.{chip-facts}
@@ -35,7 +36,7 @@ pub data Fate (j : Job) (held : List ℕ) : Job → List ℕ → Type 0 where
   stays : Fate j held j held
   gone : Fate j held noJob blankLoad
   moves : (done : ℕ) → isJob (j .kind) ≡ true → Fate j held (withDone done j) held
-  begins : (j′ : Job) (held′ : List ℕ) → isJob (j′ .kind) ≡ true → (hasLoad (j′ .kind) ≡ false → held′ ≡ blankLoad) → Fate j held j′ held′
+  begins : (j′ : Job) (held′ : List ℕ) → isJob (j′ .kind) ≡ true → ((j′ .kind ≡ Program → ⊥) → held′ ≡ blankLoad) → Fate j held j′ held′
 
 -- ---- ticks
 
@@ -57,18 +58,14 @@ ticks-fate S n k held = go (running k) refl (decLt n (ticksLeft S k))
 
 -- ---- a deselect
 
--- an opcode that asks for a job without a load is no program
-no-load-no-program : (opcode address : ℕ) → hasLoad (jobOf opcode address) ≡ false → isProgram opcode ≡ false
+-- an opcode that asks for a job other than a program is no program's
+no-program : (opcode address : ℕ) → (jobOf opcode address ≡ Program → ⊥) → isProgram opcode ≡ false
 unfolding jobOf isProgram
-no-load-no-program opcode address h = go (ℕ-discrete opcode writeStatus)
+no-program opcode address other = go (ℕ-discrete opcode writeStatus)
   where
-    rest : (p : Bool) (k : JobKind) → hasLoad (cond p Program k) ≡ false → p ≡ false
-    rest true k e = e
-    rest false k e = refl
-
     go : Dec (opcode ≡ writeStatus) → isProgram opcode ≡ false
     go (yes e) = ap isProgram e
-    go (no n) = rest (isProgram opcode) _ (ap hasLoad (sym (cond-no (eqb opcode writeStatus) _ _ (ne-eqb _ _ n))) ∙ h)
+    go (no n) = not-so (isProgram opcode) (λ p. other (cond-no (eqb opcode writeStatus) _ _ (ne-eqb _ _ n) ∙ cond-yes (isProgram opcode) _ _ p))
 
 module _ (S : ℕ) (k : Core) (f : Frame) (loose : Bool) (known : judgementKnown (f .judgement) ≡ true) (load held : List ℕ) where
   abbrev v : ℕ
@@ -90,21 +87,22 @@ module _ (S : ℕ) (k : Core) (f : Frame) (loose : Bool) (known : judgementKnown
       let job : settled S k f v .job ≡ jobAsked S f = acted-job (λ z. omega arith) ∙ ap (λ (q : Core). q .job) (cond-yes (eqb v 2) _ _ (eq-eqb _ _ two)) in
       fated (k .job) held job refl
       (begins (jobAsked S f) (heldAfter f v load held) (b .begins-job)
-      (λ h. held-begun f v load held two ∙ cond-no (isProgram (f .opcode)) _ _ (no-load-no-program (f .opcode) (f .address) h)))
+      (λ h. held-begun f v load held two ∙ cond-no (isProgram (f .opcode)) _ _ (no-program (f .opcode) (f .address) h)))
 
-  reset-fate : v ≡ 1 → f .opcode ≡ reset → Fate (k .job) held (settled S k f v .job) (heldAfter f v load held)
+  -- a reset leaves nothing, whatever was lent
+  pub reset-leaves-nothing : v ≡ 1 → f .opcode ≡ reset → (settled S k f v .job ≡ noJob) × (heldAfter f v load held ≡ blankLoad)
   unfolding acted instantly
-  reset-fate one r =
-      fated (k .job) held
-      (acted-job (λ z. omega arith) ∙ ap (λ (q : Core). q .job) (cond-no (eqb v 2) _ _ (ne-eqb v 2 (λ two. omega arith)) ∙ cond-yes (eqb v 1) _ _ (eq-eqb _ _ one)) ∙ ap (λ (o : ℕ). instantly k o .job) r)
-      (held-reset f v load held one r) gone
+  reset-leaves-nothing one r = (
+    acted-job (λ z. omega arith) ∙ ap (λ (q : Core). q .job) (cond-no (eqb v 2) _ _ (ne-eqb v 2 (λ two. omega arith)) ∙ cond-yes (eqb v 1) _ _ (eq-eqb _ _ one)) ∙ ap (λ (o : ℕ). instantly k o .job) r,
+    held-reset f v load held one r,
+  )
 
   verdict-fate : Fate (k .job) held (settled S k f v .job) (heldAfter f v load held)
   verdict-fate = go (ℕ-discrete v 2) (ℕ-discrete v 1) (ℕ-discrete (f .opcode) reset)
     where
       go : Dec (v ≡ 2) → Dec (v ≡ 1) → Dec (f .opcode ≡ reset) → Fate (k .job) held (settled S k f v .job) (heldAfter f v load held)
       go (yes two) one r = begun-fate two
-      go (no two) (yes one) (yes r) = reset-fate one r
+      go (no two) (yes one) (yes r) = let none = reset-leaves-nothing one r in fated (k .job) held (none .0) (none .1) gone
       go (no two) (yes one) (no r) = fated (k .job) held (settled-same S k f v two (λ _ e. r e) .0) (held-stays f v load held two (λ _ e. r e)) stays
       go (no two) (no one) r = fated (k .job) held (settled-same S k f v two (λ e _. one e) .0) (held-stays f v load held two (λ e _. one e)) stays
 
@@ -130,6 +128,11 @@ event-fate T c m kind body known =
 
 -- ---- what follows
 
+-- A power cut leaves nothing, whatever was lent.
+pub power-leaves-nothing : (T : Setting) (c : Chip) (m : List ℕ) (body : ℕ) → (applied T c m POWER body .chip .core .job ≡ noJob) × (applied T c m POWER body .chip .held ≡ blankLoad)
+unfolding applied
+power-leaves-nothing T c m body = (refl, refl)
+
 -- A job that was there and is not leaves a state with no job and a blank load, as a fresh one.
 pub gone-leaves-nothing : (T : Setting) (c : Chip) (m : List ℕ) (n kind body : ℕ) → legal c n ≡ true → isJob (c .core .job .kind) ≡ true
     → isJob (applied T c m kind body .chip .core .job .kind) ≡ false
@@ -150,17 +153,17 @@ no-leftovers-applied T c m n kind body l none = go _ _ (event-fate T c m kind bo
     go : (k k′ : Core) {held held′ : List ℕ} → Fate (k .job) held (k′ .job) held′ → NoLeftovers k held → NoLeftovers k′ held′
     go k k′ f n = record { load-blank = blank f (n .load-blank); job-none = idle f (n .job-none) }
       where
-        blank : {j j′ : Job} {held held′ : List ℕ} → Fate j held j′ held′ → (hasLoad (j .kind) ≡ false → held ≡ blankLoad) → hasLoad (j′ .kind) ≡ false → held′ ≡ blankLoad
+        blank : {j j′ : Job} {held held′ : List ℕ} → Fate j held j′ held′ → ((j .kind ≡ Program → ⊥) → held ≡ blankLoad) → (j′ .kind ≡ Program → ⊥) → held′ ≡ blankLoad
         blank stays b e = b e
         blank gone b e = refl
         blank (moves done p) b e = b e
         blank (begins j′ held′ p h) b e = h e
 
-        idle : {j j′ : Job} {held held′ : List ℕ} → Fate j held j′ held′ → (isJob (j .kind) ≡ false → j ≡ noJob) → isJob (j′ .kind) ≡ false → j′ ≡ noJob
+        idle : {j j′ : Job} {held held′ : List ℕ} → Fate j held j′ held′ → (j .kind ≡ Idle → j ≡ noJob) → j′ .kind ≡ Idle → j′ ≡ noJob
         idle stays b e = b e
         idle gone b e = refl
-        idle (moves done p) b e = absurd (false≢true (sym e ∙ p))
-        idle (begins j′ held′ p h) b e = absurd (false≢true (sym e ∙ p))
+        idle (moves done p) b e = absurd (false≢true (sym (ap isJob e) ∙ p))
+        idle (begins j′ held′ p h) b e = absurd (false≢true (sym (ap isJob e) ∙ p))
 
 pub no-leftovers-fresh : (status : ℕ) → NoLeftovers (fresh status .core) (fresh status .held)
 unfolding fresh
