@@ -1,6 +1,6 @@
 -- What is true of the kinds: the table kind by kind, and an event's bytes in a script.
 use Prim.Native.Nat.{ℕ, _+_, _*_, _<_, _≤_, zero-le}
-use mathlib.Core.Bool.{_||_, Bool, true, false, _&&_, false≢true}
+use mathlib.Core.Bool.{cond, _||_, Bool, true, false, _&&_, false≢true}
 use mathlib.Core.List.{List}
 use mathlib.Core.Path.{_≡_, refl, sym, ap, subst, _∙_}
 use mathlib.Core.Logic.{_⊎_, inl, inr}
@@ -11,7 +11,7 @@ use lib.Dec.{eqb, ltb, leb}
 use lib.ListN.{length, getD, List·getD-eq-default}
 use borrow.Author.Tests.{ne-eqb, lt-ltb, le-leb, leb-true}
 use Rattle.cells.specs.Choice.{cond-yes, and-right}
-use Rattle.kinds.specs.Kinds.{SELECT, EXCHANGE, DESELECT, TICK, TICKS, WP, POWER, LOOSE, Says, KindRow, row, knownIn, kindRowIn, knownKind, kindRow, isSaid, bodyLength, inRange, yields, roomOf}
+use Rattle.kinds.specs.Kinds.{SELECT, EXCHANGE, DESELECT, TICK, TICKS, WP, POWER, LOOSE, Says, KindRow, row, knownIn, kindRowIn, knownKind, kindRow, isSaid, bodyLength, inRange, yields, roomOf, mostRoom}
 use Rattle.kinds.specs.Body.{numberAt, bodyAt, nextAt, stepTo}
 
 -- ---- kind by kind
@@ -75,6 +75,11 @@ yields-as kind = go (ℕ-discrete kind EXCHANGE) (ℕ-discrete kind DESELECT) (�
     go (no n) (yes e) l = subst As (sym e) refl
     go (no n) (no m) (yes e) = subst As (sym e) refl
     go (no n) (no m) (no o) = no-record kind n m o .0 ∙ sym (rw (ne-eqb _ _ n, ne-eqb _ _ m, ne-eqb _ _ o))
+
+-- and its room by that test
+pub room-as : (kind : ℕ) → roomOf kind ≡ cond (yields kind) mostRoom 0
+unfolding kindRow kindRowIn
+room-as = kind-each (λ kind. roomOf kind ≡ cond (yields kind) mostRoom 0) refl refl refl refl refl refl refl refl (λ kind o. ap (λ (r : KindRow). r .room) (o .no-row) ∙ sym (ap (λ (r : KindRow). cond (isSaid (r .says)) mostRoom 0) (o .no-row)))
 
 -- a body in its range fits two bytes
 pub range-small : (kind body : ℕ) → inRange kind body ≡ true → (bodyLength kind ≡ 0) ⊎ (body ≤ 65535)
