@@ -1,12 +1,15 @@
--- What is true of the part: its lengths, and how many sectors are protected.
-use Prim.Native.Nat.{ℕ, _≤_}
+-- What is true of the part: its lengths, how many sectors are protected, and the bytes inside an area.
+use Prim.Native.Nat.{ℕ, zero, suc, _≤_, _<_}
 use mathlib.Core.Bool.{Bool, true, false, cond, _||_}
+use mathlib.Core.List.{List, [], _∷_}
 use mathlib.Core.Path.{_≡_, refl, _∙_}
 use native.Mathlib.Omega.{arith}
 use lib.Dec.{eqb, ltb}
+use lib.ListN.{length, getD}
 use borrow.Author.Tests.{eqb-true}
 use Rattle.cells.specs.Choice.{cond-yes, cond-no, cond-either}
 use Rattle.part.specs.Part.{permitted, sectorsIn, lengthOf}
+use Rattle.part.specs.Area.{areaByte}
 use Rattle.part.specs.Protection.{protectedCount}
 
 -- ---- protection
@@ -58,3 +61,11 @@ some-sectors n s e z = go (permitted n) refl
 
 pub sectors-are : (n s : ℕ) → s ≡ cond (permitted n) (sectorsIn n) 0 → (s ≡ 0 → ⊥) → s ≡ sectorsIn n
 sectors-are n s e z = e ∙ cond-yes (permitted n) (sectorsIn n) 0 (some-sectors n s e z)
+
+-- ---- the SFDP area
+
+-- inside an area the byte is the area's own
+pub areaByte-inside : (area : List ℕ) (place : ℕ) → place < length area → areaByte area place ≡ getD area place 0
+areaByte-inside [] place h = absurd (omega arith)
+areaByte-inside (b ∷ area) zero h = refl
+areaByte-inside (b ∷ area) (suc place) h = areaByte-inside area place (omega arith)

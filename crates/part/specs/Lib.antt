@@ -1,3 +1,4 @@
 pub mod Part
+pub mod Area
 pub mod Protection
 pub mod Laws

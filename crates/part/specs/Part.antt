@@ -1,7 +1,7 @@
 -- The part: its sizes, its six lengths, what an event is given of it, what an address means, and its identity (RULES, The array; Commands).
 use Prim.Native.Nat.{ℕ, _/_, _%_, _*_, _-_}
 use mathlib.Core.Bool.{Bool, _||_}
-use mathlib.Core.List.{[], _∷_}
+use mathlib.Core.List.{List, [], _∷_}
 use lib.Dec.{eqb}
 use lib.ListN.{getD}
 
@@ -28,16 +28,17 @@ unfoldable pub permitted : ℕ → Bool
 permitted n =
     eqb n (lengthOf 1) || eqb n (lengthOf 2) || eqb n (lengthOf 4) || eqb n (lengthOf 8) || eqb n (lengthOf 16) || eqb n (lengthOf 32)
 
--- what an event is given and does not change: now the number of sectors alone (RULES, Events)
+-- what an event is given and does not change: the number of sectors, and the bytes of the SFDP area (RULES, Events)
 pub record Setting : Type 0 where
   pub sectors : ℕ
+  pub area : List ℕ
 
-abbrev pub setting : ℕ → Setting
-setting S = record { sectors = S }
+abbrev pub setting : ℕ → List ℕ → Setting
+setting S area = record { sectors = S; area = area }
 
--- the setting that goes with a memory of n cells
-abbrev pub settingOf : ℕ → Setting
-settingOf n = setting (sectorsIn n)
+-- the setting that goes with a memory of n cells and an area
+abbrev pub settingOf : ℕ → List ℕ → Setting
+settingOf n area = setting (sectorsIn n) area
 
 -- the cell that an address means on a part of S sectors: the rest of a division by the length (RULES, The array)
 abbrev pub reduced : ℕ → ℕ → ℕ

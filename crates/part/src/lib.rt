@@ -1,9 +1,12 @@
-// The LE25S161: its sizes, its identity and its protection, each named here once.
+// The LE25S161: its sizes, its identity and its protection, each named here once; its SFDP area has a file of its own.
 ghost use mathlib.Core.Path.{_≡_};
 ghost use mathlib.Core.Bool.{cond};
 ghost use Prim.Native.Nat.{_≤_, min};
 ghost use Rattle.part.specs.Part.{permitted, reduced, sectorsIn, lengthOf, jedecByte};
+ghost use Rattle.part.specs.Area.{areaByte, ownArea};
 ghost use Rattle.part.specs.Protection.{protectedCount, protectedSector};
+
+mod sfdp;
 
 // The part's own numbers are constants of this type; it holds nothing.
 pub struct Part {}
@@ -21,6 +24,11 @@ impl Part {
     pub const JEDEC_CYCLE: usize = 4;
     // The identity that ABh drives.
     pub const DEVICE: u8 = 0x88;
+
+    // The longest SFDP area, and how many places 5Ah can name.
+    pub const LONGEST_AREA: usize = 256;
+
+    pub const AREA_PLACES: usize = 16777216;
 }
 
 // The number of sectors of a memory of n cells, or 0 where no part has that length.
@@ -64,6 +72,23 @@ pub fn jedec_byte(i: usize) -> u8
         return Part::JEDEC[i];
     }
     0
+}
+
+// What stands at a place of an SFDP area: FFh at and past its end.
+pub fn area_byte(area: &[u8], place: usize) -> u8
+    ensures { λ r. ⌜ r ≡ areaByte (now (area .entry)) place ⌝ }
+{
+    if place < area.len() {
+        return area[place];
+    }
+    0xFF
+}
+
+// The part's own SFDP area, for a bench to lend.
+pub fn own_area() -> [u8; 208]
+    ensures { λ r. ⌜ r ≡ ownArea ⌝ }
+{
+    Part::SFDP
 }
 
 fn smaller(a: u8, b: u8) -> u8
