@@ -19,6 +19,7 @@ mod opcode {
     pub const RESUME: u8 = 0x30;
     pub const JEDEC_ID: u8 = 0x9F;
     pub const DEVICE_ID: u8 = 0xAB;
+    pub const READ_SFDP: u8 = 0x5A;
     pub const DEEP_POWER_DOWN: u8 = 0xB9;
     pub const RESET_ENABLE: u8 = 0x66;
     pub const RESET: u8 = 0x99;
@@ -46,7 +47,7 @@ const NO: u8 = 0;
 const YES: u8 = 1;
 
 /// The opcode facts, one row an opcode: opcode, length rule, allowed running, allowed suspended.
-const COMMANDS: [[u8; 4]; 20] = [
+const COMMANDS: [[u8; 4]; 21] = [
     [opcode::WRITE_ENABLE, 1, NO, NO],
     [opcode::WRITE_DISABLE, 1, NO, NO],
     [opcode::READ_STATUS, ANY, YES, YES],
@@ -64,6 +65,7 @@ const COMMANDS: [[u8; 4]; 20] = [
     [opcode::RESUME, 1, NO, YES],
     [opcode::JEDEC_ID, ANY, NO, NO],
     [opcode::DEVICE_ID, ANY, NO, NO],
+    [opcode::READ_SFDP, ANY, NO, NO],
     [opcode::DEEP_POWER_DOWN, 1, NO, NO],
     [opcode::RESET_ENABLE, 1, YES, YES],
     [opcode::RESET, 1, YES, YES],
@@ -98,8 +100,10 @@ const ERASE_STEP: usize = 256;
 const LONGEST_SCRIPT: usize = 65_536;
 /// The byte count that means six or more.
 const COUNT_CAP: u8 = 6;
-/// Addresses are below this number.
+/// Addresses are below this number, and so are the places that a 5Ah frame reads.
 const ADDRESS_END: u32 = 1 << 24;
+/// The longest SFDP area that is lent.
+const LONGEST_AREA: usize = 256;
 
 /// What a job does, with the load of a program or the value of a write status.
 #[derive(Clone, Debug, PartialEq, Eq)]
@@ -239,6 +243,7 @@ impl Frame {
     fn legal(&self, memory_length: usize) -> bool {
         let read_end = match self.opcode {
             opcode::JEDEC_ID => JEDEC_CYCLE.len(),
+            opcode::READ_SFDP => ADDRESS_END as usize,
             _ => memory_length,
         };
         self.address < ADDRESS_END
@@ -269,6 +274,20 @@ impl Frame {
         let place = self.read_place as usize;
         self.read_place = if place + 1 == memory.len() { 0 } else { self.read_place + 1 };
         Record::Driven(memory[place])
+    }
+
+    /// Takes one byte of a 5Ah frame and drives the SFDP area, FFh past its end, from byte 6 on.
+    fn read_sfdp(&mut self, area: &[u8], byte: u8) -> Record {
+        self.take_address(byte);
+        if self.byte_count == 4 {
+            self.read_place = self.address;
+        }
+        if self.byte_count < 6 {
+            return Record::Floating;
+        }
+        let place = self.read_place as usize;
+        self.read_place = (self.read_place + 1) % ADDRESS_END;
+        Record::Driven(area.get(place).copied().unwrap_or(0xFF))
     }
 
     /// Takes one byte of a page program frame, from byte 5 on into its load.
@@ -457,10 +476,10 @@ pub(crate) fn verdict(chip: &Chip, memory_length: usize, loose: bool) -> u8 {
     }
 }
 
-/// Whether an opcode is one of the four reads that always end with verdict 0.
+/// Whether an opcode is one of the five reads, whose unjudged frames end with verdict 0.
 fn is_read(opcode: u8) -> bool {
-    use opcode::{HIGH_SPEED_READ, JEDEC_ID, LOW_POWER_READ, READ_STATUS};
-    matches!(opcode, READ_STATUS | LOW_POWER_READ | HIGH_SPEED_READ | JEDEC_ID)
+    use opcode::{HIGH_SPEED_READ, JEDEC_ID, LOW_POWER_READ, READ_SFDP, READ_STATUS};
+    matches!(opcode, READ_STATUS | LOW_POWER_READ | HIGH_SPEED_READ | JEDEC_ID | READ_SFDP)
 }
 
 /// Whether a frame's byte count fits the length rule of its opcode.
@@ -537,7 +556,7 @@ fn do_at_once(chip: &mut Chip) {
 
 /// Takes one byte on SI and gives what the chip drives meanwhile.
 #[inline]
-fn exchange(chip: &mut Chip, memory: &[u8], byte: u8) -> Record {
+fn exchange(chip: &mut Chip, memory: &[u8], area: &[u8], byte: u8) -> Record {
     if !chip.selected {
         return Record::Floating;
     }
@@ -557,6 +576,7 @@ fn exchange(chip: &mut Chip, memory: &[u8], byte: u8) -> Record {
         opcode::LOW_POWER_READ => return frame.read_cell(memory, byte, 5),
         opcode::HIGH_SPEED_READ => return frame.read_cell(memory, byte, 6),
         opcode::JEDEC_ID => return frame.read_jedec(),
+        opcode::READ_SFDP => return frame.read_sfdp(area, byte),
         opcode::DEVICE_ID if frame.byte_count >= 5 => return Record::Driven(DEVICE_ID_BYTE),
         opcode::PAGE_PROGRAM | opcode::LOW_POWER_PROGRAM => frame.take_load(byte),
         opcode::SMALL_SECTOR_ERASE | opcode::SMALL_SECTOR_ERASE_TOO => frame.take_address(byte),
@@ -619,10 +639,16 @@ fn body_in_range(kind: u8, body: u64) -> bool {
 
 /// Applies an event that has passed every check and gives its record and working ticks.
 #[inline]
-fn apply(chip: &mut Chip, memory: &mut [u8], kind: u8, body: u64) -> (Record, u64) {
+fn apply(
+    chip: &mut Chip,
+    memory: &mut [u8],
+    area: &[u8],
+    kind: u8,
+    body: u64,
+) -> (Record, u64) {
     match kind {
         kind::SELECT => chip.selected = true,
-        kind::EXCHANGE => return (exchange(chip, memory, body as u8), 0),
+        kind::EXCHANGE => return (exchange(chip, memory, area, body as u8), 0),
         kind::DESELECT => return (deselect(chip, memory.len(), false), 0),
         kind::LOOSE_DESELECT => return (deselect(chip, memory.len(), true), 0),
         kind::TICK => return (Record::None, pass_ticks(chip, memory, 1)),
@@ -634,13 +660,24 @@ fn apply(chip: &mut Chip, memory: &mut [u8], kind: u8, body: u64) -> (Record, u6
     (Record::None, 0)
 }
 
-/// The refusal number of an event alone, 0 when there is none.
-fn event_refusal(chip: &Chip, memory: &[u8], kind: u64, body: u64) -> u8 {
-    if !memory_length_known(memory.len()) {
-        return 1;
+/// The refusal number of what is lent, the state included, 0 when there is none.
+fn lent_refusal(chip: &Chip, memory_length: usize, area_length: usize) -> u8 {
+    if !memory_length_known(memory_length) {
+        1
+    } else if area_length > LONGEST_AREA {
+        13
+    } else if !chip.legal(memory_length) {
+        2
+    } else {
+        0
     }
-    if !chip.legal(memory.len()) {
-        return 2;
+}
+
+/// The refusal number of an event alone, 0 when there is none.
+fn event_refusal(chip: &Chip, memory: &[u8], area: &[u8], kind: u64, body: u64) -> u8 {
+    let lent = lent_refusal(chip, memory.len(), area.len());
+    if lent != 0 {
+        return lent;
     }
     match u8::try_from(kind) {
         Ok(kind) if body_length(kind).is_some() => {
@@ -652,12 +689,18 @@ fn event_refusal(chip: &Chip, memory: &[u8], kind: u64, body: u64) -> u8 {
 
 /// Applies one event alone, or refuses it and changes nothing.
 #[allow(dead_code)]
-pub fn event(chip: &mut Chip, memory: &mut [u8], kind: u64, body: u64) -> EventAnswer {
-    let refusal = event_refusal(chip, memory, kind, body);
+pub fn event(
+    chip: &mut Chip,
+    memory: &mut [u8],
+    area: &[u8],
+    kind: u64,
+    body: u64,
+) -> EventAnswer {
+    let refusal = event_refusal(chip, memory, area, kind, body);
     if refusal != 0 {
         return EventAnswer { refusal, record: Record::None, ticks: 0 };
     }
-    let (record, ticks) = apply(chip, memory, kind as u8, body);
+    let (record, ticks) = apply(chip, memory, area, kind as u8, body);
     EventAnswer { refusal, record, ticks }
 }
 
@@ -700,14 +743,13 @@ fn check_script(script: &[u8]) -> Result<usize, (u8, usize)> {
 fn check_run(
     chip: &Chip,
     memory_length: usize,
+    area_length: usize,
     script: &[u8],
     output_length: usize,
 ) -> Result<(), (u8, usize)> {
-    if !memory_length_known(memory_length) {
-        return Err((1, 0));
-    }
-    if !chip.legal(memory_length) {
-        return Err((2, 0));
+    let lent = lent_refusal(chip, memory_length, area_length);
+    if lent != 0 {
+        return Err((lent, 0));
     }
     if script.len() > LONGEST_SCRIPT {
         return Err((3, 0));
@@ -736,8 +778,15 @@ fn write_record(output: &mut [u8], record: Record) -> usize {
 
 /// Runs a whole script, or refuses it and changes nothing.
 #[allow(dead_code)]
-pub fn run(chip: &mut Chip, memory: &mut [u8], script: &[u8], output: &mut [u8]) -> RunAnswer {
-    if let Err((refusal, offset)) = check_run(chip, memory.len(), script, output.len()) {
+pub fn run(
+    chip: &mut Chip,
+    memory: &mut [u8],
+    area: &[u8],
+    script: &[u8],
+    output: &mut [u8],
+) -> RunAnswer {
+    let checked = check_run(chip, memory.len(), area.len(), script, output.len());
+    if let Err((refusal, offset)) = checked {
         return RunAnswer { refusal, offset, written: 0, ticks: 0 };
     }
     let mut answer = RunAnswer { refusal: 0, offset: 0, written: 0, ticks: 0 };
@@ -745,13 +794,13 @@ pub fn run(chip: &mut Chip, memory: &mut [u8], script: &[u8], output: &mut [u8])
     while let [kind, after @ ..] = rest {
         // Most events are exchanges.
         if let (&kind::EXCHANGE, [byte, next @ ..]) = (kind, after) {
-            let record = exchange(chip, memory, *byte);
+            let record = exchange(chip, memory, area, *byte);
             answer.written += write_record(&mut output[answer.written..], record);
             rest = next;
             continue;
         }
         let (body, next) = after.split_at(BODY_LENGTHS[usize::from(*kind) - 1]);
-        let (record, ticks) = apply(chip, memory, *kind, body_value(body));
+        let (record, ticks) = apply(chip, memory, area, *kind, body_value(body));
         answer.written += write_record(&mut output[answer.written..], record);
         answer.ticks += ticks;
         rest = next;

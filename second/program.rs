@@ -8,6 +8,8 @@ use std::io::{self, Read, Write};
 
 /// The longest script the program reads.
 const LONGEST_SCRIPT: usize = 4_096;
+/// The program's SFDP area, which is empty.
+const AREA: [u8; 0] = [];
 
 /// Everything the program prints for a script.
 pub fn report(script: &[u8]) -> String {
@@ -18,7 +20,7 @@ pub fn report(script: &[u8]) -> String {
     let mut memory = vec![0xFF; Chip::SECTOR];
     let mut output = vec![0; 2 * script.len()];
     let mut text = format!("part {}\n", memory.len());
-    let answer = model::run(&mut chip, &mut memory, script, &mut output);
+    let answer = model::run(&mut chip, &mut memory, &AREA, script, &mut output);
     if answer.refusal != 0 {
         text += &format!("answer {} at {}\n", answer.refusal, answer.offset);
     } else {

@@ -7,27 +7,39 @@ mod model;
 #[path = "program.rs"]
 mod program;
 
+#[path = "sfdp.rs"]
+mod sfdp;
+
 use model::{event, run, Chip, Frame, Job, JobKind, Record, RunAnswer};
+use sfdp::{find, table, Found, CONTENT};
 
 /// The length of the real part's memory.
 const REAL: usize = 32 * Chip::SECTOR;
 
-/// A chip with its memory, driven by single events.
+/// A chip with its memory and SFDP area, driven by single events.
 #[derive(Clone)]
 struct Bench {
     chip: Chip,
     memory: Vec<u8>,
+    area: Vec<u8>,
 }
 
 impl Bench {
-    /// A fresh chip over a blank memory of that many sectors.
+    /// A fresh chip over a blank memory of that many sectors and an empty area.
     fn new(sectors: usize, status: u8) -> Bench {
-        Bench { chip: Chip::fresh(status), memory: vec![0xFF; sectors * Chip::SECTOR] }
+        let memory = vec![0xFF; sectors * Chip::SECTOR];
+        Bench { chip: Chip::fresh(status), memory, area: Vec::new() }
+    }
+
+    /// A fresh chip over a memory of 77h of that many sectors and an area.
+    fn with_area(sectors: usize, area: &[u8]) -> Bench {
+        let memory = vec![0x77; sectors * Chip::SECTOR];
+        Bench { chip: Chip::fresh(0), memory, area: area.to_vec() }
     }
 
     /// Applies one event that must not be refused and gives its record and working ticks.
     fn apply(&mut self, kind: u64, body: u64) -> (Record, u64) {
-        let answer = event(&mut self.chip, &mut self.memory, kind, body);
+        let answer = event(&mut self.chip, &mut self.memory, &self.area, kind, body);
         assert_eq!(answer.refusal, 0);
         assert!(self.chip.legal(self.memory.len()));
         (answer.record, answer.ticks)
@@ -84,6 +96,23 @@ impl Bench {
         assert_eq!(self.end(), 0);
         records[4..].to_vec()
     }
+
+    /// Bytes of the area read with 5Ah.
+    fn read_sfdp(&mut self, address: u32, count: usize) -> Vec<u8> {
+        let records = self.send(&addressed(0x5A, address, &vec![0; 1 + count]));
+        assert_eq!(records[..5], [Record::Floating; 5]);
+        assert_eq!(self.end(), 0);
+        driven(&records[5..])
+    }
+}
+
+/// The bytes of records that must all be driven.
+fn driven(records: &[Record]) -> Vec<u8> {
+    let byte = |record: &Record| match record {
+        Record::Driven(byte) => *byte,
+        other => panic!("{other:?}"),
+    };
+    records.iter().map(byte).collect()
 }
 
 /// A frame of an opcode, an address and data bytes.
@@ -102,6 +131,12 @@ impl Dice {
     fn below(&mut self, bound: u64) -> u64 {
         self.0 = self.0.wrapping_mul(6364136223846793005).wrapping_add(1442695040888963407);
         (self.0 >> 33) % bound
+    }
+
+    /// The next number below one of the bounds.
+    fn below_one_of(&mut self, bounds: &[u64]) -> u64 {
+        let bound = bounds[self.below(bounds.len() as u64) as usize];
+        self.below(bound)
     }
 }
 
@@ -221,9 +256,9 @@ fn p10_short_erase_frame() {
 fn longest_script_accepted_and_one_more_refused() {
     let mut bench = Bench::new(1, 0);
     let script = vec![0x04; 65_537];
-    let answer = run(&mut bench.chip, &mut bench.memory, &script[..65_536], &mut []);
+    let answer = run(&mut bench.chip, &mut bench.memory, &bench.area, &script[..65_536], &mut []);
     assert_eq!(answer, RunAnswer { refusal: 0, offset: 0, written: 0, ticks: 0 });
-    let answer = run(&mut bench.chip, &mut bench.memory, &script, &mut []);
+    let answer = run(&mut bench.chip, &mut bench.memory, &bench.area, &script, &mut []);
     assert_eq!(answer, RunAnswer { refusal: 3, offset: 0, written: 0, ticks: 0 });
 }
 
@@ -234,7 +269,7 @@ const SAMPLE: [u8; 10] = [1, 2, 6, 3, 1, 2, 5, 2, 0, 3];
 fn sample_records() {
     let mut bench = Bench::new(1, 0);
     let mut output = [0xEE; 12];
-    let answer = run(&mut bench.chip, &mut bench.memory, &SAMPLE, &mut output);
+    let answer = run(&mut bench.chip, &mut bench.memory, &bench.area, &SAMPLE, &mut output);
     assert_eq!(answer, RunAnswer { refusal: 0, offset: 0, written: 8, ticks: 0 });
     assert_eq!(output[..8], [0x80, 0x82, 1, 0x80, 0x81, 2, 0x82, 0]);
     assert_eq!(output[8..], [0xEE; 4]);
@@ -256,7 +291,7 @@ fn program_texts() {
 fn refused(bench: &mut Bench, script: &[u8], output_length: usize) -> (u8, usize) {
     let before = bench.clone();
     let mut output = vec![0xEE; output_length];
-    let answer = run(&mut bench.chip, &mut bench.memory, script, &mut output);
+    let answer = run(&mut bench.chip, &mut bench.memory, &bench.area, script, &mut output);
     assert_eq!((answer.written, answer.ticks), (0, 0));
     assert!(bench.chip == before.chip && bench.memory == before.memory);
     assert!(output.iter().all(|byte| *byte == 0xEE));
@@ -289,9 +324,9 @@ fn memory_lengths() {
     for sectors in 0..=64 {
         let mut bench = Bench::new(sectors, 0);
         let known = [1, 2, 4, 8, 16, 32].contains(&sectors);
-        let answer = event(&mut bench.chip, &mut bench.memory, 1, 0);
+        let answer = event(&mut bench.chip, &mut bench.memory, &bench.area, 1, 0);
         assert_eq!(answer.refusal, if known { 0 } else { 1 });
-        let answer = run(&mut bench.chip, &mut bench.memory, &[], &mut []);
+        let answer = run(&mut bench.chip, &mut bench.memory, &bench.area, &[], &mut []);
         assert_eq!(answer.refusal, if known { 0 } else { 1 });
     }
 }
@@ -306,7 +341,7 @@ fn event_refusals() {
     ];
     for (kind, body, refusal) in cases {
         let mut bench = Bench::new(1, 0);
-        let answer = event(&mut bench.chip, &mut bench.memory, kind, body);
+        let answer = event(&mut bench.chip, &mut bench.memory, &bench.area, kind, body);
         assert_eq!(answer.refusal, refusal, "{kind} {body}");
         if refusal != 0 {
             assert_eq!((answer.record, answer.ticks), (Record::None, 0));
@@ -315,9 +350,9 @@ fn event_refusals() {
     }
     let mut bench = Bench::new(1, 0);
     bench.chip.suspended = true;
-    assert_eq!(event(&mut bench.chip, &mut bench.memory, 9, 0).refusal, 2);
+    assert_eq!(event(&mut bench.chip, &mut bench.memory, &bench.area, 9, 0).refusal, 2);
     bench.memory.clear();
-    assert_eq!(event(&mut bench.chip, &mut bench.memory, 9, 0).refusal, 1);
+    assert_eq!(event(&mut bench.chip, &mut bench.memory, &bench.area, 9, 0).refusal, 1);
 }
 
 #[test]
@@ -330,7 +365,7 @@ fn verdict_0() {
     assert_eq!(bench.end(), 0);
     bench.send(&[]);
     assert_eq!(bench.end_loose(), 0);
-    for opcode in [0x05, 0x03, 0x0B, 0x9F] {
+    for opcode in [0x05, 0x03, 0x0B, 0x9F, 0x5A] {
         for length in 1..8 {
             assert_eq!(bench.frame(&vec![opcode; length]), 0);
             bench.send(&vec![opcode; length]);
@@ -382,7 +417,7 @@ fn verdict_2_of_each_command() {
 #[test]
 fn verdict_3_unknown() {
     let mut bench = Bench::new(1, 0);
-    for opcode in [0x00, 0x5A, 0x3B, 0xBB, 0xFF] {
+    for opcode in [0x00, 0x59, 0x5B, 0x3B, 0xBB, 0xFF] {
         assert_eq!(bench.send(&[opcode, 1, 2, 3, 4, 5, 6]), [Record::Floating; 7]);
         assert_eq!(bench.end(), 3);
         bench.send(&[opcode]);
@@ -420,7 +455,7 @@ fn verdict_4_lengths() {
 fn verdict_5_deep() {
     let mut bench = Bench::new(1, 0);
     bench.frame(&[0xB9]);
-    for opcode in [0x06, 0x05, 0x03, 0x9F, 0x66, 0x99, 0xB9] {
+    for opcode in [0x06, 0x05, 0x03, 0x9F, 0x5A, 0x66, 0x99, 0xB9] {
         assert_eq!(bench.send(&[opcode, 0, 0, 0, 0, 0]), [Record::Floating; 6]);
         assert_eq!(bench.end(), 5);
     }
@@ -441,7 +476,7 @@ fn verdicts_6_and_7_by_the_table() {
     ];
     let all = [
         0x06, 0x04, 0x05, 0x01, 0x03, 0x0B, 0x20, 0xD7, 0xD8, 0x60, 0xC7, 0x02, 0x0A, 0xB0, 0x30,
-        0x9F, 0xAB, 0xB9, 0x66, 0x99,
+        0x9F, 0xAB, 0x5A, 0xB9, 0x66, 0x99,
     ];
     let mut bench = Bench::new(1, 0);
     bench.frame(&[0x06]);
@@ -532,7 +567,7 @@ fn verdict_12_only_outside_the_legal_states() {
     assert_eq!(model::verdict(&bench.chip, length, false), 2);
     bench.chip.wen = false;
     assert_eq!(model::verdict(&bench.chip, length, false), 12);
-    assert_eq!(event(&mut bench.chip, &mut bench.memory, 3, 0).refusal, 2);
+    assert_eq!(event(&mut bench.chip, &mut bench.memory, &bench.area, 3, 0).refusal, 2);
 }
 
 #[test]
@@ -809,9 +844,10 @@ fn a_run_is_its_events_one_by_one() {
         let sectors = 1 << dice.below(3);
         let script = random_script(&mut dice);
         let mut whole = Bench::new(sectors as usize, dice.below(256) as u8 & 0x84);
+        whole.area = CONTENT[..dice.below(209) as usize].to_vec();
         let mut single = whole.clone();
         let mut output = vec![0; 2 * script.len()];
-        let answer = run(&mut whole.chip, &mut whole.memory, &script, &mut output);
+        let answer = run(&mut whole.chip, &mut whole.memory, &whole.area, &script, &mut output);
         assert_eq!(answer.refusal, 0);
         let (mut records, mut ticks, mut offset) = (Vec::new(), 0, 0);
         while offset < script.len() {
@@ -863,11 +899,13 @@ fn random_chip(dice: &mut Dice, memory_length: usize) -> Chip {
 
 /// A random frame for a random chip, legal or not.
 fn random_frame(dice: &mut Dice) -> Frame {
-    let opcodes = [0x01, 0x02, 0x03, 0x05, 0x0B, 0x20, 0xD8, 0x60, 0x9F, 0xAB, 0xB0, 0x30, 0x77];
+    let opcodes = [
+        0x01, 0x02, 0x03, 0x05, 0x0B, 0x20, 0xD8, 0x60, 0x9F, 0xAB, 0xB0, 0x30, 0x77, 0x5A, 0x5A,
+    ];
     Frame {
-        opcode: opcodes[dice.below(13) as usize],
+        opcode: opcodes[dice.below(15) as usize],
         address: dice.below(1 << 24) as u32,
-        read_place: [0, 3, 65_535, 131_071][dice.below(4) as usize],
+        read_place: [0, 3, 65_535, 131_071, 0xFF_FFFF, 0x100_0000][dice.below(6) as usize],
         load_place: dice.below(257) as u32,
         byte_count: dice.below(8) as u8,
         judgement: [None, None, Some(3), Some(5), Some(6), Some(7)][dice.below(6) as usize],
@@ -894,4 +932,600 @@ fn legal_states_stay_legal() {
             };
         }
     }
+}
+
+/// An area of that length whose byte at place p is 255 less p, never FFh but at 0, where it is 80h.
+fn sloped(length: usize) -> Vec<u8> {
+    (0..length).map(|place| if place == 0 { 0x80 } else { 255 - place as u8 }).collect()
+}
+
+/// The byte that a 5Ah frame is to drive at a place.
+fn area_byte(area: &[u8], place: u32) -> u8 {
+    if (place as usize) < area.len() { area[place as usize] } else { 0xFF }
+}
+
+#[test]
+fn sfdp_dummy_floats_and_data_from_byte_6() {
+    let mut bench = Bench::with_area(1, &sloped(16));
+    let records = bench.send(&addressed(0x5A, 2, &[0; 4]));
+    assert_eq!(records[..5], [Record::Floating; 5]);
+    assert_eq!(records[5..], [253, 252, 251].map(Record::Driven));
+    assert_eq!(bench.chip.frame.read_place, 5);
+    assert_eq!(bench.end(), 0);
+    assert_eq!(bench.chip, Chip::fresh(0));
+}
+
+#[test]
+fn sfdp_place_not_reduced_by_the_memory() {
+    for sectors in [1, 2, 4, 8, 16, 32] {
+        let length = (sectors * Chip::SECTOR) as u32;
+        let mut bench = Bench::with_area(sectors, &sloped(16));
+        bench.send(&addressed(0x5A, length + 3, &[]));
+        assert_eq!(bench.chip.frame.read_place, length + 3);
+        bench.end();
+        assert_eq!(bench.read_sfdp(length + 3, 3), [0xFF; 3]);
+        bench.send(&addressed(0x5A, length - 1, &[0, 0, 0]));
+        assert_eq!(bench.chip.frame.read_place, length + 1);
+        bench.end();
+        assert_eq!(bench.read_sfdp(length - 1, 3), [0xFF; 3]);
+        assert_eq!(bench.read_sfdp(0x80_0000, 1), [0xFF]);
+    }
+}
+
+#[test]
+fn sfdp_area_ends_and_ff_follows() {
+    for length in 0..=256 {
+        let area = sloped(length);
+        let mut bench = Bench::with_area(1, &area);
+        let mut whole = area.clone();
+        whole.extend([0xFF; 4]);
+        assert_eq!(bench.read_sfdp(0, length + 4), whole);
+        assert_eq!(bench.read_sfdp(length as u32, 2), [0xFF; 2]);
+        if length > 0 {
+            let last = [area[length - 1], 0xFF];
+            assert_eq!(bench.read_sfdp(length as u32 - 1, 2), last);
+        }
+    }
+}
+
+#[test]
+fn sfdp_wraps_after_the_last_place() {
+    for length in [0, 1, 256] {
+        let area = sloped(length);
+        for sectors in [1, 32] {
+            let mut bench = Bench::with_area(sectors, &area);
+            bench.send(&addressed(0x5A, 0xFF_FFFE, &[0, 0]));
+            assert_eq!(bench.chip.frame.read_place, 0xFF_FFFF);
+            assert_eq!(bench.apply(2, 0).0, Record::Driven(0xFF));
+            assert_eq!(bench.chip.frame.read_place, 0);
+            for place in 0..300 {
+                assert_eq!(bench.apply(2, 0).0, Record::Driven(area_byte(&area, place)));
+                assert_eq!(bench.chip.frame.read_place, place + 1);
+            }
+            assert_eq!(bench.end(), 0);
+        }
+    }
+}
+
+#[test]
+fn sfdp_at_any_address() {
+    let mut dice = Dice(3);
+    for _ in 0..2_000 {
+        let area: Vec<u8> = (0..dice.below(257)).map(|_| dice.below(256) as u8).collect();
+        let address = dice.below_one_of(&[300, 1 << 24]) as u32;
+        let mut bench = Bench::with_area(1, &area);
+        let places = (0..20).map(|j| (address + j) % (1 << 24));
+        let expected: Vec<u8> = places.map(|place| area_byte(&area, place)).collect();
+        assert_eq!(bench.read_sfdp(address, 20), expected);
+    }
+}
+
+#[test]
+fn sfdp_judged_at_the_opcode_byte() {
+    let floats = |bench: &mut Bench, verdict: u8| {
+        for loose in [false, true] {
+            let records = bench.send(&addressed(0x5A, 0x12_3456, &[0; 4]));
+            assert_eq!(records, [Record::Floating; 8]);
+            let frame = &bench.chip.frame;
+            assert_eq!((frame.address, frame.read_place, frame.byte_count), (0, 0, 6));
+            assert_eq!(frame.judgement, Some(verdict));
+            assert_eq!(if loose { bench.end_loose() } else { bench.end() }, verdict);
+        }
+    };
+    let mut bench = Bench::with_area(1, &sloped(256));
+    bench.frame(&[0xB9]);
+    floats(&mut bench, 5);
+    bench.frame(&[0xAB]);
+    bench.frame(&[0x06]);
+    bench.frame(&[0x60]);
+    floats(&mut bench, 6);
+    bench.frame(&[0xB0]);
+    floats(&mut bench, 7);
+    bench.frame(&[0x30]);
+    bench.send(&[0x5A]);
+    assert_eq!(bench.ticks(256), 256);
+    for _ in 0..8 {
+        assert_eq!(bench.apply(2, 0).0, Record::Floating);
+    }
+    assert_eq!(bench.end(), 6);
+    assert_eq!(bench.read_sfdp(0, 2), [0x80, 254]);
+}
+
+#[test]
+fn sfdp_frame_unjudged_on_a_busy_state() {
+    let states: [(u8, fn(&mut Chip)); 3] = [
+        (5, |chip| chip.deep = true),
+        (6, |chip| {
+            chip.wen = true;
+            chip.job = Some(Job { kind: JobKind::ChipErase, place: 0, steps_done: 0 });
+        }),
+        (7, |chip| {
+            chip.wen = true;
+            chip.suspended = true;
+            chip.job = Some(Job { kind: JobKind::ChipErase, place: 0, steps_done: 0 });
+        }),
+    ];
+    for (verdict, change) in states {
+        let mut bench = Bench::with_area(1, &sloped(256));
+        bench.send(&addressed(0x5A, 7, &[0]));
+        change(&mut bench.chip);
+        assert_eq!(bench.apply(2, 0).0, Record::Driven(248));
+        assert_eq!(bench.clone().end_loose(), verdict);
+        assert_eq!(bench.end(), verdict);
+    }
+}
+
+#[test]
+fn sfdp_loose_at_each_length() {
+    for length in 1..=8 {
+        let mut bench = Bench::with_area(1, &sloped(256));
+        bench.send(&[0x5A, 0, 0, 1, 0, 0, 0, 0][..length]);
+        assert_eq!(bench.clone().end(), 0);
+        assert_eq!(bench.end_loose(), 0);
+        assert_eq!(bench.chip, Chip::fresh(0));
+    }
+}
+
+#[test]
+fn sfdp_disarms_and_keeps_wen() {
+    let mut bench = Bench::with_area(1, &sloped(256));
+    bench.frame(&[0x06]);
+    bench.frame(&[0x66]);
+    assert_eq!(bench.frame(&[0x5A]), 0);
+    assert_eq!(bench.frame(&[0x99]), 11);
+    assert_eq!(bench.status(), 0x02);
+}
+
+#[test]
+fn sfdp_frame_is_kept_as_a_high_speed_read_frame() {
+    let mut dice = Dice(4);
+    for _ in 0..200 {
+        let mut sfdp = Bench::with_area(32, &sloped(256));
+        let mut fast = sfdp.clone();
+        sfdp.send(&[0x5A]);
+        fast.send(&[0x0B]);
+        for count in 2..=9 {
+            let byte = dice.below(256);
+            sfdp.apply(2, byte);
+            fast.apply(2, byte);
+            let mut frame = sfdp.chip.frame.clone();
+            assert_eq!(frame.read_place % REAL as u32, fast.chip.frame.read_place);
+            if count == 4 {
+                assert_eq!(frame.read_place, frame.address);
+            }
+            frame.opcode = 0x0B;
+            frame.read_place = fast.chip.frame.read_place;
+            assert_eq!(frame, fast.chip.frame);
+        }
+    }
+}
+
+#[test]
+fn sfdp_legal_read_places() {
+    let legal = |length: usize, opcode: u8, judgement: Option<u8>, read_place: usize| {
+        let mut bench = Bench::new(1, 0);
+        bench.memory.resize(length, 0xFF);
+        bench.chip.selected = true;
+        let read_place = read_place as u32;
+        bench.chip.frame.opcode = opcode;
+        bench.chip.frame.judgement = judgement;
+        bench.chip.frame.read_place = read_place;
+        bench.chip.frame.byte_count = 6;
+        let legal = bench.chip.legal(length);
+        let refusal = event(&mut bench.chip, &mut bench.memory, &bench.area, 6, 1).refusal;
+        assert_eq!(refusal, if legal { 0 } else { 2 });
+        legal
+    };
+    for length in [1, 2, 4, 8, 16, 32].map(|sectors| sectors * Chip::SECTOR) {
+        for judgement in [None, Some(3), Some(5), Some(6), Some(7)] {
+            assert!(legal(length, 0x5A, judgement, (1 << 24) - 1));
+            assert!(!legal(length, 0x5A, judgement, 1 << 24));
+            assert!(!legal(length, 0x5A, judgement, u32::MAX as usize));
+            for opcode in [0x00, 0x03, 0x0B, 0x02, 0x05, 0x59, 0x5B, 0xFF] {
+                assert!(legal(length, opcode, judgement, length - 1));
+                assert!(!legal(length, opcode, judgement, length));
+                assert!(!legal(length, opcode, judgement, (1 << 24) - 1));
+            }
+            assert!(legal(length, 0x9F, judgement, 3));
+            assert!(!legal(length, 0x9F, judgement, 4));
+        }
+    }
+}
+
+#[test]
+fn sfdp_state_at_the_last_place_reads_on() {
+    let mut bench = Bench::with_area(1, &sloped(256));
+    bench.send(&addressed(0x5A, 0, &[0, 0]));
+    bench.chip.frame.read_place = 0xFF_FFFF;
+    assert_eq!(bench.apply(2, 0).0, Record::Driven(0xFF));
+    assert_eq!(bench.apply(2, 0).0, Record::Driven(0x80));
+    bench.chip.frame.read_place = 1 << 24;
+    let answer = event(&mut bench.chip, &mut bench.memory, &bench.area, 2, 0);
+    assert_eq!((answer.refusal, answer.record), (2, Record::None));
+    assert_eq!(refused(&mut bench, &[2, 0], 2), (2, 0));
+}
+
+#[test]
+fn refusal_13_and_its_order() {
+    let mut bench = Bench::with_area(1, &[0; 256]);
+    assert_eq!(bench.apply(1, 0), (Record::None, 0));
+    let answer = run(&mut bench.chip, &mut bench.memory, &bench.area, &[3], &mut [0; 2]);
+    assert_eq!(answer, RunAnswer { refusal: 0, offset: 0, written: 2, ticks: 0 });
+    bench.area.push(0);
+    let before = bench.clone();
+    let alone = |bench: &mut Bench, kind, body| {
+        let answer = event(&mut bench.chip, &mut bench.memory, &bench.area, kind, body);
+        assert_eq!((answer.record, answer.ticks), (Record::None, 0));
+        answer.refusal
+    };
+    for (kind, body) in [(1, 0), (2, 0x5A), (2, 256), (9, 0)] {
+        assert_eq!(alone(&mut bench, kind, body), 13);
+        assert!(bench.chip == before.chip && bench.memory == before.memory);
+    }
+    let scripts: [&[u8]; 5] = [&[], &[1, 2, 0x5A, 3], &[1, 9], &[1, 2], &[9; 65_537]];
+    for script in scripts {
+        assert_eq!(refused(&mut bench, script, 0), (13, 0));
+    }
+    bench.chip.level = 8;
+    assert_eq!(refused(&mut bench, &[9], 0), (13, 0));
+    assert_eq!(alone(&mut bench, 9, 0), 13);
+    bench.area.pop();
+    assert_eq!(refused(&mut bench, &[9], 0), (2, 0));
+    assert_eq!(alone(&mut bench, 9, 0), 2);
+    bench.area.push(0);
+    bench.memory.pop();
+    assert_eq!(refused(&mut bench, &[9], 0), (1, 0));
+    assert_eq!(alone(&mut bench, 9, 0), 1);
+}
+
+#[test]
+fn sfdp_in_a_run_and_in_the_program() {
+    let mut script = vec![1];
+    script.extend(addressed(0x5A, 0, &[0; 17]).iter().flat_map(|byte| [2, *byte]));
+    script.push(3);
+    let mut bench = Bench::with_area(1, &CONTENT);
+    let mut output = [0xEE; 60];
+    let answer = run(&mut bench.chip, &mut bench.memory, &bench.area, &script, &mut output);
+    assert_eq!(answer, RunAnswer { refusal: 0, offset: 0, written: 39, ticks: 0 });
+    let mut expected = vec![0x80; 5];
+    expected.extend(CONTENT[..16].iter().flat_map(|byte| [0x81, *byte]));
+    expected.extend([0x82, 0]);
+    assert_eq!(output[..39], expected);
+    assert!(output[39..].iter().all(|byte| *byte == 0xEE));
+    let text = "part 65536\n1 --\n3 --\n5 --\n7 --\n9 --\n11 FF\n13 V0\nanswer 0 ticks 0\n";
+    assert_eq!(program::report(&[1, 2, 0x5A, 2, 0, 2, 0, 2, 0, 2, 0, 2, 0, 3]), text);
+}
+
+/// An area of that length, FFh but for the signature, the last header's number and the headers.
+fn area_of(length: usize, last: u8, headers: &[[u8; 8]]) -> Vec<u8> {
+    let mut area = b"SFDP\x05\x01\x00\xFF".to_vec();
+    area[6] = last;
+    area.extend(headers.iter().flatten());
+    area.resize(length, 0xFF);
+    area
+}
+
+/// A header of an identity, a length in words and a pointer.
+fn header(identity: u8, words: u8, pointer: u32) -> [u8; 8] {
+    let [low, middle, high, _] = pointer.to_le_bytes();
+    [identity, 0, 1, words, low, middle, high, 0xFF]
+}
+
+/// What the reader answers when it refuses.
+fn no_table(refusal: u8) -> Found {
+    Found { refusal, place: 0, length: 0 }
+}
+
+/// What the reader answers when it finds a table.
+fn found(place: usize, length: usize) -> Found {
+    Found { refusal: 0, place, length }
+}
+
+/// What the reader finds, after a check that the table handed back is that part of the area.
+fn both(area: &[u8], identity: u8) -> Found {
+    let found = find(area, identity);
+    let part = table(area, identity);
+    assert_eq!(part.len(), found.length);
+    assert_eq!(part, &area[found.place..][..found.length]);
+    if found.refusal == 0 {
+        assert_eq!(part.as_ptr(), area[found.place..].as_ptr());
+    }
+    found
+}
+
+#[test]
+fn reader_13_first() {
+    let good = area_of(257, 0, &[header(1, 1, 16)]);
+    assert_eq!(both(&good[..256], 1), found(16, 4));
+    assert_eq!(both(&good, 1), no_table(13));
+    assert_eq!(both(&[0; 257], 1), no_table(13));
+    assert_eq!(both(&[0; 256], 1), no_table(14));
+    assert_eq!(both(&area_of(300, 255, &[]), 1), no_table(13));
+}
+
+#[test]
+fn reader_14_before_15() {
+    let good = area_of(20, 0, &[header(1, 1, 16)]);
+    for length in 0..4 {
+        assert_eq!(both(&good[..length], 1), no_table(14));
+    }
+    for place in 0..4 {
+        let mut bad = good.clone();
+        bad[place] ^= 0x20;
+        for length in 4..=20 {
+            assert_eq!(both(&bad[..length], 1), no_table(14));
+        }
+    }
+    assert_eq!(both(b"PDFS\x05\x01\x00\xFF\x01\x00\x01\x00\x00\x00\x00\xFF", 1), no_table(14));
+}
+
+#[test]
+fn reader_15_headers_inside_the_area() {
+    for length in 4..16 {
+        assert_eq!(both(&area_of(length, 0, &[]), 0xFF), no_table(15), "{length}");
+    }
+    for last in 0..=255 {
+        let end = 8 + 8 * (usize::from(last) + 1);
+        for length in 8..=256 {
+            let mut area = area_of(length, last, &[header(1, 0, 0)]);
+            area.truncate(length);
+            let fits = end <= length;
+            let expected = if fits { found(0, 0) } else { no_table(15) };
+            assert_eq!(both(&area, 1), expected, "{last} {length}");
+        }
+    }
+    assert_eq!(both(&area_of(256, 30, &[header(1, 0, 256)]), 1), found(256, 0));
+    assert_eq!(both(&area_of(256, 31, &[header(1, 0, 256)]), 1), no_table(15));
+    assert_eq!(both(&area_of(23, 1, &[header(1, 0, 24)]), 1), no_table(15));
+    assert_eq!(both(&area_of(23, 1, &[header(1, 9, 24)]), 2), no_table(15));
+}
+
+#[test]
+fn reader_16_and_the_number_of_headers() {
+    let headers = [header(1, 1, 0), header(2, 1, 4), header(3, 1, 8)];
+    for last in 0..3 {
+        let area = area_of(32, last, &headers);
+        for identity in 0..=255 {
+            let there = (1..=last + 1).contains(&identity);
+            let place = 4 * usize::from(identity.wrapping_sub(1));
+            let expected = if there { found(place, 4) } else { no_table(16) };
+            assert_eq!(both(&area, identity), expected);
+        }
+    }
+    assert_eq!(both(&area_of(16, 0, &[header(1, 255, 0xFF_FFFF)]), 2), no_table(16));
+}
+
+#[test]
+fn reader_17_and_the_table_end() {
+    for words in 0..=60 {
+        let length = 16 + 4 * usize::from(words);
+        let good = area_of(length, 0, &[header(1, words, 16)]);
+        assert_eq!(both(&good, 1), found(16, length - 16));
+        let past = area_of(length, 0, &[header(1, words, 17)]);
+        assert_eq!(both(&past, 1), no_table(17));
+        if words > 0 {
+            assert_eq!(both(&good[..length - 1], 1), no_table(17));
+        }
+    }
+    for length in 16..=256 {
+        let end = length as u32;
+        assert_eq!(both(&area_of(length, 0, &[header(1, 0, end)]), 1), found(length, 0));
+        assert_eq!(both(&area_of(length, 0, &[header(1, 0, end + 1)]), 1), no_table(17));
+        assert_eq!(both(&area_of(length, 0, &[header(1, 1, end - 4)]), 1), found(length - 4, 4));
+        assert_eq!(both(&area_of(length, 0, &[header(1, 1, end - 3)]), 1), no_table(17));
+    }
+    assert_eq!(both(&area_of(256, 0, &[header(1, 64, 0)]), 1), found(0, 256));
+    assert_eq!(both(&area_of(256, 0, &[header(1, 65, 0)]), 1), no_table(17));
+    assert_eq!(both(&area_of(256, 0, &[header(1, 0, 0xFF_FFFF)]), 1), no_table(17));
+    assert_eq!(both(&area_of(256, 0, &[header(1, 255, 0xFF_FFFF)]), 1), no_table(17));
+}
+
+#[test]
+fn reader_first_header_of_an_identity_counts() {
+    let bad = header(1, 9, 0xFF_FFFF);
+    let area = area_of(40, 2, &[header(2, 0, 0), bad, header(1, 1, 32)]);
+    assert_eq!(both(&area, 1), no_table(17));
+    let area = area_of(40, 2, &[header(2, 0, 0), header(1, 2, 32), bad]);
+    assert_eq!(both(&area, 1), found(32, 8));
+    let area = area_of(40, 2, &[header(1, 0, 1), header(1, 0, 2), header(1, 0, 3)]);
+    assert_eq!(both(&area, 1), found(1, 0));
+}
+
+#[test]
+fn reader_pointer_low_first_and_bytes_not_looked_at() {
+    let of = |header| area_of(256, 0, &[header]);
+    assert_eq!(both(&of([1, 0, 1, 4, 0xC0, 0, 0, 0xFF]), 1), found(0xC0, 16));
+    assert_eq!(both(&of([1, 0, 1, 4, 0, 0, 0xC0, 0xFF]), 1), no_table(17));
+    assert_eq!(both(&of([1, 0, 1, 0, 0, 1, 0, 0xFF]), 1), found(256, 0));
+    assert_eq!(both(&of([1, 0, 1, 0, 0, 0, 1, 0xFF]), 1), no_table(17));
+    for byte in 0..=255 {
+        assert_eq!(both(&of([1, 0, 1, 4, 0xC0, 0, 0, byte]), 1), found(0xC0, 16));
+        assert_eq!(both(&of([1, byte, byte, 4, 0xC0, 0, 0, 0xFF]), 1), found(0xC0, 16));
+        let mut area = of([1, 0, 1, 4, 0xC0, 0, 0, 0xFF]);
+        (area[4], area[5], area[7]) = (byte, byte, byte);
+        assert_eq!(both(&area, 1), found(0xC0, 16));
+    }
+}
+
+#[test]
+fn content_as_the_request_says() {
+    assert_eq!(CONTENT[..4], *b"SFDP");
+    assert_eq!(CONTENT[0x10..0x18], [0x62, 0x00, 0x01, 0x04, 0xC0, 0x00, 0x00, 0xFF]);
+    assert_eq!(both(&CONTENT, 0x62), found(0xC0, 16));
+    assert_eq!(both(&CONTENT, 0x00), found(0x40, 64));
+    assert_eq!(both(&CONTENT, 0xFF), no_table(17));
+    for identity in (0x01..=0xFE).filter(|identity| *identity != 0x62) {
+        assert_eq!(both(&CONTENT, identity), no_table(16));
+    }
+    assert!(CONTENT[0x18..0x40].iter().all(|byte| *byte == 0xFF));
+    assert!(CONTENT[0x80..0xC0].iter().all(|byte| *byte == 0xFF));
+    assert_eq!(both(&CONTENT[..0xCF], 0x62), no_table(17));
+    assert_eq!(both(&CONTENT[..0xCF], 0x00), found(0x40, 64));
+    let mut padded = CONTENT.to_vec();
+    padded.resize(256, 0xFF);
+    assert_eq!(both(&padded, 0x62), found(0xC0, 16));
+    assert_eq!(both(&padded, 0xFF), no_table(17));
+}
+
+/// A word of table 15: its place and the bit columns, high bit, low bit and value.
+type BitColumns = (usize, &'static [(u32, u32, u32)]);
+
+/// The bit columns of table 15, with the hex column where there is a dash for the bits.
+const BIT_COLUMNS: [BitColumns; 20] = [
+    (0x40, &[
+        (1, 0, 0b01), (2, 2, 0b1), (3, 3, 0b0), (4, 4, 0b0), (7, 5, 0b111),
+        (15, 8, 0b0010_0000), (16, 16, 0b1), (18, 17, 0b00), (19, 19, 0b0), (20, 20, 0b1),
+        (21, 21, 0b0), (22, 22, 0b0), (23, 23, 0b1), (31, 24, 0b1111_1111),
+    ]),
+    (0x44, &[(31, 0, 0x00FF_FFFF)]),
+    (0x48, &[
+        (4, 0, 0b0_0000), (7, 5, 0b000), (15, 8, 0b1111_1111),
+        (20, 16, 0b0_0000), (23, 21, 0b000), (31, 24, 0b1111_1111),
+    ]),
+    (0x4C, &[
+        (4, 0, 0b0_1000), (7, 5, 0b000), (15, 8, 0b0011_1011),
+        (20, 16, 0b0_0100), (23, 21, 0b000), (31, 24, 0b1011_1011),
+    ]),
+    (0x50, &[(0, 0, 0b0), (3, 1, 0b111), (4, 4, 0b0), (7, 5, 0b111), (31, 8, 0xFF_FFFF)]),
+    (0x54, &[(15, 0, 0xFFFF), (20, 16, 0b0_0000), (23, 21, 0b000), (31, 24, 0b1111_1111)]),
+    (0x58, &[(15, 0, 0xFFFF), (20, 16, 0b0_0000), (23, 21, 0b000), (31, 24, 0b1111_1111)]),
+    (0x5C, &[
+        (7, 0, 0b0000_1100), (15, 8, 0b0010_0000), (23, 16, 0b0001_0000), (31, 24, 0b1101_1000),
+    ]),
+    (0x60, &[
+        (7, 0, 0b0000_0000), (15, 8, 0b1111_1111), (23, 16, 0b0000_0000), (31, 24, 0b1111_1111),
+    ]),
+    (0x64, &[
+        (3, 0, 0b0100), (10, 4, 0b00_01001), (17, 11, 0b00_01110),
+        (24, 18, 0b00_00000), (31, 25, 0b00_00000),
+    ]),
+    (0x68, &[
+        (3, 0, 0b0010), (7, 4, 0b1000), (13, 8, 0b1_00110), (18, 14, 0b1_1111),
+        (23, 19, 0b0_0000), (30, 24, 0b00_01100), (31, 31, 0b0),
+    ]),
+    (0x6C, &[
+        (3, 0, 0b1101), (7, 4, 0b1111), (8, 8, 0b0), (12, 9, 0b0000), (19, 13, 0b10_00100),
+        (23, 20, 0b0000), (30, 24, 0b10_00100), (31, 31, 0b0),
+    ]),
+    (0x70, &[
+        (7, 0, 0b0011_0000), (15, 8, 0b1011_0000), (23, 16, 0b0011_0000), (31, 24, 0b1011_0000),
+    ]),
+    (0x74, &[
+        (1, 0, 0b00), (7, 2, 0b0000_01), (14, 8, 0b10_00100), (22, 15, 0b1010_1011),
+        (30, 23, 0b1011_1001), (31, 31, 0b0),
+    ]),
+    (0x78, &[
+        (3, 0, 0b0000), (8, 4, 0b0_0000), (9, 9, 0b0), (15, 10, 0b00_0000), (19, 16, 0b0000),
+        (22, 20, 0b000), (23, 23, 0b0), (31, 24, 0b0000_0000),
+    ]),
+    (0x7C, &[
+        (6, 0, 0b001_1001), (7, 7, 0b0), (13, 8, 0b01_0000), (23, 14, 0b00_0000_0000),
+        (31, 24, 0b0000_0000),
+    ]),
+    (0xC0, &[(15, 0, 0x1950), (31, 16, 0x1650)]),
+    (0xC4, &[
+        (0, 0, 0b0), (1, 1, 0b0), (2, 2, 0b1), (3, 3, 0b0), (4, 4, 0b1), (5, 5, 0b0),
+        (7, 6, 0b00), (31, 8, 0xFF_FFFF),
+    ]),
+    (0xC8, &[
+        (7, 0, 0b1001_1111), (15, 8, 0b0110_0010), (23, 16, 0b0001_0110), (31, 24, 0b0001_0101),
+    ]),
+    (0xCC, &[(7, 0, 0b1010_1011), (15, 8, 0b1000_1000), (31, 16, 0xFFFF)]),
+];
+
+#[test]
+fn content_agrees_with_the_bit_columns() {
+    for (place, columns) in BIT_COLUMNS {
+        let mut word = 0;
+        let mut next = 0;
+        for (high, low, value) in columns {
+            assert_eq!(*low, next, "{place:02X}");
+            assert!(u64::from(*value) < 1 << (high - low + 1));
+            word |= value << low;
+            next = high + 1;
+        }
+        assert_eq!(next, 32);
+        assert_eq!(CONTENT[place..place + 4], word.to_le_bytes(), "{place:02X}");
+    }
+    let places: Vec<usize> = BIT_COLUMNS.iter().map(|(place, _)| *place).collect();
+    assert_eq!(places, (0x40..0x80).chain(0xC0..0xD0).step_by(4).collect::<Vec<_>>());
+}
+
+/// The reader's answer by the rules read off one after another, place by place.
+fn plain_answer(area: &[u8], identity: u8) -> Found {
+    if area.len() > 256 {
+        return no_table(13);
+    }
+    if area.len() < 4 || area[..4] != [0x53, 0x46, 0x44, 0x50] {
+        return no_table(14);
+    }
+    if area.len() < 8 || (0..=usize::from(area[6])).any(|h| 8 + 8 * h + 8 > area.len()) {
+        return no_table(15);
+    }
+    for place in (0..=usize::from(area[6])).map(|h| 8 + 8 * h) {
+        if area[place] == identity {
+            let [low, middle, high] = [4, 5, 6].map(|j| usize::from(area[place + j]));
+            let (start, words) = (low + 256 * middle + 65_536 * high, usize::from(area[place + 3]));
+            let ends_past = start + 4 * words > area.len();
+            return if ends_past { no_table(17) } else { found(start, 4 * words) };
+        }
+    }
+    no_table(16)
+}
+
+/// A random area: the part's own or a made one, cut, lengthened or damaged.
+fn random_area(dice: &mut Dice) -> Vec<u8> {
+    let pointer = |dice: &mut Dice| dice.below_one_of(&[260, 260, 1 << 24]) as u32;
+    let headers: Vec<[u8; 8]> = (0..1 + dice.below(5))
+        .map(|_| header(dice.below(4) as u8, dice.below(30) as u8, pointer(dice)))
+        .collect();
+    let made = area_of(256, dice.below(6) as u8, &headers);
+    let mut area = if dice.below(2) == 0 { made } else { CONTENT.to_vec() };
+    for _ in 0..dice.below(3) {
+        let place = dice.below_one_of(&[8, 32]) as usize;
+        area[place] = dice.below(256) as u8;
+    }
+    if dice.below(2) == 0 {
+        area.resize(dice.below(301) as usize, dice.below(256) as u8);
+    }
+    area
+}
+
+#[test]
+fn what_the_wire_shows_is_what_the_reader_gives() {
+    let mut dice = Dice(5);
+    let mut seen = [0; 18];
+    for _ in 0..3_000 {
+        let area = random_area(&mut dice);
+        let identity = [0x00, 0x01, 0x02, 0x03, 0x62, 0xFF][dice.below(6) as usize];
+        let answer = both(&area, identity);
+        assert_eq!(answer, plain_answer(&area, identity));
+        seen[usize::from(answer.refusal)] += 1;
+        if answer.refusal == 0 {
+            let mut bench = Bench::with_area(1, &area);
+            let bytes = bench.read_sfdp(answer.place as u32, answer.length);
+            assert_eq!(bytes, table(&area, identity));
+        }
+    }
+    assert!([0, 13, 14, 15, 16, 17].iter().all(|refusal| seen[*refusal] > 20), "{seen:?}");
 }

@@ -59,6 +59,9 @@ jedecId = 0x9F
 abbrev pub wake : ℕ
 wake = 0xAB
 
+abbrev pub readSfdp : ℕ
+readSfdp = 0x5A
+
 abbrev pub deepPowerDown : ℕ
 deepPowerDown = 0xB9
 
@@ -90,6 +93,7 @@ rows =
     ∷ (resume ∷ 1 ∷ 0 ∷ 1 ∷ [])
     ∷ (jedecId ∷ 0 ∷ 0 ∷ 0 ∷ [])
     ∷ (wake ∷ 0 ∷ 0 ∷ 0 ∷ [])
+    ∷ (readSfdp ∷ 0 ∷ 0 ∷ 0 ∷ [])
     ∷ (deepPowerDown ∷ 1 ∷ 0 ∷ 0 ∷ [])
     ∷ (resetEnable ∷ 1 ∷ 1 ∷ 1 ∷ [])
     ∷ (reset ∷ 1 ∷ 1 ∷ 1 ∷ [])
@@ -114,9 +118,9 @@ rowOf opcode = rowIn rows opcode
 unfoldable pub fitsRule : ℕ → ℕ → Bool
 fitsRule rule n = eqb rule 0 || cond (eqb rule 5) (leb 5 n) (eqb n rule)
 
--- the reads, which are verdict 0 however they end: 05h, 03h, 0Bh, 9Fh (RULES, Verdicts)
+-- the reads, which are verdict 0 however they end: 05h, 03h, 0Bh, 9Fh, 5Ah (RULES, Verdicts)
 unfoldable pub isRead : ℕ → Bool
-isRead opcode = eqb opcode readStatus || eqb opcode lowPowerRead || eqb opcode highSpeedRead || eqb opcode jedecId
+isRead opcode = eqb opcode readStatus || eqb opcode lowPowerRead || eqb opcode highSpeedRead || eqb opcode jedecId || eqb opcode readSfdp
 
 -- a page program: 02h, 0Ah
 unfoldable pub isProgram : ℕ → Bool

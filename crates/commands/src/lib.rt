@@ -51,6 +51,8 @@ impl Command {
 
     pub const WAKE: u8 = 0xAB;
 
+    pub const READ_SFDP: u8 = 0x5A;
+
     pub const DEEP_POWER_DOWN: u8 = 0xB9;
 
     pub const RESET_ENABLE: u8 = 0x66;
@@ -58,7 +60,7 @@ impl Command {
     pub const RESET: u8 = 0x99;
 
     // How many rows the table has.
-    const COUNT: usize = 20;
+    const COUNT: usize = 21;
 
     // Opcode, length rule (0 any; 5 five or more; otherwise exactly that many bytes), allowed while running, allowed suspended.
     const ROWS: [[u8; 4]; Command::COUNT] = [
@@ -79,6 +81,7 @@ impl Command {
         [Command::RESUME, 1, 0, 1],
         [Command::JEDEC_ID, 0, 0, 0],
         [Command::WAKE, 0, 0, 0],
+        [Command::READ_SFDP, 0, 0, 0],
         [Command::DEEP_POWER_DOWN, 1, 0, 0],
         [Command::RESET_ENABLE, 1, 1, 1],
         [Command::RESET, 1, 1, 1],
@@ -137,6 +140,7 @@ pub fn is_read(opcode: u8) -> bool
         Command::LOW_POWER_READ => true,
         Command::HIGH_SPEED_READ => true,
         Command::JEDEC_ID => true,
+        Command::READ_SFDP => true,
         _ => false,
     }
 }

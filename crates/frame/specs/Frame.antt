@@ -5,7 +5,8 @@ use mathlib.Core.List.{List}
 use lib.Dec.{eqb, ltb, leb}
 use lib.ListN.{getD, set}
 use Rattle.part.specs.Part.{Setting, lengthOf, reduced, jedecByte, jedecCycle, deviceByte}
-use Rattle.commands.specs.Table.{rowOf, isProgram, readStatus, lowPowerRead, highSpeedRead, jedecId, wake}
+use Rattle.part.specs.Area.{areaPlaces, areaByte}
+use Rattle.commands.specs.Table.{rowOf, isProgram, readStatus, lowPowerRead, highSpeedRead, jedecId, wake, readSfdp}
 use Rattle.chip.specs.declared.Core.{Core}
 use Rattle.chip.specs.declared.Frame.{Frame}
 use Rattle.chip.specs.declared.Record.{Record}
@@ -59,11 +60,15 @@ reading n f = withPlace (nextPlace n (f .place)) (counting f)
 abbrev pub loading : Frame → Frame
 loading f = withSlot (nextSlot (f .slot)) (counting f)
 
--- bytes 2 to 4 are the address; the last of them sets both places, on a part of S sectors
+-- the read place that an address sets, on a part of S sectors: the cell that it means; of 5Ah the address as it is
+abbrev pub firstPlace : ℕ → ℕ → ℕ → ℕ
+firstPlace S opcode address = cond (eqb opcode readSfdp) address (reduced S address)
+
+-- bytes 2 to 4 are the address; the last of them sets both places
 abbrev pub addressing : ℕ → ℕ → Frame → Frame
 addressing S b f =
     withAddress (cond (ltb (f .count) 4) (shifted (f .address) b) (f .address))
-    (withPlace (cond (eqb (f .count) 3) (reduced S (shifted (f .address) b)) (f .place))
+    (withPlace (cond (eqb (f .count) 3) (firstPlace S (f .opcode) (shifted (f .address) b)) (f .place))
     (withSlot (cond (eqb (f .count) 3) b (f .slot)) (counting f)))
 
 -- ---- an exchange
@@ -85,7 +90,11 @@ readsCell f = eqb (f .opcode) lowPowerRead && leb 4 (f .count) || eqb (f .opcode
 abbrev pub takesData : Frame → Bool
 takesData f = isProgram (f .opcode) && leb 4 (f .count)
 
--- byte 2 and up of a frame with judgement none: a cell, a byte for the load, the status, the cycle of 9Fh, the identity of ABh, or a byte that floats
+-- whether it is a byte of the SFDP area: from byte 6 of 5Ah, after the dummy
+abbrev pub readsArea : Frame → Bool
+readsArea f = eqb (f .opcode) readSfdp && leb 5 (f .count)
+
+-- byte 2 and up of a frame with judgement none: a cell, a byte for the load, the status, the cycle of 9Fh, the identity of ABh, the SFDP area, or a byte that floats
 unfoldable pub taken : Setting → Core → Frame → List ℕ → List ℕ → ℕ → Exchange
 taken T k f load m b =
     cond (readsCell f) (exchange (Driven (getD m (f .place) 0)) (reading (lengthOf (T .sectors)) f) load)
@@ -93,7 +102,8 @@ taken T k f load m b =
     (cond (eqb (f .opcode) readStatus) (exchange (Driven (statusByte k)) (counting f) load)
     (cond (eqb (f .opcode) jedecId) (exchange (Driven (jedecByte (f .place))) (reading jedecCycle f) load)
     (cond (eqb (f .opcode) wake && leb 4 (f .count)) (exchange (Driven deviceByte) (counting f) load)
-    (exchange Floating (addressing (T .sectors) b f) load)))))
+    (cond (readsArea f) (exchange (Driven (areaByte (T .area) (f .place))) (reading areaPlaces f) load)
+    (exchange Floating (addressing (T .sectors) b f) load))))))
 
 -- an exchange of byte b: unselected it floats and does no more; the opcode byte floats and is judged; a judged frame floats to its end
 unfoldable pub exchanged : Setting → Core → Frame → List ℕ → List ℕ → ℕ → Exchange

@@ -9,12 +9,13 @@ use lib.ListN.{getD, set}
 use borrow.Author.Tests.{eq-eqb, ne-eqb, eqb-true}
 use Rattle.cells.specs.Choice.{cond-yes, cond-no}
 use Rattle.part.specs.Part.{Setting, lengthOf, jedecByte, jedecCycle, deviceByte}
+use Rattle.part.specs.Area.{areaPlaces, areaByte}
 use Rattle.commands.specs.Table.{rowOf, readStatus, jedecId, wake}
 use Rattle.chip.specs.declared.Core.{Core}
 use Rattle.chip.specs.declared.Frame.{Frame}
 use Rattle.chip.specs.declared.Record.the-variants.{Floating, Driven}
 use Rattle.chip.specs.Chip.{running, statusByte}
-use Rattle.frame.specs.Frame.{judge, exchange, opened, counting, reading, loading, addressing, readsCell, takesData, taken, exchanged}
+use Rattle.frame.specs.Frame.{judge, exchange, opened, counting, reading, loading, addressing, readsCell, takesData, readsArea, taken, exchanged}
 
 -- ---- byte 2 and up, by what the frame is
 
@@ -44,10 +45,16 @@ module _ (T : Setting) (k : Core) (f : Frame) (load m : List ℕ) (b : ℕ) wher
           taken-device h =
               cond-no _ _ _ no-cell ∙ cond-no _ _ _ no-data ∙ cond-no _ _ _ (ne-eqb _ _ no-status) ∙ cond-no _ _ _ (ne-eqb _ _ no-jedec) ∙ cond-yes _ _ _ h
 
-          pub taken-address : (eqb (f .opcode) wake && leb 4 (f .count)) ≡ false → taken T k f load m b ≡ exchange Floating (addressing (T .sectors) b f) load
-          unfolding taken
-          taken-address h =
-              cond-no _ _ _ no-cell ∙ cond-no _ _ _ no-data ∙ cond-no _ _ _ (ne-eqb _ _ no-status) ∙ cond-no _ _ _ (ne-eqb _ _ no-jedec) ∙ cond-no _ _ _ h
+          module _ (no-device : (eqb (f .opcode) wake && leb 4 (f .count)) ≡ false) where
+            pub taken-area : readsArea f ≡ true → taken T k f load m b ≡ exchange (Driven (areaByte (T .area) (f .place))) (reading areaPlaces f) load
+            unfolding taken
+            taken-area h =
+                cond-no _ _ _ no-cell ∙ cond-no _ _ _ no-data ∙ cond-no _ _ _ (ne-eqb _ _ no-status) ∙ cond-no _ _ _ (ne-eqb _ _ no-jedec) ∙ cond-no _ _ _ no-device ∙ cond-yes _ _ _ h
+
+            pub taken-address : readsArea f ≡ false → taken T k f load m b ≡ exchange Floating (addressing (T .sectors) b f) load
+            unfolding taken
+            taken-address h =
+                cond-no _ _ _ no-cell ∙ cond-no _ _ _ no-data ∙ cond-no _ _ _ (ne-eqb _ _ no-status) ∙ cond-no _ _ _ (ne-eqb _ _ no-jedec) ∙ cond-no _ _ _ no-device ∙ cond-no _ _ _ h
 
   -- ---- an exchange
 

@@ -1,8 +1,8 @@
 -- A legal frame stays legal under an exchange.
 use Prim.Native.Nat.{ℕ, _+_, _<_, _≤_, _^_}
-use mathlib.Core.Bool.{Bool, true, false, not, _&&_, _||_, false≢true}
+use mathlib.Core.Bool.{Bool, true, false, cond, not, _&&_, _||_, false≢true}
 use mathlib.Core.List.{List}
-use mathlib.Core.Path.{_≡_, refl, sym, subst}
+use mathlib.Core.Path.{_≡_, refl, sym, ap, subst}
 use native.Mathlib.Nat.{mod-lt}
 use native.Mathlib.Omega.{arith}
 use lib.Dec.{eqb, ltb, leb}
@@ -10,14 +10,15 @@ use lib.ListN.{getD, set}
 use borrow.Author.Tests.{eqb-true, eqb-false, eq-eqb, ne-eqb, not-true, not-false, ltb-true}
 use Rattle.cells.specs.Choice.{cond-either, cond-yes, cond-no, and-left, and-right}
 use Rattle.part.specs.Part.{Setting, lengthOf, reduced, jedecByte, jedecCycle, deviceByte}
-use Rattle.commands.specs.Table.{rowOf, lowPowerRead, highSpeedRead, readStatus, jedecId, wake}
+use Rattle.part.specs.Area.{areaPlaces, areaByte}
+use Rattle.commands.specs.Table.{rowOf, lowPowerRead, highSpeedRead, readStatus, jedecId, wake, readSfdp}
 use Rattle.chip.specs.declared.Core.{Core}
 use Rattle.chip.specs.declared.Frame.{Frame}
 use Rattle.chip.specs.declared.Record.the-variants.{Floating, Driven}
 use Rattle.chip.specs.Chip.{running, statusByte}
 use Rattle.legal.specs.Legal.{judgementKnown, readPlaces, isEmpty, isBlank, tidy}
 use Rattle.legal.specs.Legality.{LegalFrame, unbegun-empty}
-use Rattle.frame.specs.Frame.{judge, counted, shifted, nextPlace, opened, counting, reading, loading, addressing, readsCell, takesData, Exchange, exchange, taken, exchanged}
+use Rattle.frame.specs.Frame.{judge, counted, shifted, nextPlace, opened, counting, reading, loading, firstPlace, addressing, readsCell, takesData, readsArea, Exchange, exchange, taken, exchanged}
 
 -- ---- a judgement is none, 3, 5, 6 or 7
 
@@ -43,24 +44,33 @@ nextPlace-inside n place h = cond-either (λ (q : ℕ). q < n) (ltb (place + 1) 
 shifted-small : (address b : ℕ) → b < 256 → shifted address b < 2 ^ 24
 shifted-small address b h = omega arith
 
-readPlaces-cells : (S opcode : ℕ) → (opcode ≡ jedecId → ⊥) → readPlaces S opcode ≡ lengthOf S
-readPlaces-cells S opcode h = cond-no (eqb opcode jedecId) _ _ (ne-eqb _ _ h)
-
 readPlaces-some : (S opcode : ℕ) → 1 ≤ S → 0 < readPlaces S opcode
-readPlaces-some S opcode h = cond-either (λ (q : ℕ). 0 < q) (eqb opcode jedecId) _ _ (λ _. omega arith) (λ _. omega arith)
+readPlaces-some S opcode h =
+    cond-either (λ (q : ℕ). 0 < q) (eqb opcode jedecId) _ _ (λ _. omega arith)
+    (λ _. cond-either (λ (q : ℕ). 0 < q) (eqb opcode readSfdp) _ _ (λ _. omega arith) (λ _. omega arith))
 
--- a read of cells is no read of the identity
-cells-no-jedec : (f : Frame) → readsCell f ≡ true → f .opcode ≡ jedecId → ⊥
-cells-no-jedec f h e = go (leb 4 (f .count)) (leb 5 (f .count)) (subst (λ (q : ℕ). (eqb q lowPowerRead && leb 4 (f .count) || eqb q highSpeedRead && leb 5 (f .count)) ≡ true) e h)
+-- a read of cells has the cells for its places
+cells-places : (S : ℕ) (f : Frame) → readsCell f ≡ true → readPlaces S (f .opcode) ≡ lengthOf S
+cells-places S f h = go (eqb (f .opcode) lowPowerRead) (eqb (f .opcode) highSpeedRead) refl refl h
   where
-    go : (a b : Bool) → (eqb jedecId lowPowerRead && a || eqb jedecId highSpeedRead && b) ≡ true → ⊥
-    go a b p = false≢true p
+    go : (a b : Bool) → eqb (f .opcode) lowPowerRead ≡ a → eqb (f .opcode) highSpeedRead ≡ b → (a && leb 4 (f .count) || b && leb 5 (f .count)) ≡ true → readPlaces S (f .opcode) ≡ lengthOf S
+    go true b p q e = ap (λ (opcode : ℕ). readPlaces S opcode) (eqb-true (f .opcode) lowPowerRead p)
+    go false true p q e = ap (λ (opcode : ℕ). readPlaces S opcode) (eqb-true (f .opcode) highSpeedRead q)
+    go false false p q e = absurd (false≢true e)
+
+-- a read of the area has the places of 5Ah
+area-places : (S : ℕ) (f : Frame) → readsArea f ≡ true → readPlaces S (f .opcode) ≡ areaPlaces
+area-places S f h = ap (λ (opcode : ℕ). readPlaces S opcode) (eqb-true (f .opcode) readSfdp (and-left (eqb (f .opcode) readSfdp) (leb 5 (f .count)) h))
+
+-- an address sets a place that there is
+firstPlace-inside : (S opcode address : ℕ) → 1 ≤ S → address < 2 ^ 24 → (opcode ≡ jedecId → ⊥) → firstPlace S opcode address < readPlaces S opcode
+firstPlace-inside S opcode address some small other = subst (λ (q : ℕ). firstPlace S opcode address < q) (sym (cond-no (eqb opcode jedecId) _ _ (ne-eqb _ _ other))) (go (eqb opcode readSfdp))
+  where
+    go : (sfdp : Bool) → _<_ (cond sfdp address (reduced S address)) (cond sfdp areaPlaces (lengthOf S))
+    go true = small
+    go false = mod-lt address (omega (arith, some))
 
 -- ---- the frame after a byte
-
--- a part has cells
-length-some : (S : ℕ) → 1 ≤ S → 0 < lengthOf S
-length-some S h = omega arith
 
 module _ (S : ℕ) (some : 1 ≤ S) (f : Frame) (l : LegalFrame S f) where
   counting-legal : LegalFrame S (counting f)
@@ -88,7 +98,7 @@ module _ (S : ℕ) (some : 1 ≤ S) (f : Frame) (l : LegalFrame S f) where
         address-small = cond-either (λ (q : ℕ). q < 2 ^ 24) (ltb (f .count) 4) _ _ (λ _. shifted-small (f .address) b h) (λ _. l .address-small);
         place-inside =
             cond-either (λ (q : ℕ). q < readPlaces S (f .opcode)) (eqb (f .count) 3) _ _
-            (λ _. subst (λ (q : ℕ). reduced S (shifted (f .address) b) < q) (sym (readPlaces-cells S (f .opcode) other)) (mod-lt (shifted (f .address) b) (length-some S some)))
+            (λ _. firstPlace-inside S (f .opcode) (shifted (f .address) b) some (shifted-small (f .address) b h) other)
             (λ _. l .place-inside);
         count-small = counted-small (f .count);
         judgement-known = l .judgement-known;
@@ -112,15 +122,17 @@ pub taken-each : (T : Setting) (k : Core) (f : Frame) (load m : List ℕ) (b : �
     → (f .opcode ≡ readStatus → P (exchange (Driven (statusByte k)) (counting f) load))
     → (f .opcode ≡ jedecId → P (exchange (Driven (jedecByte (f .place))) (reading jedecCycle f) load))
     → P (exchange (Driven deviceByte) (counting f) load)
+    → (readsArea f ≡ true → P (exchange (Driven (areaByte (T .area) (f .place))) (reading areaPlaces f) load))
     → ((f .opcode ≡ jedecId → ⊥) → P (exchange Floating (addressing (T .sectors) b f) load))
     → P (taken T k f load m b)
 unfolding taken
-taken-each T k f load m b P p₁ p₂ p₃ p₄ p₅ p₆ =
+taken-each T k f load m b P p₁ p₂ p₃ p₄ p₅ p₆ p₇ =
     cond-either P (readsCell f) _ _ p₁
     (λ _. cond-either P (takesData f) _ _ p₂
     (λ _. cond-either P (eqb (f .opcode) readStatus) _ _ (λ e. p₃ (eqb-true _ _ e))
     (λ _. cond-either P (eqb (f .opcode) jedecId) _ _ (λ e. p₄ (eqb-true _ _ e))
-    (λ e. cond-either P (eqb (f .opcode) wake && leb 4 (f .count)) _ _ (λ _. p₅) (λ _. p₆ (eqb-false _ _ e))))))
+    (λ e. cond-either P (eqb (f .opcode) wake && leb 4 (f .count)) _ _ (λ _. p₅)
+    (λ _. cond-either P (readsArea f) _ _ p₆ (λ _. p₇ (eqb-false _ _ e)))))))
 
 pub exchanged-each : (T : Setting) (k : Core) (f : Frame) (load m : List ℕ) (b : ℕ) (P : Exchange → Type 0)
     → (f .selected ≡ false → P (exchange Floating f load))
@@ -166,9 +178,10 @@ exchange-legal T k f load m b some byte l t =
     (λ s. record { frame-part = counting-legal (T .sectors) some f l; tidy-part = begun-tidy (counting f) load s (counted-some (f .count)) })
     (λ s.
     taken-each T k f load m b (LegalExchange (T .sectors))
-    (λ e. record { frame-part = reading-legal (T .sectors) some f l (lengthOf (T .sectors)) (readPlaces-cells (T .sectors) (f .opcode) (cells-no-jedec f e)); tidy-part = begun-tidy (reading (lengthOf (T .sectors)) f) load s (counted-some (f .count)) })
+    (λ e. record { frame-part = reading-legal (T .sectors) some f l (lengthOf (T .sectors)) (cells-places (T .sectors) f e); tidy-part = begun-tidy (reading (lengthOf (T .sectors)) f) load s (counted-some (f .count)) })
     (λ _. record { frame-part = loading-legal (T .sectors) some f l; tidy-part = begun-tidy (loading f) _ s (counted-some (f .count)) })
     (λ _. record { frame-part = counting-legal (T .sectors) some f l; tidy-part = begun-tidy (counting f) load s (counted-some (f .count)) })
     (λ e. record { frame-part = reading-legal (T .sectors) some f l jedecCycle (cond-yes (eqb (f .opcode) jedecId) _ _ (eq-eqb _ _ e)); tidy-part = begun-tidy (reading jedecCycle f) load s (counted-some (f .count)) })
     (record { frame-part = counting-legal (T .sectors) some f l; tidy-part = begun-tidy (counting f) load s (counted-some (f .count)) })
+    (λ e. record { frame-part = reading-legal (T .sectors) some f l areaPlaces (area-places (T .sectors) f e); tidy-part = begun-tidy (reading areaPlaces f) load s (counted-some (f .count)) })
     (λ e. record { frame-part = addressing-legal (T .sectors) some f l b byte e; tidy-part = begun-tidy (addressing (T .sectors) b f) load s (counted-some (f .count)) }))

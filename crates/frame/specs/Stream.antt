@@ -1,10 +1,10 @@
--- A data byte of a read of cells or of a page load: it asks nothing of the core, so that a run needs no more than the frame for it (RULES, Commands).
+-- A data byte of a read of cells or of a page load: it asks nothing of the core and of the area, so that a run needs no more than the frame for it (RULES, Commands).
 use Prim.Native.Nat.{ℕ}
 use mathlib.Core.Bool.{Bool, cond, _&&_, _||_}
 use mathlib.Core.List.{List}
 use lib.Dec.{eqb}
 use lib.ListN.{getD, set}
-use Rattle.part.specs.Part.{Setting, lengthOf}
+use Rattle.part.specs.Part.{lengthOf}
 use Rattle.chip.specs.declared.Frame.{Frame}
 use Rattle.chip.specs.declared.Record.the-variants.{Floating, Driven}
 use Rattle.frame.specs.Frame.{Exchange, exchange, reading, loading, readsCell, takesData}
@@ -17,7 +17,7 @@ isData f = readsCell f || takesData f
 abbrev pub streams : Frame → Bool
 streams f = f .selected && eqb (f .judgement) 0 && isData f
 
--- what it does: a cell is driven, or the byte goes into the load
-unfoldable pub streamed : Setting → Frame → List ℕ → List ℕ → ℕ → Exchange
-streamed T f load m b =
-    cond (readsCell f) (exchange (Driven (getD m (f .place) 0)) (reading (lengthOf (T .sectors)) f) load) (exchange Floating (loading f) (set load (f .slot) b))
+-- what it does, on a part of S sectors: a cell is driven, or the byte goes into the load
+unfoldable pub streamed : ℕ → Frame → List ℕ → List ℕ → ℕ → Exchange
+streamed S f load m b =
+    cond (readsCell f) (exchange (Driven (getD m (f .place) 0)) (reading (lengthOf S) f) load) (exchange Floating (loading f) (set load (f .slot) b))

@@ -16,12 +16,12 @@ use Rattle.frame.specs.Frame.{Exchange, exchange, reading, loading, read
 use Rattle.frame.specs.Laws.{exchanged-taken}
 use Rattle.frame.specs.Stream.{isData, streams, streamed}
 
-module _ (T : Setting) (f : Frame) (load m : List ℕ) (b : ℕ) where
-  pub streamed-cell : readsCell f ≡ true → streamed T f load m b ≡ exchange (Driven (getD m (f .place) 0)) (reading (lengthOf (T .sectors)) f) load
+module _ (S : ℕ) (f : Frame) (load m : List ℕ) (b : ℕ) where
+  pub streamed-cell : readsCell f ≡ true → streamed S f load m b ≡ exchange (Driven (getD m (f .place) 0)) (reading (lengthOf S) f) load
   unfolding streamed
   streamed-cell h = cond-yes _ _ _ h
 
-  pub streamed-load : readsCell f ≡ false → streamed T f load m b ≡ exchange Floating (loading f) (set load (f .slot) b)
+  pub streamed-load : readsCell f ≡ false → streamed S f load m b ≡ exchange Floating (loading f) (set load (f .slot) b)
   unfolding streamed
   streamed-load h = cond-no _ _ _ h
 
@@ -39,7 +39,7 @@ no-load f h = neither (readsCell f) (takesData f) h .1
 -- ---- it is what the exchange does
 
 module _ (T : Setting) (k : Core) (f : Frame) (load m : List ℕ) (b : ℕ) where
-  pub taken-stream : isData f ≡ true → taken T k f load m b ≡ streamed T f load m b
+  pub taken-stream : isData f ≡ true → taken T k f load m b ≡ streamed (T .sectors) f load m b
   unfolding taken streamed
   taken-stream h = go (readsCell f) (takesData f) _ _ _ h
     where
@@ -64,7 +64,7 @@ module _ (T : Setting) (k : Core) (f : Frame) (load m : List ℕ) (b : ℕ) wher
       go false false true e = false≢true e
       go false false false e = false≢true e
 
-  pub exchanged-stream : streams f ≡ true → exchanged T k f load m b ≡ streamed T f load m b
+  pub exchanged-stream : streams f ≡ true → exchanged T k f load m b ≡ streamed (T .sectors) f load m b
   exchanged-stream h =
       let is : isData f ≡ true = and-right (f .selected && eqb (f .judgement) 0) (isData f) h in
       let ready : (f .selected && eqb (f .judgement) 0) ≡ true = and-left (f .selected && eqb (f .judgement) 0) (isData f) h in

@@ -3,7 +3,7 @@ ghost use mathlib.Core.Path.{_≡_};
 ghost use Prim.Native.Nat.{_%_, _*_, _+_, _<_};
 ghost use Rattle.part.specs.Part.{setting};
 ghost use Rattle.chip.specs.declared.Record.{Record};
-ghost use Rattle.frame.specs.Frame.{judge, counted, shifted, nextPlace, nextSlot, opened, counting, reading, loading, addressing, readsCell, takesData, exchange, taken, exchanged};
+ghost use Rattle.frame.specs.Frame.{judge, counted, shifted, nextPlace, nextSlot, opened, counting, reading, loading, firstPlace, addressing, readsCell, takesData, readsArea, exchange, taken, exchanged};
 ghost use Rattle.frame.specs.Stream.{isData, streams, streamed};
 use chip::Core;
 use chip::Frame;
@@ -114,6 +114,16 @@ fn load_up(f: Frame) -> Frame
     next
 }
 
+// The read place that an address sets: 5Ah takes the address as it is.
+fn first_place(sectors: u8, opcode: u8, address: u32) -> usize
+    ensures { λ r. ⌜ r ≡ firstPlace sectors opcode address ⌝ }
+{
+    if opcode == Command::READ_SFDP {
+        return address as usize;
+    }
+    part::cell_of(sectors, address)
+}
+
 fn address(sectors: u8, b: u8, f: Frame) -> Frame
     ensures { λ r. ⌜ r ≡ addressing sectors b f ⌝ }
 {
@@ -125,7 +135,7 @@ fn address(sectors: u8, b: u8, f: Frame) -> Frame
     let full = shift_in(f.address, b);
     next.address = full;
     if f.count == 3 {
-        next.place = part::cell_of(sectors, full);
+        next.place = first_place(sectors, f.opcode, full);
         next.slot = b;
         return next;
     }
@@ -143,6 +153,12 @@ fn takes_data(f: Frame) -> bool
     ensures { λ r. ⌜ r ≡ takesData f ⌝ }
 {
     commands::is_program(f.opcode) & (4 <= f.count)
+}
+
+fn reads_area(f: Frame) -> bool
+    ensures { λ r. ⌜ r ≡ readsArea f ⌝ }
+{
+    (f.opcode == Command::READ_SFDP) & (5 <= f.count)
 }
 
 fn floats(f: Frame) -> Exchanged
@@ -178,7 +194,7 @@ pub fn streams(f: Frame) -> bool
 
 // A data byte of a read of cells or of a page load: it asks nothing of the core.
 pub fn stream(f: Frame, load: &mut [u8; 256], mem: &[u8], sectors: u8, b: u8) -> Exchanged
-    ensures { λ r. ⌜ exchange (r .said) (r .frame) (now (load .exit)) ≡ streamed (setting sectors) f (now (load .entry)) (now (mem .entry)) b ⌝ }
+    ensures { λ r. ⌜ exchange (r .said) (r .frame) (now (load .exit)) ≡ streamed sectors f (now (load .entry)) (now (mem .entry)) b ⌝ }
 {
     if reads_cell(f) {
         return drives(
@@ -192,8 +208,16 @@ pub fn stream(f: Frame, load: &mut [u8; 256], mem: &[u8], sectors: u8, b: u8) ->
 }
 
 // Byte 2 and up of a frame with judgement none.
-fn take(core: Core, f: Frame, load: &mut [u8; 256], mem: &[u8], sectors: u8, b: u8) -> Exchanged
-    ensures { λ r. ⌜ exchange (r .said) (r .frame) (now (load .exit)) ≡ taken (setting sectors) core f (now (load .entry)) (now (mem .entry)) b ⌝ }
+fn take(
+    core: Core,
+    f: Frame,
+    load: &mut [u8; 256],
+    mem: &[u8],
+    sectors: u8,
+    area: &[u8],
+    b: u8,
+) -> Exchanged
+    ensures { λ r. ⌜ exchange (r .said) (r .frame) (now (load .exit)) ≡ taken (setting sectors (now (area .entry))) core f (now (load .entry)) (now (mem .entry)) b ⌝ }
 {
     if is_data(f) {
         return stream(f, load, mem, sectors, b);
@@ -207,6 +231,9 @@ fn take(core: Core, f: Frame, load: &mut [u8; 256], mem: &[u8], sectors: u8, b: 
     if (f.opcode == Command::WAKE) & (4 <= f.count) {
         return drives(Part::DEVICE, count(f));
     }
+    if reads_area(f) {
+        return drives(part::area_byte(area, f.place), read(Part::AREA_PLACES, f));
+    }
     floats(address(sectors, b, f))
 }
 
@@ -217,9 +244,10 @@ pub fn exchange(
     load: &mut [u8; 256],
     mem: &[u8],
     sectors: u8,
+    area: &[u8],
     b: u8,
 ) -> Exchanged
-    ensures { λ r. ⌜ exchange (r .said) (r .frame) (now (load .exit)) ≡ exchanged (setting sectors) core f (now (load .entry)) (now (mem .entry)) b ⌝ }
+    ensures { λ r. ⌜ exchange (r .said) (r .frame) (now (load .exit)) ≡ exchanged (setting sectors (now (area .entry))) core f (now (load .entry)) (now (mem .entry)) b ⌝ }
 {
     if !f.selected {
         return floats(f);
@@ -230,5 +258,5 @@ pub fn exchange(
     if f.judgement != 0 {
         return floats(count(f));
     }
-    take(core, f, load, mem, sectors, b)
+    take(core, f, load, mem, sectors, area, b)
 }

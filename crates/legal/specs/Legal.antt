@@ -4,7 +4,8 @@ use mathlib.Core.Bool.{Bool, true, cond, not, _&&_, _||_}
 use mathlib.Core.List.{List, [], _∷_}
 use lib.Dec.{eqb, ltb, leb}
 use Rattle.part.specs.Part.{permitted, sectorsIn, lengthOf, page, smallSector, sector, jedecCycle}
-use Rattle.commands.specs.Table.{jedecId}
+use Rattle.part.specs.Area.{areaPlaces}
+use Rattle.commands.specs.Table.{jedecId, readSfdp}
 use Rattle.chip.specs.declared.Chip.{Chip}
 use Rattle.chip.specs.declared.Core.{Core}
 use Rattle.chip.specs.declared.Frame.{Frame}
@@ -54,9 +55,9 @@ legalCore S k = leb (k .level) 7 && legalJob S (k .job) && jobEnabled k && suspe
 abbrev pub judgementKnown : ℕ → Bool
 judgementKnown v = eqb v 0 || eqb v 3 || eqb v 5 || eqb v 6 || eqb v 7
 
--- how many read places a frame has: the cells, or the bytes of the 9Fh cycle (docs/DECISIONS.md, D1)
+-- how many read places a frame has: the bytes of the 9Fh cycle (docs/DECISIONS.md, D1), the places of 5Ah, or the cells
 abbrev pub readPlaces : ℕ → ℕ → ℕ
-readPlaces S opcode = cond (eqb opcode jedecId) jedecCycle (lengthOf S)
+readPlaces S opcode = cond (eqb opcode jedecId) jedecCycle (cond (eqb opcode readSfdp) areaPlaces (lengthOf S))
 
 -- an address of 24 bits, a read place that there is, a count up to 6, a known judgement; the load place is a byte by its type
 unfoldable pub legalFrame : ℕ → Frame → Bool

@@ -67,6 +67,9 @@ fn read_places(sectors: u8, opcode: u8) -> usize
     if opcode == Command::JEDEC_ID {
         return Part::JEDEC_CYCLE;
     }
+    if opcode == Command::READ_SFDP {
+        return Part::AREA_PLACES;
+    }
     part::length_of(sectors)
 }
 

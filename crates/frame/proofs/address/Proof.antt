@@ -14,11 +14,11 @@ returns c = rw (c .before .before .count-up .ensures, le-ltb (c .before .before 
 shift-in-requires : tie.Need-shift-in-requires
 shift-in-requires c κs = search needs
 
-cell-of-requires : tie.Need-cell-of-requires
-cell-of-requires c κs = search needs
+first-place-requires : tie.Need-first-place-requires
+first-place-requires c κs = search needs
 
 returns-2 : tie.Need-returns-2
-returns-2 c = rw (c .before .before .before .before .before .before .count-up .ensures, lt-ltb (c .before .before .before .before .before .before .before .args .f .count) 4 (c .before .before .before .before .if1 .left), eq-eqb (c .before .before .before .before .before .before .before .args .f .count) 3 (c .before .if2 .taken), c .cell-of .ensures, c .before .before .before .shift-in .ensures)
+returns-2 c = rw (c .before .before .before .before .before .before .count-up .ensures, lt-ltb (c .before .before .before .before .before .before .before .args .f .count) 4 (c .before .before .before .before .if1 .left), eq-eqb (c .before .before .before .before .before .before .before .args .f .count) 3 (c .before .if2 .taken), c .first-place .ensures, c .before .before .before .shift-in .ensures)
 
 returns-3 : tie.Need-returns-3
 returns-3 c = rw (c .before .before .before .before .before .count-up .ensures, lt-ltb (c .before .before .before .before .before .before .args .f .count) 4 (c .before .before .before .if1 .left), ne-eqb (c .before .before .before .before .before .before .args .f .count) 3 (c .if2 .left), c .before .before .shift-in .ensures)
@@ -26,4 +26,4 @@ returns-3 c = rw (c .before .before .before .before .before .count-up .ensures, 
 pub address-spec : {M : Type 1} → statement M
 address-spec =
     tie.close
-    (tie.spec count-up-requires returns shift-in-requires cell-of-requires returns-2 returns-3)
+    (tie.spec count-up-requires returns shift-in-requires first-place-requires returns-2 returns-3)
