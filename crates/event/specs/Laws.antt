@@ -7,10 +7,11 @@ use mathlib.Core.Logic.{⊎-elim}
 use native.Mathlib.Nat.{mod-eq-of-lt}
 use native.Mathlib.Omega.{arith}
 use lib.ListN.{length}
-use lib.Dec.{eqb}
-use borrow.Author.Tests.{eq-eqb, ne-eqb, eqb-true, eqb-false}
+use lib.Dec.{eqb, ltb}
+use borrow.Author.Tests.{eq-eqb, ne-eqb, eqb-true, eqb-false, ltb-false}
 use Rattle.cells.specs.Choice.{cond-yes, cond-no, cond-either, chosen-number}
 use Rattle.part.specs.Part.{permitted, Setting, setting, sectorsIn}
+use Rattle.part.specs.Area.{longestArea}
 use Rattle.kinds.specs.Kinds.{SELECT, EXCHANGE, DESELECT, TICK, TICKS, WP, POWER, LOOSE, Says, KindRow, kindRowIn, kindRow, knownKind, bodyLength, inRange, saysOf, isSaid, roomOf}
 use Rattle.kinds.specs.Laws.{kind-each, last-kind, range-small}
 use Rattle.chip.specs.declared.Chip.{Chip}
@@ -69,46 +70,52 @@ applied-exchange T c m kind b e l = rw (e, mod-eq-of-lt l)
 
 -- ---- an event alone
 
--- done means: a permitted length, a legal state, a known kind and a body in its range
-pub record Accepted (c : Chip) (n kind body : ℕ) : Type 0 where
+-- done means: a permitted length, an area that is not too long, a legal state, a known kind and a body in its range
+pub record Accepted (c : Chip) (n extent kind body : ℕ) : Type 0 where
   pub length-permitted : permitted n ≡ true
+  pub area-short : extent ≤ longestArea
   pub state-legal : legal c n ≡ true
   pub kind-known : knownKind kind ≡ true
   pub body-in-range : inRange kind body ≡ true
 
-pub accepted : (c : Chip) (n kind body : ℕ) → refusal c n kind body ≡ 0 → Accepted c n kind body
+pub accepted : (c : Chip) (n extent kind body : ℕ) → refusal c n extent kind body ≡ 0 → Accepted c n extent kind body
 unfolding refusal
-accepted c n kind body = go (permitted n) (legal c n) (knownKind kind) (inRange kind body) refl refl refl refl
+accepted c n extent kind body = go (permitted n) (ltb longestArea extent) (legal c n) (knownKind kind) (inRange kind body) refl refl refl refl refl
   where
-    go : (p l k r : Bool) → permitted n ≡ p → legal c n ≡ l → knownKind kind ≡ k → inRange kind body ≡ r
-        → _≡_ {A = ℕ} (cond (not p) 1 (cond (not l) 2 (cond (not k) 5 (cond (not r) 6 0)))) 0
-        → Accepted c n kind body
-    go true true true true a b d e h = record { length-permitted = a; state-legal = b; kind-known = d; body-in-range = e }
-    go true true true false a b d e h = absurd (omega arith)
-    go true true false r a b d e h = absurd (omega arith)
-    go true false k r a b d e h = absurd (omega arith)
-    go false l k r a b d e h = absurd (omega arith)
+    go : (p a l k r : Bool) → permitted n ≡ p → ltb longestArea extent ≡ a → legal c n ≡ l → knownKind kind ≡ k → inRange kind body ≡ r
+        → _≡_ {A = ℕ} (cond (not p) 1 (cond a 13 (cond (not l) 2 (cond (not k) 5 (cond (not r) 6 0))))) 0
+        → Accepted c n extent kind body
+    go true false true true true p a l k r h = record { length-permitted = p; area-short = ltb-false _ _ a; state-legal = l; kind-known = k; body-in-range = r }
+    go true false true true false p a l k r h = absurd (omega arith)
+    go true false true false in-range p a l k r h = absurd (omega arith)
+    go true false false known in-range p a l k r h = absurd (omega arith)
+    go true true fine known in-range p a l k r h = absurd (omega arith)
+    go false long fine known in-range p a l k r h = absurd (omega arith)
 
--- the number in the answer is the refusal's
-pub answer-number : (c : Chip) (m : List ℕ) (kind body : ℕ) → answerOf c m kind body .refusal ≡ refusal c (length m) kind body
-unfolding answerOf
-answer-number c m kind body = chosen-number (λ (a : Answer). a .refusal) (refusal c (length m) kind body) _ _ refl refl
+module _ (c : Chip) (m area : List ℕ) (kind body : ℕ) where
+  abbrev number : ℕ
+  number = refusal c (length m) (length area) kind body
 
-pub answer-refused : (c : Chip) (m : List ℕ) (kind body : ℕ) → (refusal c (length m) kind body ≡ 0 → ⊥) → answerOf c m kind body ≡ refused c (refusal c (length m) kind body)
-unfolding answerOf
-answer-refused c m kind body h = cond-no _ _ _ (ne-eqb _ _ h)
+  -- the number in the answer is the refusal's
+  pub answer-number : answerOf c m area kind body .refusal ≡ number
+  unfolding answerOf
+  answer-number = chosen-number (λ (a : Answer). a .refusal) number _ _ refl refl
 
-pub memory-refused : (c : Chip) (m : List ℕ) (kind body : ℕ) → (refusal c (length m) kind body ≡ 0 → ⊥) → memoryOf c m kind body ≡ m
-unfolding memoryOf
-memory-refused c m kind body h = cond-no _ _ _ (ne-eqb _ _ h)
+  pub answer-refused : (number ≡ 0 → ⊥) → answerOf c m area kind body ≡ refused c number
+  unfolding answerOf
+  answer-refused h = cond-no _ _ _ (ne-eqb _ _ h)
 
-pub answer-done : (c : Chip) (m : List ℕ) (kind body : ℕ) → refusal c (length m) kind body ≡ 0 → answerOf c m kind body ≡ done (happens c m kind body)
-unfolding answerOf
-answer-done c m kind body h = cond-yes _ _ _ (eq-eqb _ _ h)
+  pub memory-refused : (number ≡ 0 → ⊥) → memoryOf c m area kind body ≡ m
+  unfolding memoryOf
+  memory-refused h = cond-no _ _ _ (ne-eqb _ _ h)
 
-pub memory-done : (c : Chip) (m : List ℕ) (kind body : ℕ) → refusal c (length m) kind body ≡ 0 → memoryOf c m kind body ≡ happens c m kind body .memory
-unfolding memoryOf
-memory-done c m kind body h = cond-yes _ _ _ (eq-eqb _ _ h)
+  pub answer-done : number ≡ 0 → answerOf c m area kind body ≡ done (happens c m area kind body)
+  unfolding answerOf
+  answer-done h = cond-yes _ _ _ (eq-eqb _ _ h)
+
+  pub memory-done : number ≡ 0 → memoryOf c m area kind body ≡ happens c m area kind body .memory
+  unfolding memoryOf
+  memory-done h = cond-yes _ _ _ (eq-eqb _ _ h)
 
 -- a body in its range, or 0 for a kind that has none, is at most 65,535
 pub used-small : (kind body : ℕ) → inRange kind body ≡ true → bodyUsed kind body ≤ 65535
@@ -118,16 +125,16 @@ used-small kind body h =
     (λ some. ⊎-elim (λ none. absurd (eqb-false _ _ some none)) (λ small. small) (range-small kind body h))
 
 -- what an event does, from the number of sectors and the body that are used for it
-pub happens-as : (c : Chip) (m : List ℕ) (kind body S used : ℕ) → S ≡ sectorsIn (length m) → used ≡ bodyUsed kind body → applied (setting S) c m kind used ≡ happens c m kind body
+pub happens-as : (c : Chip) (m area : List ℕ) (kind body S used : ℕ) → S ≡ sectorsIn (length m) → used ≡ bodyUsed kind body → applied (setting S area) c m kind used ≡ happens c m area kind body
 unfolding happens
-happens-as c m kind body S used e u = rw (e, u)
+happens-as c m area kind body S used e u = rw (e, u)
 
 -- ---- what an event says
 
 exchange-sort : (T : Setting) (k : Core) (f : Frame) (load m : List ℕ) (b : ℕ) → sortOf (exchanged T k f load m b .said) ≡ Says.line
 exchange-sort T k f load m b =
     exchanged-each T k f load m b (λ (e : Exchange). sortOf (e .said) ≡ Says.line) (λ _. refl) (λ _ _. refl) (λ _. refl)
-    (λ _. taken-each T k f load m b (λ (e : Exchange). sortOf (e .said) ≡ Says.line) (λ _. refl) (λ _. refl) (λ _. refl) (λ _. refl) refl (λ _. refl))
+    (λ _. taken-each T k f load m b (λ (e : Exchange). sortOf (e .said) ≡ Says.line) (λ _. refl) (λ _. refl) (λ _. refl) (λ _. refl) refl (λ _. refl) (λ _. refl))
 
 deselect-sort : (T : Setting) (c : Chip) (m : List ℕ) (loose : Bool) → sortOf (deselect T c m loose .said) ≡ Says.verdict
 deselect-sort T c m loose = cond-either (λ (o : Outcome). sortOf (o .said) ≡ Says.verdict) (c .frame .selected) _ _ (λ _. refl) (λ _. refl)

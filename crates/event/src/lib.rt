@@ -13,6 +13,7 @@ use chip::Core;
 use chip::Frame;
 use chip::Record;
 use kinds::Kind;
+use part::Part;
 
 // What an event leaves of the core and the frame, what it says, and its working ticks.
 pub struct Stepped {
@@ -75,8 +76,8 @@ fn deselect(
     sectors: u8,
     loose: bool,
 ) -> Stepped
-    ensures { λ r. ⌜ ((m : List ℕ) → outcome (r .core) (r .frame) (now (load .exit)) (now (held .exit)) m (r .said) (r .ticks)
-        ≡ deselect (setting sectors) (whole core frame (now (load .entry)) (now (held .entry))) m loose) ⌝ }
+    ensures { λ r. ⌜ ((area m : List ℕ) → outcome (r .core) (r .frame) (now (load .exit)) (now (held .exit)) m (r .said) (r .ticks)
+        ≡ deselect (setting sectors area) (whole core frame (now (load .entry)) (now (held .entry))) m loose) ⌝ }
 {
     if !frame.selected {
         return stays(core, frame, Record::Verdict(0));
@@ -100,8 +101,8 @@ fn tick(
     sectors: u8,
     n: u32,
 ) -> Stepped
-    ensures { λ r. ⌜ ((load : List ℕ) → outcome (r .core) (r .frame) load (now (held .exit)) (now (mem .exit)) (r .said) (r .ticks)
-        ≡ tick (setting sectors) (whole core frame load (now (held .entry))) (now (mem .entry)) n) ⌝ }
+    ensures { λ r. ⌜ ((area load : List ℕ) → outcome (r .core) (r .frame) load (now (held .exit)) (now (mem .exit)) (r .said) (r .ticks)
+        ≡ tick (setting sectors area) (whole core frame load (now (held .entry))) (now (mem .entry)) n) ⌝ }
 {
     let t = job::ticks(core, held, mem, sectors, n);
     let next = t.core;
@@ -121,16 +122,17 @@ pub fn step(
     held: &mut [u8; 256],
     mem: &mut [u8],
     sectors: u8,
+    area: &[u8],
     kind: u64,
     body: u32,
 ) -> Stepped
     ensures { λ r. ⌜ outcome (r .core) (r .frame) (now (load .exit)) (now (held .exit)) (now (mem .exit)) (r .said) (r .ticks)
-        ≡ applied (setting sectors) (whole core frame (now (load .entry)) (now (held .entry))) (now (mem .entry)) kind body ⌝ }
+        ≡ applied (setting sectors (now (area .entry))) (whole core frame (now (load .entry)) (now (held .entry))) (now (mem .entry)) kind body ⌝ }
 {
     match kind {
         Kind::SELECT => stays(core, select_frame(frame), Record::Nothing),
         Kind::EXCHANGE => {
-            let e = frame::exchange(core, frame, load, mem, sectors, (body % 256) as u8);
+            let e = frame::exchange(core, frame, load, mem, sectors, area, (body % 256) as u8);
             let next = e.frame;
             let said = e.said;
             stays(core, next, said)
@@ -158,11 +160,14 @@ fn body_used(kind: u64, body: u64) -> u64
 }
 
 // The number that refuses an event, 0 for none.
-fn refuses(chip: Chip, n: usize, kind: u64, body: u64) -> u8
-    ensures { λ r. ⌜ r ≡ refusal chip n kind body ⌝ }
+fn refuses(chip: Chip, n: usize, extent: usize, kind: u64, body: u64) -> u8
+    ensures { λ r. ⌜ r ≡ refusal chip n extent kind body ⌝ }
 {
     if part::sectors_of(n) == 0 {
         return 1;
+    }
+    if Part::LONGEST_AREA < extent {
+        return 13;
     }
     if !legal::is_legal(chip, n) {
         return 2;
@@ -177,14 +182,22 @@ fn refuses(chip: Chip, n: usize, kind: u64, body: u64) -> u8
 }
 
 // The answer to an event that is done: the chip is taken apart for the step and put together again.
-fn carry_out(chip: Chip, mem: &mut [u8], sectors: u8, kind: u64, body: u32) -> Answer
-    ensures { λ r. ⌜ (r ≡ done (applied (setting sectors) chip (now (mem .entry)) kind body)) × (now (mem .exit) ≡ applied (setting sectors) chip (now (mem .entry)) kind body .memory) ⌝ }
+fn carry_out(
+    chip: Chip,
+    mem: &mut [u8],
+    sectors: u8,
+    area: &[u8],
+    kind: u64,
+    body: u32,
+) -> Answer
+    ensures { λ r. ⌜ (r ≡ done (applied (setting sectors (now (area .entry))) chip (now (mem .entry)) kind body))
+        × (now (mem .exit) ≡ applied (setting sectors (now (area .entry))) chip (now (mem .entry)) kind body .memory) ⌝ }
 {
     let mut load = chip.load;
     let mut held = chip.held;
     let core = chip.core;
     let frame = chip.frame;
-    let s = step(core, frame, &mut load, &mut held, mem, sectors, kind, body);
+    let s = step(core, frame, &mut load, &mut held, mem, sectors, area, kind, body);
     let next_core = s.core;
     let next_frame = s.frame;
     let said = s.said;
@@ -201,12 +214,13 @@ fn carry_out(chip: Chip, mem: &mut [u8], sectors: u8, kind: u64, body: u32) -> A
     }
 }
 
-// One event alone, for every kind, body, state and memory length.
-pub fn event(chip: Chip, mem: &mut [u8], kind: u64, body: u64) -> Answer
-    ensures { λ r. ⌜ (r ≡ answerOf chip (now (mem .entry)) kind body) × (now (mem .exit) ≡ memoryOf chip (now (mem .entry)) kind body) ⌝ }
+// One event alone, for every kind, body, state, area and memory length.
+pub fn event(chip: Chip, mem: &mut [u8], area: &[u8], kind: u64, body: u64) -> Answer
+    ensures { λ r. ⌜ (r ≡ answerOf chip (now (mem .entry)) (now (area .entry)) kind body)
+        × (now (mem .exit) ≡ memoryOf chip (now (mem .entry)) (now (area .entry)) kind body) ⌝ }
 {
     let n = mem.len();
-    let number = refuses(chip, n, kind, body);
+    let number = refuses(chip, n, area.len(), kind, body);
     if number != 0 {
         return Answer {
             chip: chip,
@@ -216,5 +230,5 @@ pub fn event(chip: Chip, mem: &mut [u8], kind: u64, body: u64) -> Answer
         };
     }
     let used = body_used(kind, body);
-    carry_out(chip, mem, part::sectors_of(n), kind, used as u32)
+    carry_out(chip, mem, part::sectors_of(n), area, kind, used as u32)
 }

@@ -14,9 +14,9 @@ stays-requires c κs = search needs
 
 returns : tie.Need-returns
 returns c =
-    λ m.
+    λ area m.
     let h : c .before .before .before .args .frame .selected ≡ false = not-true (c .before .before .before .args .frame .selected) (c .before .if1 .taken) in
-    rw (c .stays .ensures) (sym (deselect-unselected (setting (c .before .before .before .args .sectors)) (whole (c .before .before .before .args .core) (c .before .before .before .args .frame) (c .before .before .before .args .load .now) (c .before .before .before .args .held .now)) m (c .before .before .before .args .loose) h))
+    rw (c .stays .ensures) (sym (deselect-unselected (setting (c .before .before .before .args .sectors) area) (whole (c .before .before .before .args .core) (c .before .before .before .args .frame) (c .before .before .before .args .load .now) (c .before .before .before .args .held .now)) m (c .before .before .before .args .loose) h))
 
 verdict-requires : tie.Need-verdict-requires
 verdict-requires c κs = search needs
@@ -35,10 +35,10 @@ stays-requires-2 c κs = search needs
 
 returns-2 : tie.Need-returns-2
 returns-2 c =
-    λ m.
+    λ area m.
     let h : c .before .before .before .before .before .before .before .before .before .before .args .frame .selected ≡ true = not-false (c .before .before .before .before .before .before .before .before .before .before .args .frame .selected) (c .before .before .before .before .before .before .before .before .if1 .left) in
     rw (c .stays2 .ensures, c .before .empty-frame .ensures, c .before .before .settle .ensures, c .before .before .before .before .hand-over .ensures, c .before .before .before .before .before .before .before .verdict .ensures)
-    (sym (deselect-selected (setting (c .before .before .before .before .before .before .before .before .before .before .args .sectors)) (whole (c .before .before .before .before .before .before .before .before .before .before .args .core) (c .before .before .before .before .before .before .before .before .before .before .args .frame) (c .before .before .before .before .before .before .before .before .before .before .args .load .now) (c .before .before .before .before .before .before .before .before .before .before .args .held .now)) m (c .before .before .before .before .before .before .before .before .before .before .args .loose) h))
+    (sym (deselect-selected (setting (c .before .before .before .before .before .before .before .before .before .before .args .sectors) area) (whole (c .before .before .before .before .before .before .before .before .before .before .args .core) (c .before .before .before .before .before .before .before .before .before .before .args .frame) (c .before .before .before .before .before .before .before .before .before .before .args .load .now) (c .before .before .before .before .before .before .before .before .before .before .args .held .now)) m (c .before .before .before .before .before .before .before .before .before .before .args .loose) h))
 
 pub deselect-spec : {M : Type 1} → statement M
 deselect-spec =

@@ -16,8 +16,8 @@ refuses-requires c κs = search needs
 
 returns : tie.Need-returns
 returns c =
-    let ne : refusal (c .before .before .before .args .chip) (length (c .before .before .before .args .mem .now)) (c .before .before .before .args .kind) (c .before .before .before .args .body) ≡ 0 → ⊥ = λ e. c .if1 .taken (c .before .refuses .ensures ∙ e) in
-    (ap (refused (c .before .before .before .args .chip)) (c .before .refuses .ensures) ∙ sym (answer-refused _ _ _ _ ne), sym (memory-refused _ _ _ _ ne))
+    let ne : refusal (c .before .before .before .before .args .chip) (length (c .before .before .before .before .args .mem .now)) (length (c .before .before .before .before .args .area .now)) (c .before .before .before .before .args .kind) (c .before .before .before .before .args .body) ≡ 0 → ⊥ = λ e. c .if1 .taken (c .before .refuses .ensures ∙ e) in
+    (ap (refused (c .before .before .before .before .args .chip)) (c .before .refuses .ensures) ∙ sym (answer-refused _ _ _ _ _ ne), sym (memory-refused _ _ _ _ _ ne))
 
 body-used-requires : tie.Need-body-used-requires
 body-used-requires c κs = search needs
@@ -27,8 +27,8 @@ sectors-of-requires c κs = search needs
 
 cast-carry-out : tie.Need-cast-carry-out
 cast-carry-out c =
-    let z : refusal (c .before .before .before .before .before .before .args .chip) (length (c .before .before .before .before .before .before .args .mem .now)) (c .before .before .before .before .before .before .args .kind) (c .before .before .before .before .before .before .args .body) ≡ 0 = sym (c .before .before .before .before .refuses .ensures) ∙ c .before .before .before .if1 .left in
-    omega (arith, c .before .before .body-used .ensures, used-small (c .before .before .before .before .before .before .args .kind) (c .before .before .before .before .before .before .args .body) (accepted _ _ _ _ z .body-in-range))
+    let z : refusal (c .before .before .before .before .before .before .before .args .chip) (length (c .before .before .before .before .before .before .before .args .mem .now)) (length (c .before .before .before .before .before .before .before .args .area .now)) (c .before .before .before .before .before .before .before .args .kind) (c .before .before .before .before .before .before .before .args .body) ≡ 0 = sym (c .before .before .before .before .refuses .ensures) ∙ c .before .before .before .if1 .left in
+    omega (arith, c .before .before .body-used .ensures, used-small (c .before .before .before .before .before .before .before .args .kind) (c .before .before .before .before .before .before .before .args .body) (accepted _ _ _ _ _ z .body-in-range))
 
 carry-out-requires : tie.Need-carry-out-requires
 carry-out-requires c κs = search needs
@@ -38,10 +38,10 @@ same-length c = search needs
 
 returns-2 : tie.Need-returns-2
 returns-2 c =
-    let z : refusal (c .before .before .before .before .before .before .before .before .before .args .chip) (length (c .before .before .before .before .before .before .before .before .before .args .mem .now)) (c .before .before .before .before .before .before .before .before .before .args .kind) (c .before .before .before .before .before .before .before .before .before .args .body) ≡ 0 = sym (c .before .before .before .before .before .before .before .refuses .ensures) ∙ c .before .before .before .before .before .before .if1 .left in
-    let s : c .before .before .before .sectors-of .result ≡ sectorsIn (length (c .before .before .before .before .before .before .before .before .before .args .mem .now)) = c .before .before .before .sectors-of .ensures ∙ cond-yes _ _ _ (accepted _ _ _ _ z .length-permitted) in (
-      c .before .before .carry-out .ensures .0 ∙ ap done (happens-as _ _ _ _ _ _ s (c .before .before .before .before .before .body-used .ensures)) ∙ sym (answer-done _ _ _ _ z),
-      c .before .before .carry-out .ensures .1 ∙ ap (λ (o : Outcome). o .memory) (happens-as _ _ _ _ _ _ s (c .before .before .before .before .before .body-used .ensures)) ∙ sym (memory-done _ _ _ _ z),
+    let z : refusal (c .before .before .before .before .before .before .before .before .before .before .args .chip) (length (c .before .before .before .before .before .before .before .before .before .before .args .mem .now)) (length (c .before .before .before .before .before .before .before .before .before .before .args .area .now)) (c .before .before .before .before .before .before .before .before .before .before .args .kind) (c .before .before .before .before .before .before .before .before .before .before .args .body) ≡ 0 = sym (c .before .before .before .before .before .before .before .refuses .ensures) ∙ c .before .before .before .before .before .before .if1 .left in
+    let s : c .before .before .before .sectors-of .result ≡ sectorsIn (length (c .before .before .before .before .before .before .before .before .before .before .args .mem .now)) = c .before .before .before .sectors-of .ensures ∙ cond-yes _ _ _ (accepted _ _ _ _ _ z .length-permitted) in (
+      c .before .before .carry-out .ensures .0 ∙ ap done (happens-as _ _ _ _ _ _ _ s (c .before .before .before .before .before .body-used .ensures)) ∙ sym (answer-done _ _ _ _ _ z),
+      c .before .before .carry-out .ensures .1 ∙ ap (λ (o : Outcome). o .memory) (happens-as _ _ _ _ _ _ _ s (c .before .before .before .before .before .body-used .ensures)) ∙ sym (memory-done _ _ _ _ _ z),
     )
 
 pub event-spec : {M : Type 1} → statement M

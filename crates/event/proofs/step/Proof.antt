@@ -60,25 +60,25 @@ returns-2 : tie.Need-returns-2
 unfolding applied
 returns-2 c =
     rw (c .before .before .before .before .before .match .keys2, c .stays2 .ensures)
-    (ap (settleExchange (whole (c .before .before .before .before .before .before .before .args .core) (c .before .before .before .before .before .before .before .args .frame) (c .before .before .before .before .before .before .before .args .load .now) (c .before .before .before .before .before .before .before .args .held .now)) (c .before .before .before .before .before .before .before .args .mem .now)) (c .before .before .exchange .ensures))
+    (ap (settleExchange (whole (c .before .before .before .before .before .before .before .before .args .core) (c .before .before .before .before .before .before .before .before .args .frame) (c .before .before .before .before .before .before .before .before .args .load .now) (c .before .before .before .before .before .before .before .before .args .held .now)) (c .before .before .before .before .before .before .before .before .args .mem .now)) (c .before .before .exchange .ensures))
 
 returns-3 : tie.Need-returns-3
 unfolding applied
-returns-3 c = rw (c .before .before .before .match .keys3) (c .deselect .ensures _)
+returns-3 c = rw (c .before .before .before .match .keys3) (c .deselect .ensures (c .before .before .before .before .before .before .args .area .now) _)
 
 same-length-2 : tie.Need-same-length-2
 same-length-2 c = search needs
 
 returns-4 : tie.Need-returns-4
 unfolding applied
-returns-4 c = rw (c .before .before .before .before .before .match .keys4) (c .before .before .tick .ensures _)
+returns-4 c = rw (c .before .before .before .before .before .match .keys4) (c .before .before .tick .ensures (c .before .before .before .before .before .before .before .before .args .area .now) _)
 
 same-length-3 : tie.Need-same-length-3
 same-length-3 c = search needs
 
 returns-5 : tie.Need-returns-5
 unfolding applied
-returns-5 c = rw (c .before .before .before .before .before .match .keys5) (c .before .before .tick2 .ensures _)
+returns-5 c = rw (c .before .before .before .before .before .match .keys5) (c .before .before .tick2 .ensures (c .before .before .before .before .before .before .before .before .args .area .now) _)
 
 returns-6 : tie.Need-returns-6
 unfolding applied
@@ -93,7 +93,7 @@ unfolding applied
 returns-8 c =
     rw
     (ne-eqb _ _ (c .before .before .before .match .rest .0 .0 .0 .0 .0 .0 .1), ne-eqb _ _ (c .before .before .before .match .rest .0 .0 .0 .0 .0 .1), ne-eqb _ _ (c .before .before .before .match .rest .0 .0 .0 .0 .1), ne-eqb _ _ (c .before .before .before .match .rest .0 .0 .0 .1), ne-eqb _ _ (c .before .before .before .match .rest .0 .0 .1), ne-eqb _ _ (c .before .before .before .match .rest .0 .1), ne-eqb _ _ (c .before .before .before .match .rest .1))
-    (c .deselect2 .ensures _)
+    (c .deselect2 .ensures (c .before .before .before .before .before .before .args .area .now) _)
 
 pub step-spec : {M : Type 1} → statement M
 step-spec =

@@ -10,7 +10,7 @@ same-length : tie.Need-same-length
 same-length c = search needs
 
 returns : tie.Need-returns
-returns c = λ load. rw (c .before .before .before .ticks .ensures .core, c .before .before .before .ticks .ensures .working, c .before .before .before .ticks .ensures .load, c .before .before .before .ticks .ensures .memory)
+returns c = λ area load. rw (c .before .before .before .ticks .ensures .core, c .before .before .before .ticks .ensures .working, c .before .before .before .ticks .ensures .load, c .before .before .before .ticks .ensures .memory)
 
 pub tick-spec : {M : Type 1} → statement M
 tick-spec = tie.close (tie.spec ticks-requires same-length returns)
