@@ -182,14 +182,7 @@ fn refuses(chip: Chip, n: usize, extent: usize, kind: u64, body: u64) -> u8
 }
 
 // The answer to an event that is done: the chip is taken apart for the step and put together again.
-fn carry_out(
-    chip: Chip,
-    mem: &mut [u8],
-    sectors: u8,
-    area: &[u8],
-    kind: u64,
-    body: u32,
-) -> Answer
+fn carry_out(chip: Chip, mem: &mut [u8], sectors: u8, area: &[u8], kind: u64, body: u32) -> Answer
     ensures { λ r. ⌜ (r ≡ done (applied (setting sectors (now (area .entry))) chip (now (mem .entry)) kind body))
         × (now (mem .exit) ≡ applied (setting sectors (now (area .entry))) chip (now (mem .entry)) kind body .memory) ⌝ }
 {
@@ -197,7 +190,17 @@ fn carry_out(
     let mut held = chip.held;
     let core = chip.core;
     let frame = chip.frame;
-    let s = step(core, frame, &mut load, &mut held, mem, sectors, area, kind, body);
+    let s = step(
+        core,
+        frame,
+        &mut load,
+        &mut held,
+        mem,
+        sectors,
+        area,
+        kind,
+        body,
+    );
     let next_core = s.core;
     let next_frame = s.frame;
     let said = s.said;

@@ -12,6 +12,7 @@ use native.Mathlib.Numerals.{add-one}
 use borrow.Author.Tests.{eq-eqb, ne-eqb, eqb-true, eqb-false, lt-ltb, le-ltb, lt-leb, le-leb, ltb-false}
 use Rattle.cells.specs.Choice.{cond-yes, cond-no, chosen-number}
 use Rattle.part.specs.Part.{permitted, sectorsIn, Setting, setting}
+use Rattle.part.specs.Area.{longestArea}
 use Rattle.kinds.specs.Kinds.{EXCHANGE, kindRowIn, kindRow, knownIn, knownKind, bodyLength, inRange, roomOf}
 use Rattle.kinds.specs.Body.{bodyAt, nextAt}
 use Rattle.kinds.specs.Laws.{body-one, exchange-range}
@@ -184,96 +185,112 @@ runs-add T (e ∷ es) fs w = runs-add T es fs (onward T e w)
 
 -- ---- refusals
 
-module _ (c : Chip) (n : ℕ) (s : List ℕ) (space : ℕ) where
-  pub refusal-length : permitted n ≡ false → refusal c n s space ≡ refusalOf 1 0
+module _ (c : Chip) (n extent : ℕ) (s : List ℕ) (space : ℕ) where
+  pub refusal-length : permitted n ≡ false → refusal c n extent s space ≡ refusalOf 1 0
   unfolding refusal
   refusal-length p = cond-yes _ _ _ (ap not p)
 
   module _ (p : permitted n ≡ true) where
-    pub refusal-state : legal c n ≡ false → refusal c n s space ≡ refusalOf 2 0
+    pub refusal-area : longestArea < extent → refusal c n extent s space ≡ refusalOf 13 0
     unfolding refusal
-    refusal-state l = cond-no _ _ _ (ap not p) ∙ cond-yes _ _ _ (ap not l)
+    refusal-area h = cond-no _ _ _ (ap not p) ∙ cond-yes _ _ _ (lt-ltb _ _ h)
 
-    module _ (l : legal c n ≡ true) where
-      pub refusal-long : 65536 < length s → refusal c n s space ≡ refusalOf 3 0
+    module _ (a : extent ≤ longestArea) where
+      pub refusal-state : legal c n ≡ false → refusal c n extent s space ≡ refusalOf 2 0
       unfolding refusal
-      refusal-long h = cond-no _ _ _ (ap not p) ∙ cond-no _ _ _ (ap not l) ∙ cond-yes _ _ _ (lt-ltb _ _ h)
+      refusal-state l = cond-no _ _ _ (ap not p) ∙ cond-no _ _ _ (le-ltb _ _ a) ∙ cond-yes _ _ _ (ap not l)
 
-      module _ (short : length s ≤ 65536) where
-        pub refusal-bad : (firstBad (events s) .number ≡ 0 → ⊥) → refusal c n s space ≡ firstBad (events s)
+      module _ (l : legal c n ≡ true) where
+        pub refusal-long : 65536 < length s → refusal c n extent s space ≡ refusalOf 3 0
         unfolding refusal
-        refusal-bad b = cond-no _ _ _ (ap not p) ∙ cond-no _ _ _ (ap not l) ∙ cond-no _ _ _ (le-ltb _ _ short) ∙ cond-yes _ _ _ (ap not (ne-eqb _ _ b))
+        refusal-long h = cond-no _ _ _ (ap not p) ∙ cond-no _ _ _ (le-ltb _ _ a) ∙ cond-no _ _ _ (ap not l) ∙ cond-yes _ _ _ (lt-ltb _ _ h)
 
-        module _ (clean : firstBad (events s) .number ≡ 0) where
-          pub refusal-room : space < room (events s) → refusal c n s space ≡ refusalOf 7 0
+        module _ (short : length s ≤ 65536) where
+          pub refusal-bad : (firstBad (events s) .number ≡ 0 → ⊥) → refusal c n extent s space ≡ firstBad (events s)
           unfolding refusal
-          refusal-room h =
-              cond-no _ _ _ (ap not p) ∙ cond-no _ _ _ (ap not l) ∙ cond-no _ _ _ (le-ltb _ _ short) ∙ cond-no _ _ _ (ap not (eq-eqb _ _ clean)) ∙ cond-yes _ _ _ (lt-ltb _ _ h)
+          refusal-bad b =
+              cond-no _ _ _ (ap not p) ∙ cond-no _ _ _ (le-ltb _ _ a) ∙ cond-no _ _ _ (ap not l) ∙ cond-no _ _ _ (le-ltb _ _ short) ∙ cond-yes _ _ _ (ap not (ne-eqb _ _ b))
 
-          pub refusal-none : room (events s) ≤ space → refusal c n s space ≡ refusalOf 0 0
-          unfolding refusal
-          refusal-none h =
-              cond-no _ _ _ (ap not p) ∙ cond-no _ _ _ (ap not l) ∙ cond-no _ _ _ (le-ltb _ _ short) ∙ cond-no _ _ _ (ap not (eq-eqb _ _ clean)) ∙ cond-no _ _ _ (le-ltb _ _ h)
+          module _ (clean : firstBad (events s) .number ≡ 0) where
+            pub refusal-room : space < room (events s) → refusal c n extent s space ≡ refusalOf 7 0
+            unfolding refusal
+            refusal-room h =
+                cond-no _ _ _ (ap not p) ∙ cond-no _ _ _ (le-ltb _ _ a) ∙ cond-no _ _ _ (ap not l) ∙ cond-no _ _ _ (le-ltb _ _ short) ∙ cond-no _ _ _ (ap not (eq-eqb _ _ clean)) ∙ cond-yes _ _ _ (lt-ltb _ _ h)
 
--- done means: a permitted length, a legal state, and a script that can be played
-pub record Accepted (c : Chip) (n : ℕ) (s : List ℕ) (space : ℕ) : Type 0 where
+            pub refusal-none : room (events s) ≤ space → refusal c n extent s space ≡ refusalOf 0 0
+            unfolding refusal
+            refusal-none h =
+                cond-no _ _ _ (ap not p) ∙ cond-no _ _ _ (le-ltb _ _ a) ∙ cond-no _ _ _ (ap not l) ∙ cond-no _ _ _ (le-ltb _ _ short) ∙ cond-no _ _ _ (ap not (eq-eqb _ _ clean)) ∙ cond-no _ _ _ (le-ltb _ _ h)
+
+-- done means: a permitted length, an area that is not too long, a legal state, and a script that can be played
+pub record Accepted (c : Chip) (n extent : ℕ) (s : List ℕ) (space : ℕ) : Type 0 where
   pub length-permitted : permitted n ≡ true
+  pub area-short : extent ≤ longestArea
   pub state-legal : legal c n ≡ true
   pub script-playable : Playable s space
 
-pub accepted : (c : Chip) (n : ℕ) (s : List ℕ) (space : ℕ) → refusal c n s space .number ≡ 0 → Accepted c n s space
+pub accepted : (c : Chip) (n extent : ℕ) (s : List ℕ) (space : ℕ) → refusal c n extent s space .number ≡ 0 → Accepted c n extent s space
 unfolding refusal
-accepted c n s space = go (permitted n) (legal c n) (ltb 65536 (length s)) (eqb (firstBad (events s) .number) 0) (ltb space (room (events s))) refl refl refl refl refl
+accepted c n extent s space =
+    go (permitted n) (ltb longestArea extent) (legal c n) (ltb 65536 (length s)) (eqb (firstBad (events s) .number) 0) (ltb space (room (events s))) refl refl refl refl refl refl
   where
-    go : (p l t b r : Bool) → permitted n ≡ p → legal c n ≡ l → ltb 65536 (length s) ≡ t → eqb (firstBad (events s) .number) 0 ≡ b → ltb space (room (events s)) ≡ r
-        → cond (not p) (refusalOf 1 0) (cond (not l) (refusalOf 2 0) (cond t (refusalOf 3 0) (cond (not b) (firstBad (events s)) (cond r (refusalOf 7 0) (refusalOf 0 0))))) .number ≡ 0
-        → Accepted c n s space
-    go true true false true false pe le te be re h =
+    go : (p a l t b r : Bool) → permitted n ≡ p → ltb longestArea extent ≡ a → legal c n ≡ l → ltb 65536 (length s) ≡ t → eqb (firstBad (events s) .number) 0 ≡ b → ltb space (room (events s)) ≡ r
+        → cond (not p) (refusalOf 1 0) (cond a (refusalOf 13 0) (cond (not l) (refusalOf 2 0) (cond t (refusalOf 3 0) (cond (not b) (firstBad (events s)) (cond r (refusalOf 7 0) (refusalOf 0 0)))))) .number ≡ 0
+        → Accepted c n extent s space
+    go true false true false true false pe ae le te be re h =
         record {
           length-permitted = pe;
+          area-short = ltb-false _ _ ae;
           state-legal = le;
           script-playable = record { short = ltb-false _ _ te; clean = eqb-true _ _ be; roomy = ltb-false _ _ re };
         }
-    go true true false true true pe le te be re h = absurd (omega arith)
-    go true true false false r pe le te be re h = absurd (eqb-false _ _ be h)
-    go true true true b r pe le te be re h = absurd (omega arith)
-    go true false t b r pe le te be re h = absurd (omega arith)
-    go false l t b r pe le te be re h = absurd (omega arith)
+    go true false true false true true pe ae le te be re h = absurd (omega arith)
+    go true false true false false r pe ae le te be re h = absurd (eqb-false _ _ be h)
+    go true false true true b r pe ae le te be re h = absurd (omega arith)
+    go true false false t b r pe ae le te be re h = absurd (omega arith)
+    go true true l t b r pe ae le te be re h = absurd (omega arith)
+    go false a l t b r pe ae le te be re h = absurd (omega arith)
 
--- the number in the answer is the refusal's
-pub answer-number : (c : Chip) (m s out : List ℕ) → answerOf c m s out .refusal ≡ refusal c (length m) s (length out) .number
-unfolding answerOf
-answer-number c m s out = chosen-number (λ (a : Ran). a .refusal) (refusal c (length m) s (length out) .number) _ _ refl refl
+-- ---- the answer
 
--- refused: all as it was; done: what the run comes to
-module _ (c : Chip) (m s out : List ℕ) where
-  module _ (no : refusal c (length m) s (length out) .number ≡ 0 → ⊥) where
-    pub answer-refused : answerOf c m s out ≡ refused c (refusal c (length m) s (length out))
+module _ (c : Chip) (m area s out : List ℕ) where
+  abbrev number : ℕ
+  number = refusal c (length m) (length area) s (length out) .number
+
+  -- the number in the answer is the refusal's
+  pub answer-number : answerOf c m area s out .refusal ≡ number
+  unfolding answerOf
+  answer-number = chosen-number (λ (a : Ran). a .refusal) number _ _ refl refl
+
+  -- refused: all as it was
+  module _ (no : number ≡ 0 → ⊥) where
+    pub answer-refused : answerOf c m area s out ≡ refused c (refusal c (length m) (length area) s (length out))
     unfolding answerOf
     answer-refused = cond-no _ _ _ (ne-eqb _ _ no)
 
-    pub memory-refused : memoryOf c m s out ≡ m
+    pub memory-refused : memoryOf c m area s out ≡ m
     unfolding memoryOf
     memory-refused = cond-no _ _ _ (ne-eqb _ _ no)
 
-    pub output-refused : outputOf c m s out ≡ out
+    pub output-refused : outputOf c m area s out ≡ out
     unfolding outputOf
     output-refused = cond-no _ _ _ (ne-eqb _ _ no)
 
-  module _ (ok : refusal c (length m) s (length out) .number ≡ 0) where
-    pub answer-done : answerOf c m s out ≡ done (worldAfter c m s)
+  -- done: what the run comes to
+  module _ (ok : number ≡ 0) where
+    pub answer-done : answerOf c m area s out ≡ done (worldAfter c m area s)
     unfolding answerOf
     answer-done = cond-yes _ _ _ (eq-eqb _ _ ok)
 
-    pub memory-done : memoryOf c m s out ≡ worldAfter c m s .memory
+    pub memory-done : memoryOf c m area s out ≡ worldAfter c m area s .memory
     unfolding memoryOf
     memory-done = cond-yes _ _ _ (eq-eqb _ _ ok)
 
-    pub output-done : outputOf c m s out ≡ worldAfter c m s .written ++ drop (length (worldAfter c m s .written)) out
+    pub output-done : outputOf c m area s out ≡ worldAfter c m area s .written ++ drop (length (worldAfter c m area s .written)) out
     unfolding outputOf
     output-done = cond-yes _ _ _ (eq-eqb _ _ ok)
 
 -- what playing comes to is the world after the run
-pub worldAfter-as : (c : Chip) (m s : List ℕ) (S : ℕ) → S ≡ sectorsIn (length m) → runs (setting S) (events s) (world c m [] 0) ≡ worldAfter c m s
+pub worldAfter-as : (c : Chip) (m area s : List ℕ) (S : ℕ) → S ≡ sectorsIn (length m) → runs (setting S area) (events s) (world c m [] 0) ≡ worldAfter c m area s
 unfolding worldAfter
-worldAfter-as c m s S e = rw e
+worldAfter-as c m area s S e = rw e

@@ -6,6 +6,7 @@ use mathlib.Core.Path.{_≡_}
 use lib.Dec.{eqb, ltb}
 use lib.ListN.{length, take, drop}
 use Rattle.part.specs.Part.{permitted, Setting, settingOf}
+use Rattle.part.specs.Area.{longestArea}
 use Rattle.chip.specs.declared.Chip.{Chip}
 use Rattle.chip.specs.declared.Record.{Record}
 use Rattle.chip.specs.Record.{recordBytes}
@@ -50,18 +51,19 @@ pub record Stored (o : List ℕ) (p : ℕ) (said : Record) (p′ : ℕ) (o′ : 
   pub before : take p′ o′ ≡ take p o ++ recordBytes said
   pub beyond : drop p′ o′ ≡ drop p′ o
 
--- what refuses a run: the length, the state, the script's length, its first bad event, the room; n is the memory's length, space the output's
-unfoldable pub refusal : Chip → ℕ → List ℕ → ℕ → Refusal
-refusal c n s space =
+-- what refuses a run: the length, the area, the state, the script's length, its first bad event, the room; n is the memory's length, extent the area's, space the output's
+unfoldable pub refusal : Chip → ℕ → ℕ → List ℕ → ℕ → Refusal
+refusal c n extent s space =
     cond (not (permitted n)) (refusalOf 1 0)
+    (cond (ltb longestArea extent) (refusalOf 13 0)
     (cond (not (legal c n)) (refusalOf 2 0)
     (cond (ltb 65536 (length s)) (refusalOf 3 0)
     (cond (not (eqb (firstBad (events s) .number) 0)) (firstBad (events s))
-    (cond (ltb space (room (events s))) (refusalOf 7 0) (refusalOf 0 0)))))
+    (cond (ltb space (room (events s))) (refusalOf 7 0) (refusalOf 0 0))))))
 
--- the world after a script run to its end, from a chip and a memory
-unfoldable pub worldAfter : Chip → List ℕ → List ℕ → World
-worldAfter c m s = runs (settingOf (length m)) (events s) (world c m [] 0)
+-- the world after a script run to its end, from a chip and a memory, with an area
+unfoldable pub worldAfter : Chip → List ℕ → List ℕ → List ℕ → World
+worldAfter c m area s = runs (settingOf (length m) area) (events s) (world c m [] 0)
 
 -- refused, the chip comes back as it was given, nothing is written and no tick works
 abbrev pub refused : Chip → Refusal → Ran
@@ -75,15 +77,18 @@ abbrev pub done : World → Ran
 done w = finished (w .chip) (length (w .written)) (w .ticks)
 
 -- the whole answer, and the memory and the output afterwards, of which only the bytes written are new
-unfoldable pub answerOf : Chip → List ℕ → List ℕ → List ℕ → Ran
-answerOf c m s out = cond (eqb (refusal c (length m) s (length out) .number) 0) (done (worldAfter c m s)) (refused c (refusal c (length m) s (length out)))
+unfoldable pub answerOf : Chip → List ℕ → List ℕ → List ℕ → List ℕ → Ran
+answerOf c m area s out =
+    cond (eqb (refusal c (length m) (length area) s (length out) .number) 0) (done (worldAfter c m area s))
+    (refused c (refusal c (length m) (length area) s (length out)))
 
-unfoldable pub memoryOf : Chip → List ℕ → List ℕ → List ℕ → List ℕ
-memoryOf c m s out = cond (eqb (refusal c (length m) s (length out) .number) 0) (worldAfter c m s .memory) m
+unfoldable pub memoryOf : Chip → List ℕ → List ℕ → List ℕ → List ℕ → List ℕ
+memoryOf c m area s out = cond (eqb (refusal c (length m) (length area) s (length out) .number) 0) (worldAfter c m area s .memory) m
 
-unfoldable pub outputOf : Chip → List ℕ → List ℕ → List ℕ → List ℕ
-outputOf c m s out =
-    cond (eqb (refusal c (length m) s (length out) .number) 0) (worldAfter c m s .written ++ drop (length (worldAfter c m s .written)) out) out
+unfoldable pub outputOf : Chip → List ℕ → List ℕ → List ℕ → List ℕ → List ℕ
+outputOf c m area s out =
+    cond (eqb (refusal c (length m) (length area) s (length out) .number) 0)
+    (worldAfter c m area s .written ++ drop (length (worldAfter c m area s .written)) out) out
 
 -- a script that nothing refuses, for an output of that length
 pub record Playable (s : List ℕ) (space : ℕ) : Type 0 where

@@ -12,6 +12,7 @@ use chip::Core;
 use chip::Frame;
 use chip::Record;
 use kinds::Kind;
+use part::Part;
 
 // The answer to a script run.
 pub struct Ran {
@@ -140,9 +141,9 @@ fn finished(
 // Runs a script that nothing refuses: the chip is taken apart once, and put together at the end.
 // Data bytes are most of a script: they go by the frame alone. The other calls get a copy of the
 // frame, so that it need not lie in memory from one data byte to the next.
-fn play(chip: Chip, mem: &mut [u8], script: &[u8], out: &mut [u8], sectors: u8) -> Ran
+fn play(chip: Chip, mem: &mut [u8], script: &[u8], out: &mut [u8], sectors: u8, area: &[u8]) -> Ran
     requires { ⌜ Playable (now script) (length (now out)) ⌝ }
-    ensures { λ r. ⌜ Played (setting sectors) chip (now (mem .entry)) (now (script .entry)) (now (out .entry)) r (now (mem .exit)) (now (out .exit)) ⌝ }
+    ensures { λ r. ⌜ Played (setting sectors (now (area .entry))) chip (now (mem .entry)) (now (script .entry)) (now (out .entry)) r (now (mem .exit)) (now (out .exit)) ⌝ }
 {
     let mut core = chip.core;
     let mut frame = chip.frame;
@@ -164,7 +165,7 @@ fn play(chip: Chip, mem: &mut [u8], script: &[u8], out: &mut [u8], sectors: u8) 
                 continue;
             }
             let before = frame;
-            let e = frame::exchange(core, before, &mut load, mem, sectors, b);
+            let e = frame::exchange(core, before, &mut load, mem, sectors, area, b);
             let heard = e.said;
             pos = put(out, pos, heard);
             frame = e.frame;
@@ -173,7 +174,17 @@ fn play(chip: Chip, mem: &mut [u8], script: &[u8], out: &mut [u8], sectors: u8) 
         }
         let before = frame;
         let body = kinds::body_at(script, at) as u32;
-        let s = event::step(core, before, &mut load, &mut held, mem, sectors, kind, body);
+        let s = event::step(
+            core,
+            before,
+            &mut load,
+            &mut held,
+            mem,
+            sectors,
+            area,
+            kind,
+            body,
+        );
         let said = s.said;
         pos = put(out, pos, said);
         core = s.core;
@@ -194,11 +205,14 @@ fn refuse(number: u8) -> Refused
 }
 
 // What refuses a run, in the order of the definition; the number 0 for nothing.
-fn refuses(chip: Chip, n: usize, script: &[u8], space: usize) -> Refused
-    ensures { λ r. ⌜ refusalOf (r .number) (r .offset) ≡ refusal chip n (now (script .entry)) space ⌝ }
+fn refuses(chip: Chip, n: usize, extent: usize, script: &[u8], space: usize) -> Refused
+    ensures { λ r. ⌜ refusalOf (r .number) (r .offset) ≡ refusal chip n extent (now (script .entry)) space ⌝ }
 {
     if part::sectors_of(n) == 0 {
         return refuse(1);
+    }
+    if Part::LONGEST_AREA < extent {
+        return refuse(13);
     }
     if !legal::is_legal(chip, n) {
         return refuse(2);
@@ -217,14 +231,14 @@ fn refuses(chip: Chip, n: usize, script: &[u8], space: usize) -> Refused
     refuse(0)
 }
 
-// A script run, for every chip, memory, script and output.
-pub fn run(chip: Chip, mem: &mut [u8], script: &[u8], out: &mut [u8]) -> Ran
-    ensures { λ r. ⌜ (r ≡ answerOf chip (now (mem .entry)) (now (script .entry)) (now (out .entry)))
-        × (now (mem .exit) ≡ memoryOf chip (now (mem .entry)) (now (script .entry)) (now (out .entry)))
-        × (now (out .exit) ≡ outputOf chip (now (mem .entry)) (now (script .entry)) (now (out .entry))) ⌝ }
+// A script run, for every chip, memory, area, script and output.
+pub fn run(chip: Chip, mem: &mut [u8], area: &[u8], script: &[u8], out: &mut [u8]) -> Ran
+    ensures { λ r. ⌜ (r ≡ answerOf chip (now (mem .entry)) (now (area .entry)) (now (script .entry)) (now (out .entry)))
+        × (now (mem .exit) ≡ memoryOf chip (now (mem .entry)) (now (area .entry)) (now (script .entry)) (now (out .entry)))
+        × (now (out .exit) ≡ outputOf chip (now (mem .entry)) (now (area .entry)) (now (script .entry)) (now (out .entry))) ⌝ }
 {
     let n = mem.len();
-    let no = refuses(chip, n, script, out.len());
+    let no = refuses(chip, n, area.len(), script, out.len());
     if no.number != 0 {
         return Ran {
             chip: chip,
@@ -234,5 +248,5 @@ pub fn run(chip: Chip, mem: &mut [u8], script: &[u8], out: &mut [u8]) -> Ran
             ticks: 0,
         };
     }
-    play(chip, mem, script, out, part::sectors_of(n))
+    play(chip, mem, script, out, part::sectors_of(n), area)
 }

@@ -16,11 +16,11 @@ refuses-requires c κs = search needs
 
 returns : tie.Need-returns
 returns c =
-    let no : refusal (c .before .before .before .before .before .before .args .chip) (length (c .before .before .before .before .before .before .args .mem .now)) (c .before .before .before .before .before .before .args .script .now) (length (c .before .before .before .before .before .before .args .out .now)) .number ≡ 0 → ⊥ =
+    let no : refusal (c .before .before .before .before .before .before .before .args .chip) (length (c .before .before .before .before .before .before .before .args .mem .now)) (length (c .before .before .before .before .before .before .before .args .area .now)) (c .before .before .before .before .before .before .before .args .script .now) (length (c .before .before .before .before .before .before .before .args .out .now)) .number ≡ 0 → ⊥ =
     λ e. c .if1 .taken (ap (λ (r : Refusal). r .number) (c .before .before .refuses .ensures) ∙ e) in (
-      ap (refused (c .before .before .before .before .before .before .args .chip)) (c .before .before .refuses .ensures) ∙ sym (answer-refused _ _ _ _ no),
-      sym (memory-refused _ _ _ _ no),
-      sym (output-refused _ _ _ _ no),
+      ap (refused (c .before .before .before .before .before .before .before .args .chip)) (c .before .before .refuses .ensures) ∙ sym (answer-refused _ _ _ _ _ no),
+      sym (memory-refused _ _ _ _ _ no),
+      sym (output-refused _ _ _ _ _ no),
     )
 
 sectors-of-requires : tie.Need-sectors-of-requires
@@ -28,9 +28,9 @@ sectors-of-requires c κs = search needs
 
 play-requires : tie.Need-play-requires
 play-requires c κs =
-    let ok : refusal (c .before .before .before .before .before .before .before .before .before .args .chip) (length (c .before .before .before .before .before .before .before .before .before .args .mem .now)) (c .before .before .before .before .before .before .before .before .before .args .script .now) (length (c .before .before .before .before .before .before .before .before .before .args .out .now)) .number ≡ 0 =
+    let ok : refusal (c .before .before .before .before .before .before .before .before .before .before .args .chip) (length (c .before .before .before .before .before .before .before .before .before .before .args .mem .now)) (length (c .before .before .before .before .before .before .before .before .before .before .args .area .now)) (c .before .before .before .before .before .before .before .before .before .before .args .script .now) (length (c .before .before .before .before .before .before .before .before .before .before .args .out .now)) .number ≡ 0 =
     sym (ap (λ (r : Refusal). r .number) (c .before .before .before .before .before .refuses .ensures)) ∙ c .before .before .before .if1 .left in
-    accepted _ _ _ _ ok .script-playable
+    accepted _ _ _ _ _ ok .script-playable
 
 same-length : tie.Need-same-length
 same-length c = search needs
@@ -40,12 +40,12 @@ same-length-2 c = search needs
 
 returns-2 : tie.Need-returns-2
 returns-2 c =
-    let ok : refusal (c .before .before .before .before .before .before .before .before .before .before .before .before .before .before .args .chip) (length (c .before .before .before .before .before .before .before .before .before .before .before .before .before .before .args .mem .now)) (c .before .before .before .before .before .before .before .before .before .before .before .before .before .before .args .script .now) (length (c .before .before .before .before .before .before .before .before .before .before .before .before .before .before .args .out .now)) .number ≡ 0 =
+    let ok : refusal (c .before .before .before .before .before .before .before .before .before .before .before .before .before .before .before .args .chip) (length (c .before .before .before .before .before .before .before .before .before .before .before .before .before .before .before .args .mem .now)) (length (c .before .before .before .before .before .before .before .before .before .before .before .before .before .before .before .args .area .now)) (c .before .before .before .before .before .before .before .before .before .before .before .before .before .before .before .args .script .now) (length (c .before .before .before .before .before .before .before .before .before .before .before .before .before .before .before .args .out .now)) .number ≡ 0 =
     sym (ap (λ (r : Refusal). r .number) (c .before .before .before .before .before .before .before .before .before .before .refuses .ensures)) ∙ c .before .before .before .before .before .before .before .before .if1 .left in
-    let s : c .before .before .before .before .before .sectors-of .result ≡ sectorsIn (length (c .before .before .before .before .before .before .before .before .before .before .before .before .before .before .args .mem .now)) = c .before .before .before .before .before .sectors-of .ensures ∙ cond-yes _ _ _ (accepted _ _ _ _ ok .length-permitted) in (
-      c .before .before .before .before .play .ensures .answer ∙ ap done (worldAfter-as _ _ _ _ s) ∙ sym (answer-done _ _ _ _ ok),
-      c .before .before .before .before .play .ensures .memory ∙ ap (λ (w : World). w .memory) (worldAfter-as _ _ _ _ s) ∙ sym (memory-done _ _ _ _ ok),
-      c .before .before .before .before .play .ensures .output ∙ ap (λ (w : World). w .written ++ drop (length (w .written)) (c .before .before .before .before .before .before .before .before .before .before .before .before .before .before .args .out .now)) (worldAfter-as _ _ _ _ s) ∙ sym (output-done _ _ _ _ ok),
+    let s : c .before .before .before .before .before .sectors-of .result ≡ sectorsIn (length (c .before .before .before .before .before .before .before .before .before .before .before .before .before .before .before .args .mem .now)) = c .before .before .before .before .before .sectors-of .ensures ∙ cond-yes _ _ _ (accepted _ _ _ _ _ ok .length-permitted) in (
+      c .before .before .before .before .play .ensures .answer ∙ ap done (worldAfter-as _ _ _ _ _ s) ∙ sym (answer-done _ _ _ _ _ ok),
+      c .before .before .before .before .play .ensures .memory ∙ ap (λ (w : World). w .memory) (worldAfter-as _ _ _ _ _ s) ∙ sym (memory-done _ _ _ _ _ ok),
+      c .before .before .before .before .play .ensures .output ∙ ap (λ (w : World). w .written ++ drop (length (w .written)) (c .before .before .before .before .before .before .before .before .before .before .before .before .before .before .before .args .out .now)) (worldAfter-as _ _ _ _ _ s) ∙ sym (output-done _ _ _ _ _ ok),
     )
 
 pub run-spec : {M : Type 1} → statement M
