@@ -8,15 +8,15 @@ use Rattle.event.specs.declared.Answer.{Answer}
 use Rattle.event.specs.Alone.{answerOf, memoryOf}
 
 -- `event_on`: r the answer, d the lent chip at exit, z the memory at exit
-pub event-on-unique : (c : Chip) (m : List ℕ) (kind body : ℕ) (r r′ : Answer) (d d′ : Chip) (z z′ : List ℕ)
-    → (r ≡ answerOf c m kind body) × (d ≡ answerOf c m kind body .chip) × (z ≡ memoryOf c m kind body)
-    → (r′ ≡ answerOf c m kind body) × (d′ ≡ answerOf c m kind body .chip) × (z′ ≡ memoryOf c m kind body)
+pub event-on-unique : (c : Chip) (m area : List ℕ) (kind body : ℕ) (r r′ : Answer) (d d′ : Chip) (z z′ : List ℕ)
+    → (r ≡ answerOf c m area kind body) × (d ≡ answerOf c m area kind body .chip) × (z ≡ memoryOf c m area kind body)
+    → (r′ ≡ answerOf c m area kind body) × (d′ ≡ answerOf c m area kind body .chip) × (z′ ≡ memoryOf c m area kind body)
     → (r ≡ r′) × (d ≡ d′) × (z ≡ z′)
-event-on-unique c m kind body r r′ d d′ z z′ h h′ = (same (h .0) (h′ .0), same (h .1) (h′ .1), same (h .2) (h′ .2))
+event-on-unique c m area kind body r r′ d d′ z z′ h h′ = (same (h .0) (h′ .0), same (h .1) (h′ .1), same (h .2) (h′ .2))
 
 -- `event_by_lending`: r the answer, z the memory at exit
-pub event-by-lending-unique : (c : Chip) (m : List ℕ) (kind body : ℕ) (r r′ : Answer) (z z′ : List ℕ)
-    → (r ≡ answerOf c m kind body) × (z ≡ memoryOf c m kind body)
-    → (r′ ≡ answerOf c m kind body) × (z′ ≡ memoryOf c m kind body)
+pub event-by-lending-unique : (c : Chip) (m area : List ℕ) (kind body : ℕ) (r r′ : Answer) (z z′ : List ℕ)
+    → (r ≡ answerOf c m area kind body) × (z ≡ memoryOf c m area kind body)
+    → (r′ ≡ answerOf c m area kind body) × (z′ ≡ memoryOf c m area kind body)
     → (r ≡ r′) × (z ≡ z′)
-event-by-lending-unique c m kind body r r′ z z′ h h′ = (same (h .0) (h′ .0), same (h .1) (h′ .1))
+event-by-lending-unique c m area kind body r r′ z z′ h h′ = (same (h .0) (h′ .0), same (h .1) (h′ .1))
