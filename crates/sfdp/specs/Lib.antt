@@ -1,1 +1,5 @@
 pub mod Reader
+pub mod Laws
+pub mod Headers
+pub mod Unique
+pub mod Examples
