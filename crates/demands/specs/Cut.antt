@@ -11,6 +11,7 @@ use lib.ListN.{length, getD, length-append, List·getD-append}
 use lib.Seq.{getD-append-add}
 use borrow.Author.Tests.{ne-eqb, eqb-false, lt-ltb, le-ltb}
 use Rattle.cells.specs.Choice.{cond-no}
+use Rattle.part.specs.Area.{longestArea}
 use Rattle.part.specs.Part.{permitted, sectorsIn, Setting, settingOf}
 use Rattle.kinds.specs.Kinds.{knownKind, bodyLength, inRange, roomOf}
 use Rattle.kinds.specs.Body.{numberAt, bodyAt, nextAt}
@@ -270,15 +271,16 @@ runs-from T (e ∷ es) c m a k =
 
 -- A script cut at an event boundary: the second piece run on what the first left gives the whole's chip and memory; what the two write, one behind the other, is
 -- what the whole writes, and their working ticks add up. The whole is refused exactly as the pieces are: `bad-cut`, `room-cut`.
-pub pieces : (c : Chip) (m s t : List ℕ) → firstBad (events s) .number ≡ 0
-    → worldAfter c m (s ++ t)
-    ≡ world (worldAfter (worldAfter c m s .chip) (worldAfter c m s .memory) t .chip) (worldAfter (worldAfter c m s .chip) (worldAfter c m s .memory) t .memory)
-    (worldAfter c m s .written ++ worldAfter (worldAfter c m s .chip) (worldAfter c m s .memory) t .written) (worldAfter c m s .ticks + worldAfter (worldAfter c m s .chip) (worldAfter c m s .memory) t .ticks)
+pub pieces : (c : Chip) (m area s t : List ℕ) → firstBad (events s) .number ≡ 0
+    → worldAfter c m area (s ++ t)
+    ≡ world (worldAfter (worldAfter c m area s .chip) (worldAfter c m area s .memory) area t .chip) (worldAfter (worldAfter c m area s .chip) (worldAfter c m area s .memory) area t .memory)
+    (worldAfter c m area s .written ++ worldAfter (worldAfter c m area s .chip) (worldAfter c m area s .memory) area t .written)
+    (worldAfter c m area s .ticks + worldAfter (worldAfter c m area s .chip) (worldAfter c m area s .memory) area t .ticks)
 unfolding worldAfter
-pieces c m s t clean =
-    let T : Setting = settingOf (length m) in
+pieces c m area s t clean =
+    let T : Setting = settingOf (length m) area in
     let w : World = runs T (events s) (world c m [] 0) in
-    let same : settingOf (length m) ≡ settingOf (length (w .memory)) = ap settingOf (sym (length-runs T (events s) (world c m [] 0))) in
+    let same : settingOf (length m) area ≡ settingOf (length (w .memory)) area = ap (λ (n : ℕ). settingOf n area) (sym (length-runs T (events s) (world c m [] 0))) in
     run-cut s t clean T (world c m [] 0)
     ∙ runs-from T (events t) (w .chip) (w .memory) (w .written) (w .ticks)
     ∙ ap (λ (q : Setting). world (runs q (events t) (world (w .chip) (w .memory) [] 0) .chip) (runs q (events t) (world (w .chip) (w .memory) [] 0) .memory) (w .written ++ runs q (events t) (world (w .chip) (w .memory) [] 0) .written) (w .ticks + runs q (events t) (world (w .chip) (w .memory) [] 0) .ticks)) same
@@ -295,18 +297,19 @@ used-at s at = go (bodyLength (getD s at 0))
     go (suc l) = cond-no (eqb (suc l) 0) 0 (numberAt s (at + 1) (suc l)) (ne-eqb (suc l) 0 (λ e. omega arith))
 
 -- The event of a script applied alone, where nothing refuses it, gives what the run gives at that event: so a run is its events applied one by one.
-pub one-by-one : (c : Chip) (m s : List ℕ) (at : ℕ) → Alone.refusal c (length m) (getD s at 0) (bodyAt s at) ≡ 0
-    → (Alone.answerOf c m (getD s at 0) (bodyAt s at) ≡ Alone.done (applied (settingOf (length m)) c m (getD s at 0) (bodyAt s at)))
-    × (Alone.memoryOf c m (getD s at 0) (bodyAt s at) ≡ applied (settingOf (length m)) c m (getD s at 0) (bodyAt s at) .memory)
-one-by-one c m s at h =
-    let same : applied (settingOf (length m)) c m (getD s at 0) (bodyAt s at) ≡ Alone.happens c m (getD s at 0) (bodyAt s at) =
-    happens-as c m (getD s at 0) (bodyAt s at) (sectorsIn (length m)) (bodyAt s at) refl (sym (used-at s at)) in (
-      answer-done c m (getD s at 0) (bodyAt s at) h ∙ ap Alone.done (sym same),
-      memory-done c m (getD s at 0) (bodyAt s at) h ∙ ap (λ (o : Outcome). o .memory) (sym same),
+pub one-by-one : (c : Chip) (m area s : List ℕ) (at : ℕ) → Alone.refusal c (length m) (length area) (getD s at 0) (bodyAt s at) ≡ 0
+    → (Alone.answerOf c m area (getD s at 0) (bodyAt s at) ≡ Alone.done (applied (settingOf (length m) area) c m (getD s at 0) (bodyAt s at)))
+    × (Alone.memoryOf c m area (getD s at 0) (bodyAt s at) ≡ applied (settingOf (length m) area) c m (getD s at 0) (bodyAt s at) .memory)
+one-by-one c m area s at h =
+    let same : applied (settingOf (length m) area) c m (getD s at 0) (bodyAt s at) ≡ Alone.happens c m area (getD s at 0) (bodyAt s at) =
+    happens-as c m area (getD s at 0) (bodyAt s at) (sectorsIn (length m)) (bodyAt s at) refl (sym (used-at s at)) in (
+      answer-done c m area (getD s at 0) (bodyAt s at) h ∙ ap Alone.done (sym same),
+      memory-done c m area (getD s at 0) (bodyAt s at) h ∙ ap (λ (o : Outcome). o .memory) (sym same),
     )
 
--- and a good event of a script is refused by nothing on a legal state of a permitted length
-pub good-alone : (c : Chip) (n : ℕ) (s : List ℕ) (at : ℕ) → permitted n ≡ true → legal c n ≡ true → faultAt s at ≡ 0 → Alone.refusal c n (getD s at 0) (bodyAt s at) ≡ 0
-good-alone c n s at p l z =
+-- and a good event of a script is refused by nothing on a legal state of a permitted length, with an area that is not too long
+pub good-alone : (c : Chip) (n extent : ℕ) (s : List ℕ) (at : ℕ) → permitted n ≡ true → extent ≤ longestArea → legal c n ≡ true → faultAt s at ≡ 0
+    → Alone.refusal c n extent (getD s at 0) (bodyAt s at) ≡ 0
+good-alone c n extent s at p a l z =
     let g = good-event s at z in
-    event-refused-when c n (getD s at 0) (bodyAt s at) .none .1 (p, l, g .known, g .ranged)
+    event-refused-when c n extent (getD s at 0) (bodyAt s at) .none .1 (p, le-ltb _ _ a, l, g .known, g .ranged)

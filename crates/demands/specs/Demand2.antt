@@ -127,7 +127,7 @@ unfoldable pub readOn : ℕ → ℕ → Frame → Frame
 readOn n zero f = f
 readOn n (suc j) f = reading n (readOn n j f)
 
-nextPlace-mod : (n p : ℕ) → p < n → nextPlace n p ≡ (p + 1) % n
+pub nextPlace-mod : (n p : ℕ) → p < n → nextPlace n p ≡ (p + 1) % n
 nextPlace-mod n p h = go (decLt (p + 1) n)
   where
     go : Dec (p + 1 < n) → nextPlace n p ≡ (p + 1) % n
@@ -272,8 +272,8 @@ device-byte T k f load m b e h =
 -- ---- the part and its memory
 
 -- The part that a memory goes with has as many cells as the memory, so that addresses and reads go round at the memory's end.
-pub part-is-memory : (m : List ℕ) → permitted (length m) ≡ true → lengthOf (settingOf (length m) .sectors) ≡ length m
-part-is-memory m p = permitted-whole (length m) p
+pub part-is-memory : (m area : List ℕ) → permitted (length m) ≡ true → lengthOf (settingOf (length m) area .sectors) ≡ length m
+part-is-memory m area p = permitted-whole (length m) p
 
 -- ---- protection by address: the two ends of the protected range
 

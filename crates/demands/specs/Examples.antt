@@ -44,13 +44,13 @@ exchanges (b ∷ bs) = EXCHANGE ∷ b ∷ exchanges bs
 abbrev pub frame : List ℕ → List ℕ
 frame bs = SELECT ∷ (exchanges bs ++ (DESELECT ∷ []))
 
--- the smallest part
+-- the smallest part, with an empty area
 abbrev pub one : Setting
-one = setting 1
+one = setting 1 []
 
--- a script run from a fresh state of that status byte, on S sectors with memory m
+-- a script run from a fresh state of that status byte, on S sectors with memory m and an empty area
 abbrev pub played : ℕ → ℕ → List ℕ → List ℕ → World
-played S status s m = runs (setting S) (events s) (world (fresh status) m [] 0)
+played S status s m = runs (setting S []) (events s) (world (fresh status) m [] 0)
 
 -- P1: a read of two bytes at the top address of the real part drives its last cell and then its first (RULES, Commands)
 abbrev pub P1 : Type 0

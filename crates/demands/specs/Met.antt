@@ -1,6 +1,6 @@
 -- The hypotheses of the theorems are met: for each kind of them a closed example. Demand 3's are met in `Examples` (P5, P9, `cut-and-ended`).
 use Prim.Native.Nat.{ℕ}
-use mathlib.Core.Bool.{true}
+use mathlib.Core.Bool.{true, false}
 use mathlib.Core.List.{List, [], _∷_}
 use mathlib.Core.Path.{_≡_, refl}
 use lib.ListN.{replicate}
@@ -8,7 +8,7 @@ use Rattle.part.specs.Part.{permitted}
 use Rattle.commands.specs.Table.{isProgram}
 use Rattle.chip.specs.declared.Chip.{Chip}
 use Rattle.chip.specs.declared.Frame.{Frame}
-use Rattle.chip.specs.Fields.{withSelected, withOpcode, withCount}
+use Rattle.chip.specs.Fields.{withSelected, withOpcode, withPlace, withCount}
 use Rattle.chip.specs.Chip.{whole, emptyFrame, blankLoad, fresh}
 use Rattle.legal.specs.Legal.{legalJob, legalCore, legalFrame, isEmpty, isBlank, legal}
 use Rattle.frame.specs.Frame.{readsCell, takesData}
@@ -34,14 +34,29 @@ pub frames-met : (readsCell (framed 0x03 4) ≡ true) × (readsCell (framed 0x0B
 unfolding isProgram
 frames-met = (refl, refl, refl)
 
+-- a state with a selected frame of that opcode and that read place
+abbrev reading-at : ℕ → ℕ → Chip
+reading-at opcode place = whole (fresh 0x00 .core) (withPlace place (framed opcode 6)) blankLoad blankLoad
+
+-- the ends of the read places: in a 5Ah frame 2^24 of them whatever the memory's length, in a 9Fh frame 4, in others the cells (RULES, Legal states)
+pub places-met : (legal (reading-at 0x5A 0xFFFFFF) 65536 ≡ true) × (legal (reading-at 0x5A 0x1000000) 65536 ≡ false) × (legal (reading-at 0x5A 0x1000000) 2097152 ≡ false)
+    × (legal (reading-at 0x9F 3) 65536 ≡ true) × (legal (reading-at 0x9F 4) 65536 ≡ false) × (legal (reading-at 0x0B 65535) 65536 ≡ true) × (legal (reading-at 0x0B 65536) 65536 ≡ false)
+unfolding legal legalCore legalJob legalFrame isEmpty isBlank permitted fresh
+places-met = (refl, refl, refl, refl, refl, refl, refl)
+
 -- `event-refused-when`: each number occurs; a byte count of 7 is in no legal frame
-pub refusals-met : (refusal (fresh 0x00) 65537 TICK 0 ≡ 1) × (refusal counted-to-7 65536 TICK 0 ≡ 2) × (refusal (fresh 0x00) 65536 9 0 ≡ 5) × (refusal (fresh 0x00) 65536 EXCHANGE 256 ≡ 6) × (refusal (fresh 0x00) 65536 TICK 0 ≡ 0)
+pub refusals-met : (refusal (fresh 0x00) 65537 0 TICK 0 ≡ 1) × (refusal (fresh 0x00) 65536 257 TICK 0 ≡ 13) × (refusal counted-to-7 65536 0 TICK 0 ≡ 2) × (refusal (fresh 0x00) 65536 0 9 0 ≡ 5) × (refusal (fresh 0x00) 65536 0 EXCHANGE 256 ≡ 6) × (refusal (fresh 0x00) 65536 256 TICK 0 ≡ 0)
 unfolding refusal legal legalCore legalJob legalFrame isEmpty isBlank permitted fresh knownKind knownIn kindRow kindRowIn
-refusals-met = (refl, refl, refl, refl, refl)
+refusals-met = (refl, refl, refl, refl, refl, refl)
+
+-- where several fit, 1 comes before 13, and 13 before 2, 5 and 3 (RULES, Refusals)
+pub thirteen-met : (refusal counted-to-7 65537 257 9 0 ≡ 1) × (refusal counted-to-7 65536 257 9 0 ≡ 13) × (Run.refusal counted-to-7 65537 257 (9 ∷ []) 0 .number ≡ 1) × (Run.refusal counted-to-7 65536 257 (replicate 65537 TICK) 0 .number ≡ 13)
+unfolding refusal Run.refusal legal legalCore legalJob legalFrame isEmpty isBlank permitted fresh
+thirteen-met = (refl, refl, refl, refl)
 
 -- an event alone, by what refuses it on a fresh state of the smallest part
 abbrev refuses : ℕ → ℕ → ℕ
-refuses kind body = refusal (fresh 0x00) 65536 kind body
+refuses kind body = refusal (fresh 0x00) 65536 0 kind body
 
 -- the least and the greatest body of each kind are taken, and what lies next to them is not (RULES, Events)
 pub ranges-met : (refuses 0x02 0 ≡ 0) × (refuses 0x02 255 ≡ 0) × (refuses 0x02 256 ≡ 6) × (refuses 0x05 0 ≡ 6) × (refuses 0x05 1 ≡ 0) × (refuses 0x05 65535 ≡ 0) × (refuses 0x05 65536 ≡ 6)
@@ -55,9 +70,10 @@ unfolding refusal legal legalCore legalJob legalFrame isEmpty isBlank permitted 
 bodiless-met body = (refl, refl, refl, refl, refl, refl, refl)
 
 -- `run-refused-when`: so does each number of a run; 65,537 ticks are too many bytes, and a deselect needs two of output
-pub run-refusals-met : (Run.refusal (fresh 0x00) 65537 [] 0 .number ≡ 1) × (Run.refusal counted-to-7 65536 [] 0 .number ≡ 2) × (Run.refusal (fresh 0x00) 65536 (replicate 65537 TICK) 0 .number ≡ 3) × (Run.refusal (fresh 0x00) 65536 (DESELECT ∷ []) 1 .number ≡ 7) × (Run.refusal (fresh 0x00) 65536 (DESELECT ∷ []) 2 .number ≡ 0)
+pub run-refusals-met : (Run.refusal (fresh 0x00) 65537 0 [] 0 .number ≡ 1) × (Run.refusal (fresh 0x00) 65536 257 [] 0 .number ≡ 13) × (Run.refusal counted-to-7 65536 0 [] 0 .number ≡ 2) × (Run.refusal (fresh 0x00) 65536 0 (replicate 65537 TICK) 0 .number ≡ 3) × (Run.refusal (fresh 0x00) 65536 0 (DESELECT ∷ []) 1 .number ≡ 7)
+    × (Run.refusal (fresh 0x00) 65536 256 (DESELECT ∷ []) 2 .number ≡ 0)
 unfolding Run.refusal firstBad room eventsFrom walk faultAt legal legalCore legalJob legalFrame isEmpty isBlank permitted fresh knownKind knownIn kindRow kindRowIn
-run-refusals-met = (refl, refl, refl, refl, refl)
+run-refusals-met = (refl, refl, refl, refl, refl, refl)
 
 -- `pieces`, `first-bad-decides`: a script without a bad event, and one for each fault
 pub scripts-met : (firstBad (events (SELECT ∷ EXCHANGE ∷ 0x06 ∷ DESELECT ∷ [])) .number ≡ 0) × (firstBad (events (TICK ∷ EXCHANGE ∷ [])) .number ≡ 4) × (firstBad (events (TICK ∷ 9 ∷ [])) .number ≡ 5) × (firstBad (events (WP ∷ 2 ∷ [])) .number ≡ 6)

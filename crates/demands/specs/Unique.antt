@@ -31,17 +31,18 @@ pub unique-legal : (c : Chip) (n : ℕ) (r r′ : Bool) → r ≡ legal c n → 
 unique-legal c n r r′ p q = same p q
 
 -- `event::event`: the answer and the memory
-pub unique-event : (c : Chip) (m : List ℕ) (kind body : ℕ) (r r′ : Answer) (m₁ m₂ : List ℕ)
-    → (r ≡ Alone.answerOf c m kind body) × (m₁ ≡ Alone.memoryOf c m kind body) → (r′ ≡ Alone.answerOf c m kind body) × (m₂ ≡ Alone.memoryOf c m kind body)
+pub unique-event : (c : Chip) (m area : List ℕ) (kind body : ℕ) (r r′ : Answer) (m₁ m₂ : List ℕ)
+    → (r ≡ Alone.answerOf c m area kind body) × (m₁ ≡ Alone.memoryOf c m area kind body)
+    → (r′ ≡ Alone.answerOf c m area kind body) × (m₂ ≡ Alone.memoryOf c m area kind body)
     → (r ≡ r′) × (m₁ ≡ m₂)
-unique-event c m kind body r r′ m₁ m₂ p q = (same (p .0) (q .0), same (p .1) (q .1))
+unique-event c m area kind body r r′ m₁ m₂ p q = (same (p .0) (q .0), same (p .1) (q .1))
 
 -- `script::run`: the answer, the memory and the output
-pub unique-run : (c : Chip) (m s out : List ℕ) (r r′ : Ran) (m₁ m₂ o₁ o₂ : List ℕ)
-    → (r ≡ Run.answerOf c m s out) × (m₁ ≡ Run.memoryOf c m s out) × (o₁ ≡ Run.outputOf c m s out)
-    → (r′ ≡ Run.answerOf c m s out) × (m₂ ≡ Run.memoryOf c m s out) × (o₂ ≡ Run.outputOf c m s out)
+pub unique-run : (c : Chip) (m area s out : List ℕ) (r r′ : Ran) (m₁ m₂ o₁ o₂ : List ℕ)
+    → (r ≡ Run.answerOf c m area s out) × (m₁ ≡ Run.memoryOf c m area s out) × (o₁ ≡ Run.outputOf c m area s out)
+    → (r′ ≡ Run.answerOf c m area s out) × (m₂ ≡ Run.memoryOf c m area s out) × (o₂ ≡ Run.outputOf c m area s out)
     → (r ≡ r′) × (m₁ ≡ m₂) × (o₁ ≡ o₂)
-unique-run c m s out r r′ m₁ m₂ o₁ o₂ p q = (same (p .0) (q .0), same (p .1) (q .1), same (p .2) (q .2))
+unique-run c m area s out r r′ m₁ m₂ o₁ o₂ p q = (same (p .0) (q .0), same (p .1) (q .1), same (p .2) (q .2))
 
 -- `event::step`, whose contract packs the answer and the buffers into one outcome: each part of it
 pub unique-step : (T : Setting) (c : Chip) (m : List ℕ) (kind body : ℕ) (r r′ : Stepped) (l₁ l₂ p₁ p₂ m₁ m₂ : List ℕ)
@@ -68,9 +69,9 @@ pub unique-exchange : (T : Setting) (k : Core) (f : Frame) (load m : List ℕ) (
     → exchange (r .said) (r .frame) l₁ ≡ exchanged T k f load m b → exchange (r′ .said) (r′ .frame) l₂ ≡ exchanged T k f load m b → (r ≡ r′) × (l₁ ≡ l₂)
 unique-exchange T k f load m b = exchange-parts (exchanged T k f load m b)
 
-pub unique-stream : (T : Setting) (f : Frame) (load m : List ℕ) (b : ℕ) (r r′ : Exchanged) (l₁ l₂ : List ℕ)
-    → exchange (r .said) (r .frame) l₁ ≡ streamed T f load m b → exchange (r′ .said) (r′ .frame) l₂ ≡ streamed T f load m b → (r ≡ r′) × (l₁ ≡ l₂)
-unique-stream T f load m b = exchange-parts (streamed T f load m b)
+pub unique-stream : (S : ℕ) (f : Frame) (load m : List ℕ) (b : ℕ) (r r′ : Exchanged) (l₁ l₂ : List ℕ)
+    → exchange (r .said) (r .frame) l₁ ≡ streamed S f load m b → exchange (r′ .said) (r′ .frame) l₂ ≡ streamed S f load m b → (r ≡ r′) × (l₁ ≡ l₂)
+unique-stream S f load m b = exchange-parts (streamed S f load m b)
 
 -- `job::ticks`: the core, the working ticks, the job's load and the memory
 pub unique-ticks : (S n : ℕ) (k : Core) (held m : List ℕ) (k₁ k₂ : Core) (w₁ w₂ : ℕ) (h₁ h₂ m₁ m₂ : List ℕ)
