@@ -1,10 +1,11 @@
--- The answers to an event and to a run as plain numbers, with the memory and the output afterwards (RULES, Events; Refusals).
+-- The answers to an event and to a run as plain numbers, with the memory and the output afterwards, and an SFDP area's (RULES, Events; Refusals; The SFDP area).
 use Prim.Native.Nat.{ℕ}
-use mathlib.Core.Bool.{cond}
+use mathlib.Core.Bool.{cond, not}
 use mathlib.Core.List.{List, _++_}
-use lib.Dec.{eqb}
+use lib.Dec.{eqb, ltb}
 use lib.ListN.{length, take, replicate}
 use Rattle.part.specs.Part.{permitted}
+use Rattle.part.specs.Area.{longestArea}
 use Rattle.chip.specs.declared.Record.{Record}
 use Rattle.chip.specs.declared.Record.the-variants.{Nothing}
 use Rattle.chip.specs.Record.{recordBytes, longestRecord}
@@ -12,18 +13,21 @@ use Rattle.event.specs.declared.Answer.{Answer}
 use Rattle.event.specs.Alone as alone
 use Rattle.script.specs.declared.Ran.{Ran}
 use Rattle.script.specs.Run as script
+use Rattle.sfdp.specs.declared.Found.{Found}
 use Rattle.boundary.specs.declared.ChipNumbers.{ChipNumbers}
 use Rattle.boundary.specs.declared.EventNumbers.{EventNumbers}
 use Rattle.boundary.specs.declared.RunNumbers.{RunNumbers}
+use Rattle.boundary.specs.declared.TableNumbers.{TableNumbers}
+use Rattle.boundary.specs.declared.AreaNumbers.{AreaNumbers}
 use Rattle.boundary.specs.Numbers.{isState, chipOf, numbersOf}
 
 -- the bytes of a record, with zeros up to the longest
 abbrev pub padded : Record → List ℕ
 padded said = take longestRecord (recordBytes said ++ replicate longestRecord 0)
 
--- numbers that are no state are refused by 2, after 1
-unfoldable pub noState : ℕ → ℕ
-noState n = cond (permitted n) 2 1
+-- numbers that are no state are refused by 2, after 1 and 13; n is the memory's length, extent the area's (RULES, Legal states)
+unfoldable pub noState : ℕ → ℕ → ℕ
+noState n extent = cond (not (permitted n)) 1 (cond (ltb longestArea extent) 13 2)
 
 -- ---- one event
 
@@ -39,11 +43,12 @@ unfoldable pub eventNumbers : ChipNumbers → Answer → EventNumbers
 eventNumbers given a = cond (eqb (a .refusal) 0) (doneEvent a) (refusedEvent given (a .refusal))
 
 -- the whole answer, and the memory afterwards
-unfoldable pub eventOf : ChipNumbers → List ℕ → ℕ → ℕ → EventNumbers
-eventOf c m kind body = cond (isState c) (eventNumbers c (alone.answerOf (chipOf c) m kind body)) (refusedEvent c (noState (length m)))
+unfoldable pub eventOf : ChipNumbers → List ℕ → List ℕ → ℕ → ℕ → EventNumbers
+eventOf c m area kind body =
+    cond (isState c) (eventNumbers c (alone.answerOf (chipOf c) m area kind body)) (refusedEvent c (noState (length m) (length area)))
 
-unfoldable pub eventMemory : ChipNumbers → List ℕ → ℕ → ℕ → List ℕ
-eventMemory c m kind body = cond (isState c) (alone.memoryOf (chipOf c) m kind body) m
+unfoldable pub eventMemory : ChipNumbers → List ℕ → List ℕ → ℕ → ℕ → List ℕ
+eventMemory c m area kind body = cond (isState c) (alone.memoryOf (chipOf c) m area kind body) m
 
 -- ---- a run
 
@@ -59,11 +64,21 @@ unfoldable pub runNumbers : ChipNumbers → Ran → RunNumbers
 runNumbers given a = cond (eqb (a .refusal) 0) (doneRun a) (refusedRun given (a .refusal) (a .offset))
 
 -- the whole answer, and the memory and the output afterwards
-unfoldable pub runOf : ChipNumbers → List ℕ → List ℕ → List ℕ → RunNumbers
-runOf c m s out = cond (isState c) (runNumbers c (script.answerOf (chipOf c) m s out)) (refusedRun c (noState (length m)) 0)
+unfoldable pub runOf : ChipNumbers → List ℕ → List ℕ → List ℕ → List ℕ → RunNumbers
+runOf c m area s out =
+    cond (isState c) (runNumbers c (script.answerOf (chipOf c) m area s out)) (refusedRun c (noState (length m) (length area)) 0)
 
-unfoldable pub runMemory : ChipNumbers → List ℕ → List ℕ → List ℕ → List ℕ
-runMemory c m s out = cond (isState c) (script.memoryOf (chipOf c) m s out) m
+unfoldable pub runMemory : ChipNumbers → List ℕ → List ℕ → List ℕ → List ℕ → List ℕ
+runMemory c m area s out = cond (isState c) (script.memoryOf (chipOf c) m area s out) m
 
-unfoldable pub runOutput : ChipNumbers → List ℕ → List ℕ → List ℕ → List ℕ
-runOutput c m s out = cond (isState c) (script.outputOf (chipOf c) m s out) out
+unfoldable pub runOutput : ChipNumbers → List ℕ → List ℕ → List ℕ → List ℕ → List ℕ
+runOutput c m area s out = cond (isState c) (script.outputOf (chipOf c) m area s out) out
+
+-- ---- an SFDP area
+
+-- what the reader finds, and the bytes of an area (RULES, The SFDP area)
+abbrev pub tableNumbers : Found → TableNumbers
+tableNumbers f = record { refusal = f .refusal; place = f .place; length = f .length }
+
+abbrev pub areaNumbers : List ℕ → AreaNumbers
+areaNumbers area = record { bytes = area }

@@ -188,61 +188,61 @@ legal-state c n h r is e p = p ∙ ap (λ (x : Chip). legal x n) e ∙ sym (ap (
 
 -- ---- one event; a is its answer, z the memory afterwards
 
-module _ (c : ChipNumbers) (m : List ℕ) (kind body : ℕ) where
-  pub event-no-state : (v : ℕ) (r : EventNumbers) → isState c ≡ false → v ≡ noState (length m) → r ≡ refusedEvent c v → r ≡ eventOf c m kind body
+module _ (c : ChipNumbers) (m area : List ℕ) (kind body : ℕ) where
+  pub event-no-state : (v : ℕ) (r : EventNumbers) → isState c ≡ false → v ≡ noState (length m) (length area) → r ≡ refusedEvent c v → r ≡ eventOf c m area kind body
   unfolding eventOf
-  event-no-state v r over e p = p ∙ ap (refusedEvent c) e ∙ sym (cond-no (isState c) (eventNumbers c (alone.answerOf (chipOf c) m kind body)) (refusedEvent c (noState (length m))) over)
+  event-no-state v r over e p = p ∙ ap (refusedEvent c) e ∙ sym (cond-no (isState c) (eventNumbers c (alone.answerOf (chipOf c) m area kind body)) (refusedEvent c (noState (length m) (length area))) over)
 
-  pub event-memory-no-state : isState c ≡ false → m ≡ eventMemory c m kind body
+  pub event-memory-no-state : isState c ≡ false → m ≡ eventMemory c m area kind body
   unfolding eventMemory
-  event-memory-no-state over = sym (cond-no (isState c) (alone.memoryOf (chipOf c) m kind body) m over)
+  event-memory-no-state over = sym (cond-no (isState c) (alone.memoryOf (chipOf c) m area kind body) m over)
 
-  pub event-state : (h : Chip) (a : Answer) (r : EventNumbers) → isState c ≡ true → h ≡ chipOf c → a ≡ alone.answerOf h m kind body → r ≡ eventNumbers c a → r ≡ eventOf c m kind body
+  pub event-state : (h : Chip) (a : Answer) (r : EventNumbers) → isState c ≡ true → h ≡ chipOf c → a ≡ alone.answerOf h m area kind body → r ≡ eventNumbers c a → r ≡ eventOf c m area kind body
   unfolding eventOf
   event-state h a r is e q p =
-      p ∙ ap (eventNumbers c) (q ∙ ap (λ (x : Chip). alone.answerOf x m kind body) e)
-      ∙ sym (cond-yes (isState c) (eventNumbers c (alone.answerOf (chipOf c) m kind body)) (refusedEvent c (noState (length m))) is)
+      p ∙ ap (eventNumbers c) (q ∙ ap (λ (x : Chip). alone.answerOf x m area kind body) e)
+      ∙ sym (cond-yes (isState c) (eventNumbers c (alone.answerOf (chipOf c) m area kind body)) (refusedEvent c (noState (length m) (length area))) is)
 
-  pub event-memory-state : (h : Chip) (z : List ℕ) → isState c ≡ true → h ≡ chipOf c → z ≡ alone.memoryOf h m kind body → z ≡ eventMemory c m kind body
+  pub event-memory-state : (h : Chip) (z : List ℕ) → isState c ≡ true → h ≡ chipOf c → z ≡ alone.memoryOf h m area kind body → z ≡ eventMemory c m area kind body
   unfolding eventMemory
   event-memory-state h z is e p =
-      p ∙ ap (λ (x : Chip). alone.memoryOf x m kind body) e ∙ sym (cond-yes (isState c) (alone.memoryOf (chipOf c) m kind body) m is)
+      p ∙ ap (λ (x : Chip). alone.memoryOf x m area kind body) e ∙ sym (cond-yes (isState c) (alone.memoryOf (chipOf c) m area kind body) m is)
 
 -- ---- a run; a is its answer, z the memory and o the output afterwards
 
-module _ (c : ChipNumbers) (m s out : List ℕ) where
-  pub run-no-state : (v : ℕ) (r : RunNumbers) → isState c ≡ false → v ≡ noState (length m) → r ≡ refusedRun c v 0 → r ≡ runOf c m s out
+module _ (c : ChipNumbers) (m area s out : List ℕ) where
+  pub run-no-state : (v : ℕ) (r : RunNumbers) → isState c ≡ false → v ≡ noState (length m) (length area) → r ≡ refusedRun c v 0 → r ≡ runOf c m area s out
   unfolding runOf
-  run-no-state v r over e p = p ∙ ap (λ (n : ℕ). refusedRun c n 0) e ∙ sym (cond-no (isState c) (runNumbers c (script.answerOf (chipOf c) m s out)) (refusedRun c (noState (length m)) 0) over)
+  run-no-state v r over e p = p ∙ ap (λ (n : ℕ). refusedRun c n 0) e ∙ sym (cond-no (isState c) (runNumbers c (script.answerOf (chipOf c) m area s out)) (refusedRun c (noState (length m) (length area)) 0) over)
 
-  pub run-memory-no-state : isState c ≡ false → m ≡ runMemory c m s out
+  pub run-memory-no-state : isState c ≡ false → m ≡ runMemory c m area s out
   unfolding runMemory
-  run-memory-no-state over = sym (cond-no (isState c) (script.memoryOf (chipOf c) m s out) m over)
+  run-memory-no-state over = sym (cond-no (isState c) (script.memoryOf (chipOf c) m area s out) m over)
 
-  pub run-output-no-state : isState c ≡ false → out ≡ runOutput c m s out
+  pub run-output-no-state : isState c ≡ false → out ≡ runOutput c m area s out
   unfolding runOutput
-  run-output-no-state over = sym (cond-no (isState c) (script.outputOf (chipOf c) m s out) out over)
+  run-output-no-state over = sym (cond-no (isState c) (script.outputOf (chipOf c) m area s out) out over)
 
-  pub run-state : (h : Chip) (a : Ran) (r : RunNumbers) → isState c ≡ true → h ≡ chipOf c → a ≡ script.answerOf h m s out → r ≡ runNumbers c a → r ≡ runOf c m s out
+  pub run-state : (h : Chip) (a : Ran) (r : RunNumbers) → isState c ≡ true → h ≡ chipOf c → a ≡ script.answerOf h m area s out → r ≡ runNumbers c a → r ≡ runOf c m area s out
   unfolding runOf
   run-state h a r is e q p =
-      p ∙ ap (runNumbers c) (q ∙ ap (λ (x : Chip). script.answerOf x m s out) e)
-      ∙ sym (cond-yes (isState c) (runNumbers c (script.answerOf (chipOf c) m s out)) (refusedRun c (noState (length m)) 0) is)
+      p ∙ ap (runNumbers c) (q ∙ ap (λ (x : Chip). script.answerOf x m area s out) e)
+      ∙ sym (cond-yes (isState c) (runNumbers c (script.answerOf (chipOf c) m area s out)) (refusedRun c (noState (length m) (length area)) 0) is)
 
-  pub run-memory-state : (h : Chip) (z : List ℕ) → isState c ≡ true → h ≡ chipOf c → z ≡ script.memoryOf h m s out → z ≡ runMemory c m s out
+  pub run-memory-state : (h : Chip) (z : List ℕ) → isState c ≡ true → h ≡ chipOf c → z ≡ script.memoryOf h m area s out → z ≡ runMemory c m area s out
   unfolding runMemory
   run-memory-state h z is e p =
-      p ∙ ap (λ (x : Chip). script.memoryOf x m s out) e ∙ sym (cond-yes (isState c) (script.memoryOf (chipOf c) m s out) m is)
+      p ∙ ap (λ (x : Chip). script.memoryOf x m area s out) e ∙ sym (cond-yes (isState c) (script.memoryOf (chipOf c) m area s out) m is)
 
-  pub run-output-state : (h : Chip) (o : List ℕ) → isState c ≡ true → h ≡ chipOf c → o ≡ script.outputOf h m s out → o ≡ runOutput c m s out
+  pub run-output-state : (h : Chip) (o : List ℕ) → isState c ≡ true → h ≡ chipOf c → o ≡ script.outputOf h m area s out → o ≡ runOutput c m area s out
   unfolding runOutput
   run-output-state h o is e p =
-      p ∙ ap (λ (x : Chip). script.outputOf x m s out) e ∙ sym (cond-yes (isState c) (script.outputOf (chipOf c) m s out) out is)
+      p ∙ ap (λ (x : Chip). script.outputOf x m area s out) e ∙ sym (cond-yes (isState c) (script.outputOf (chipOf c) m area s out) out is)
 
 -- ---- on the numbers of a chip, the answers are those of the chip
 
-pub event-of-chip : (c : Chip) (m : List ℕ) (kind body : ℕ) → eventOf (numbersOf c) m kind body ≡ eventNumbers (numbersOf c) (alone.answerOf c m kind body)
-event-of-chip c m kind body = sym (event-state (numbersOf c) m kind body c _ _ (numbers-are-state c) (sym (chip-back c)) refl refl)
+pub event-of-chip : (c : Chip) (m area : List ℕ) (kind body : ℕ) → eventOf (numbersOf c) m area kind body ≡ eventNumbers (numbersOf c) (alone.answerOf c m area kind body)
+event-of-chip c m area kind body = sym (event-state (numbersOf c) m area kind body c _ _ (numbers-are-state c) (sym (chip-back c)) refl refl)
 
-pub run-of-chip : (c : Chip) (m s out : List ℕ) → runOf (numbersOf c) m s out ≡ runNumbers (numbersOf c) (script.answerOf c m s out)
-run-of-chip c m s out = sym (run-state (numbersOf c) m s out c _ _ (numbers-are-state c) (sym (chip-back c)) refl refl)
+pub run-of-chip : (c : Chip) (m area s out : List ℕ) → runOf (numbersOf c) m area s out ≡ runNumbers (numbersOf c) (script.answerOf c m area s out)
+run-of-chip c m area s out = sym (run-state (numbersOf c) m area s out c _ _ (numbers-are-state c) (sym (chip-back c)) refl refl)

@@ -1,11 +1,13 @@
 -- A refusal touches nothing (RULES, Refusals): an answer that refuses has exactly the numbers that were given, the free ones too. And which number refuses what is no state.
-use Prim.Native.Nat.{ℕ}
-use mathlib.Core.Bool.{true, false}
+use Prim.Native.Nat.{ℕ, _≤_, _<_}
+use mathlib.Core.Bool.{true, false, not}
 use mathlib.Core.List.{List}
 use mathlib.Core.Path.{_≡_, refl, sym, ap, _∙_}
 use lib.ListN.{length}
+use borrow.Author.Tests.{lt-ltb, le-ltb}
 use Rattle.cells.specs.Choice.{cond-yes, cond-no, cond-either, chosen-number}
 use Rattle.part.specs.Part.{permitted}
+use Rattle.part.specs.Area.{longestArea}
 use Rattle.event.specs.declared.Answer.{Answer}
 use Rattle.event.specs.Alone as alone
 use Rattle.event.specs.Laws as alone-laws
@@ -30,61 +32,72 @@ run-number c a = chosen-number (λ (r : RunNumbers). r .refusal) (a .refusal) (d
 
 -- ---- one event
 
-module _ (c : ChipNumbers) (m : List ℕ) (kind body : ℕ) (no : eventOf c m kind body .refusal ≡ 0 → ⊥) where
-  pub event-numbers-as-given : eventOf c m kind body .chip ≡ c
+module _ (c : ChipNumbers) (m area : List ℕ) (kind body : ℕ) (no : eventOf c m area kind body .refusal ≡ 0 → ⊥) where
+  pub event-numbers-as-given : eventOf c m area kind body .chip ≡ c
   unfolding eventOf
   event-numbers-as-given =
       cond-either (λ (r : EventNumbers). (r .refusal ≡ 0 → ⊥) → r .chip ≡ c) (isState c) _ _ (λ _ h. ap (λ (r : EventNumbers). r .chip) (event-refused c _ (λ z. h (event-number c _ ∙ z)))) (λ _ _. refl) no
 
-  event-refused-inside : isState c ≡ true → alone.refusal (chipOf c) (length m) kind body ≡ 0 → ⊥
+  event-refused-inside : isState c ≡ true → alone.refusal (chipOf c) (length m) (length area) kind body ≡ 0 → ⊥
   event-refused-inside is e =
-      no (ap (λ (r : EventNumbers). r .refusal) (sym (event-state c m kind body (chipOf c) _ _ is refl refl refl)) ∙ event-number c _ ∙ alone-laws.answer-number (chipOf c) m kind body ∙ e)
+      no (ap (λ (r : EventNumbers). r .refusal) (sym (event-state c m area kind body (chipOf c) _ _ is refl refl refl)) ∙ event-number c _ ∙ alone-laws.answer-number (chipOf c) m area kind body ∙ e)
 
-  pub event-memory-as-given : eventMemory c m kind body ≡ m
+  pub event-memory-as-given : eventMemory c m area kind body ≡ m
   unfolding eventMemory
   event-memory-as-given =
-      cond-either (λ (z : List ℕ). z ≡ m) (isState c) _ _ (λ is. alone-laws.memory-refused (chipOf c) m kind body (event-refused-inside is)) (λ _. refl)
+      cond-either (λ (z : List ℕ). z ≡ m) (isState c) _ _ (λ is. alone-laws.memory-refused (chipOf c) m area kind body (event-refused-inside is)) (λ _. refl)
 
 -- ---- a run
 
-module _ (c : ChipNumbers) (m s out : List ℕ) (no : runOf c m s out .refusal ≡ 0 → ⊥) where
-  pub run-numbers-as-given : runOf c m s out .chip ≡ c
+module _ (c : ChipNumbers) (m area s out : List ℕ) (no : runOf c m area s out .refusal ≡ 0 → ⊥) where
+  pub run-numbers-as-given : runOf c m area s out .chip ≡ c
   unfolding runOf
   run-numbers-as-given =
       cond-either (λ (r : RunNumbers). (r .refusal ≡ 0 → ⊥) → r .chip ≡ c) (isState c) _ _ (λ _ h. ap (λ (r : RunNumbers). r .chip) (run-refused c _ (λ z. h (run-number c _ ∙ z)))) (λ _ _. refl) no
 
-  run-refused-inside : isState c ≡ true → script.refusal (chipOf c) (length m) s (length out) .number ≡ 0 → ⊥
+  run-refused-inside : isState c ≡ true → script.refusal (chipOf c) (length m) (length area) s (length out) .number ≡ 0 → ⊥
   run-refused-inside is e =
-      no (ap (λ (r : RunNumbers). r .refusal) (sym (run-state c m s out (chipOf c) _ _ is refl refl refl)) ∙ run-number c _ ∙ script-laws.answer-number (chipOf c) m s out ∙ e)
+      no (ap (λ (r : RunNumbers). r .refusal) (sym (run-state c m area s out (chipOf c) _ _ is refl refl refl)) ∙ run-number c _ ∙ script-laws.answer-number (chipOf c) m area s out ∙ e)
 
-  pub run-memory-as-given : runMemory c m s out ≡ m
+  pub run-memory-as-given : runMemory c m area s out ≡ m
   unfolding runMemory
   run-memory-as-given =
-      cond-either (λ (z : List ℕ). z ≡ m) (isState c) _ _ (λ is. script-laws.memory-refused (chipOf c) m s out (run-refused-inside is)) (λ _. refl)
+      cond-either (λ (z : List ℕ). z ≡ m) (isState c) _ _ (λ is. script-laws.memory-refused (chipOf c) m area s out (run-refused-inside is)) (λ _. refl)
 
-  pub run-output-as-given : runOutput c m s out ≡ out
+  pub run-output-as-given : runOutput c m area s out ≡ out
   unfolding runOutput
   run-output-as-given =
-      cond-either (λ (o : List ℕ). o ≡ out) (isState c) _ _ (λ is. script-laws.output-refused (chipOf c) m s out (run-refused-inside is)) (λ _. refl)
+      cond-either (λ (o : List ℕ). o ≡ out) (isState c) _ _ (λ is. script-laws.output-refused (chipOf c) m area s out (run-refused-inside is)) (λ _. refl)
 
 -- ---- numbers that are no state
 
--- they are refused by 2, but by 1 where the memory is no part's (RULES, Legal states)
-no-state-wrong-length : (n : ℕ) → permitted n ≡ false → noState n ≡ 1
-unfolding noState
-no-state-wrong-length n h = cond-no (permitted n) 2 1 h
+-- they are refused by 2, but by 1 where the memory is no part's, and by 13 where it is one and the area is too long (RULES, Legal states)
+module _ (n extent : ℕ) where
+  no-state-wrong-length : permitted n ≡ false → noState n extent ≡ 1
+  unfolding noState
+  no-state-wrong-length h = cond-yes _ _ _ (ap not h)
 
-no-state-right-length : (n : ℕ) → permitted n ≡ true → noState n ≡ 2
-unfolding noState
-no-state-right-length n h = cond-yes (permitted n) 2 1 h
+  no-state-long-area : permitted n ≡ true → longestArea < extent → noState n extent ≡ 13
+  unfolding noState
+  no-state-long-area h long = cond-no _ _ _ (ap not h) ∙ cond-yes _ _ _ (lt-ltb _ _ long)
 
-module _ (c : ChipNumbers) (over : isState c ≡ false) (m : List ℕ) where
-  pub no-state-event : (kind body : ℕ) → (permitted (length m) ≡ true → eventOf c m kind body .refusal ≡ 2) × (permitted (length m) ≡ false → eventOf c m kind body .refusal ≡ 1)
+  no-state-both-right : permitted n ≡ true → extent ≤ longestArea → noState n extent ≡ 2
+  unfolding noState
+  no-state-both-right h short = cond-no _ _ _ (ap not h) ∙ cond-no _ _ _ (le-ltb _ _ short)
+
+module _ (c : ChipNumbers) (over : isState c ≡ false) (m area : List ℕ) where
+  pub no-state-event : (kind body : ℕ)
+      → (permitted (length m) ≡ true → length area ≤ longestArea → eventOf c m area kind body .refusal ≡ 2)
+      × (permitted (length m) ≡ true → longestArea < length area → eventOf c m area kind body .refusal ≡ 13)
+      × (permitted (length m) ≡ false → eventOf c m area kind body .refusal ≡ 1)
   no-state-event kind body =
-      let number : noState (length m) ≡ eventOf c m kind body .refusal = ap (λ (r : EventNumbers). r .refusal) (event-no-state c m kind body _ _ over refl refl) in
-      (λ h. sym number ∙ no-state-right-length _ h, λ h. sym number ∙ no-state-wrong-length _ h)
+      let number : eventOf c m area kind body .refusal ≡ noState (length m) (length area) = sym (ap (λ (r : EventNumbers). r .refusal) (event-no-state c m area kind body _ _ over refl refl)) in
+      (λ h short. number ∙ no-state-both-right _ _ h short, λ h long. number ∙ no-state-long-area _ _ h long, λ h. number ∙ no-state-wrong-length _ _ h)
 
-  pub no-state-run : (s out : List ℕ) → (permitted (length m) ≡ true → runOf c m s out .refusal ≡ 2) × (permitted (length m) ≡ false → runOf c m s out .refusal ≡ 1)
+  pub no-state-run : (s out : List ℕ)
+      → (permitted (length m) ≡ true → length area ≤ longestArea → runOf c m area s out .refusal ≡ 2)
+      × (permitted (length m) ≡ true → longestArea < length area → runOf c m area s out .refusal ≡ 13)
+      × (permitted (length m) ≡ false → runOf c m area s out .refusal ≡ 1)
   no-state-run s out =
-      let number : noState (length m) ≡ runOf c m s out .refusal = ap (λ (r : RunNumbers). r .refusal) (run-no-state c m s out _ _ over refl refl) in
-      (λ h. sym number ∙ no-state-right-length _ h, λ h. sym number ∙ no-state-wrong-length _ h)
+      let number : runOf c m area s out .refusal ≡ noState (length m) (length area) = sym (ap (λ (r : RunNumbers). r .refusal) (run-no-state c m area s out _ _ over refl refl)) in
+      (λ h short. number ∙ no-state-both-right _ _ h short, λ h long. number ∙ no-state-long-area _ _ h long, λ h. number ∙ no-state-wrong-length _ _ h)

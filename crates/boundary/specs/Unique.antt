@@ -4,12 +4,16 @@ use mathlib.Core.Bool.{Bool}
 use mathlib.Core.List.{List}
 use mathlib.Core.Path.{_≡_}
 use Rattle.cells.specs.Choice.{same}
+use Rattle.part.specs.Area.{ownArea}
 use Rattle.chip.specs.Chip.{fresh}
+use Rattle.sfdp.specs.Reader.{foundOf}
 use Rattle.boundary.specs.declared.ChipNumbers.{ChipNumbers}
 use Rattle.boundary.specs.declared.EventNumbers.{EventNumbers}
 use Rattle.boundary.specs.declared.RunNumbers.{RunNumbers}
+use Rattle.boundary.specs.declared.TableNumbers.{TableNumbers}
+use Rattle.boundary.specs.declared.AreaNumbers.{AreaNumbers}
 use Rattle.boundary.specs.Numbers.{numbersOf, legalNumbers}
-use Rattle.boundary.specs.Answers.{eventOf, eventMemory, runOf, runMemory, runOutput}
+use Rattle.boundary.specs.Answers.{eventOf, eventMemory, runOf, runMemory, runOutput, tableNumbers, areaNumbers}
 
 pub chip-fresh-unique : (status : ℕ) (r r′ : ChipNumbers) → r ≡ numbersOf (fresh status) → r′ ≡ numbersOf (fresh status) → r ≡ r′
 chip-fresh-unique status r r′ h h′ = same h h′
@@ -18,15 +22,22 @@ pub chip-legal-unique : (c : ChipNumbers) (n : ℕ) (r r′ : Bool) → r ≡ le
 chip-legal-unique c n r r′ h h′ = same h h′
 
 -- `chip_event` and `chip_event_lent`, which have one contract: r the answer, z the memory at exit
-pub chip-event-unique : (c : ChipNumbers) (m : List ℕ) (kind body : ℕ) (r r′ : EventNumbers) (z z′ : List ℕ)
-    → (r ≡ eventOf c m kind body) × (z ≡ eventMemory c m kind body)
-    → (r′ ≡ eventOf c m kind body) × (z′ ≡ eventMemory c m kind body)
+pub chip-event-unique : (c : ChipNumbers) (m area : List ℕ) (kind body : ℕ) (r r′ : EventNumbers) (z z′ : List ℕ)
+    → (r ≡ eventOf c m area kind body) × (z ≡ eventMemory c m area kind body)
+    → (r′ ≡ eventOf c m area kind body) × (z′ ≡ eventMemory c m area kind body)
     → (r ≡ r′) × (z ≡ z′)
-chip-event-unique c m kind body r r′ z z′ h h′ = (same (h .0) (h′ .0), same (h .1) (h′ .1))
+chip-event-unique c m area kind body r r′ z z′ h h′ = (same (h .0) (h′ .0), same (h .1) (h′ .1))
 
 -- `chip_run`: r the answer, z the memory and o the output at exit
-pub chip-run-unique : (c : ChipNumbers) (m s out : List ℕ) (r r′ : RunNumbers) (z z′ o o′ : List ℕ)
-    → (r ≡ runOf c m s out) × (z ≡ runMemory c m s out) × (o ≡ runOutput c m s out)
-    → (r′ ≡ runOf c m s out) × (z′ ≡ runMemory c m s out) × (o′ ≡ runOutput c m s out)
+pub chip-run-unique : (c : ChipNumbers) (m area s out : List ℕ) (r r′ : RunNumbers) (z z′ o o′ : List ℕ)
+    → (r ≡ runOf c m area s out) × (z ≡ runMemory c m area s out) × (o ≡ runOutput c m area s out)
+    → (r′ ≡ runOf c m area s out) × (z′ ≡ runMemory c m area s out) × (o′ ≡ runOutput c m area s out)
     → (r ≡ r′) × (z ≡ z′) × (o ≡ o′)
-chip-run-unique c m s out r r′ z z′ o o′ h h′ = (same (h .0) (h′ .0), same (h .1) (h′ .1), same (h .2) (h′ .2))
+chip-run-unique c m area s out r r′ z z′ o o′ h h′ = (same (h .0) (h′ .0), same (h .1) (h′ .1), same (h .2) (h′ .2))
+
+pub sfdp-find-unique : (area : List ℕ) (identity : ℕ) (r r′ : TableNumbers)
+    → r ≡ tableNumbers (foundOf area identity) → r′ ≡ tableNumbers (foundOf area identity) → r ≡ r′
+sfdp-find-unique area identity r r′ h h′ = same h h′
+
+pub sfdp-own-area-unique : (r r′ : AreaNumbers) → r ≡ areaNumbers ownArea → r′ ≡ areaNumbers ownArea → r ≡ r′
+sfdp-own-area-unique r r′ h h′ = same h h′

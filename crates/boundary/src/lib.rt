@@ -1,13 +1,16 @@
-// The library for C and Rust: a chip and its answers as plain numbers.
+// The library for C and Rust: a chip and its answers as plain numbers, and the reader of an SFDP area.
 //
-// What a caller must not do: the memory, the script and the output of one call must not overlap, not
-// even in a byte; a slice's pointer must not be null, also where its length is 0; it must point to
-// that many bytes, which nobody else writes during the call. Nothing here can check that, and nothing
-// is promised where it does not hold. Any number may stand in any field: what is no state is refused by 2.
+// What a caller must not do: the memory and the output of one call must overlap neither each other nor
+// the area or the script, not even in a byte (the area and the script are only read, and may overlap
+// each other); a slice's pointer must not be null, also where its length is 0; it must point to that
+// many bytes, which nobody else writes during the call. Nothing here can check that, and nothing is
+// promised where it does not hold. Any number may stand in any field: what is no state is refused by 2.
 ghost use mathlib.Core.Path.{_≡_};
+ghost use Rattle.part.specs.Area.{ownArea};
 ghost use Rattle.chip.specs.Chip.{fresh};
+ghost use Rattle.sfdp.specs.Reader.{foundOf};
 ghost use Rattle.boundary.specs.Numbers.{kindOf, kindNumber, kindValue, flagNumber, isStateOf, chipOf, numbersOf, legalNumbers};
-ghost use Rattle.boundary.specs.Answers.{padded, noState, refusedEvent, doneEvent, eventOf, eventMemory, refusedRun, doneRun, runOf, runMemory, runOutput};
+ghost use Rattle.boundary.specs.Answers.{padded, noState, refusedEvent, doneEvent, eventOf, eventMemory, refusedRun, doneRun, runOf, runMemory, runOutput, tableNumbers, areaNumbers};
 use chip::Chip;
 use chip::Core;
 use chip::Frame;
@@ -15,6 +18,7 @@ use chip::Job;
 use chip::JobKind;
 use chip::Record;
 use event::Answer;
+use part::Part;
 use script::Ran;
 
 // The flags of a chip: 1 for true, 0 for false.
@@ -68,6 +72,20 @@ pub struct RunNumbers {
     pub offset: usize,
     pub written: usize,
     pub ticks: u64,
+}
+
+// Where a parameter table stands in an SFDP area: its place and its length in bytes, both 0 if refused.
+#[repr(C)]
+pub struct TableNumbers {
+    pub refusal: u8,
+    pub place: usize,
+    pub length: usize,
+}
+
+// The part's own SFDP area.
+#[repr(C)]
+pub struct AreaNumbers {
+    pub bytes: [u8; 208],
 }
 
 // The kind of job that a number means; a number over 5 is none, and is read as no job.
@@ -211,12 +229,15 @@ fn numbers_of(chip: Chip) -> ChipNumbers
     }
 }
 
-// What refuses numbers that are no state, on a memory of n cells.
-fn no_state(n: usize) -> u8
-    ensures { λ r. ⌜ r ≡ noState n ⌝ }
+// What refuses numbers that are no state, on a memory of n cells and with an area of `extent` bytes.
+fn no_state(n: usize, extent: usize) -> u8
+    ensures { λ r. ⌜ r ≡ noState n extent ⌝ }
 {
     if part::sectors_of(n) == 0 {
         return 1;
+    }
+    if Part::LONGEST_AREA < extent {
+        return 13;
     }
     2
 }
@@ -303,15 +324,22 @@ pub extern "C" fn chip_legal(c: ChipNumbers, n: usize) -> bool
     legal::is_legal(chip_of(c), n)
 }
 
-// One event alone, for every kind, body, state and memory length.
+// One event alone, for every kind, body, state, area and memory length.
 #[no_mangle]
-pub extern "C" fn chip_event(c: ChipNumbers, mem: &mut [u8], kind: u64, body: u64) -> EventNumbers
-    ensures { λ r. ⌜ (r ≡ eventOf c (now (mem .entry)) kind body) × (now (mem .exit) ≡ eventMemory c (now (mem .entry)) kind body) ⌝ }
+pub extern "C" fn chip_event(
+    c: ChipNumbers,
+    mem: &mut [u8],
+    area: &[u8],
+    kind: u64,
+    body: u64,
+) -> EventNumbers
+    ensures { λ r. ⌜ (r ≡ eventOf c (now (mem .entry)) (now (area .entry)) kind body)
+        × (now (mem .exit) ≡ eventMemory c (now (mem .entry)) (now (area .entry)) kind body) ⌝ }
 {
     if !is_state(c.flags, c.kind) {
-        return refuse_event(c, no_state(mem.len()));
+        return refuse_event(c, no_state(mem.len(), area.len()));
     }
-    let a = event::event(chip_of(c), mem, kind, body);
+    let a = event::event(chip_of(c), mem, area, kind, body);
     if a.refusal != 0 {
         return refuse_event(c, a.refusal);
     }
@@ -323,39 +351,65 @@ pub extern "C" fn chip_event(c: ChipNumbers, mem: &mut [u8], kind: u64, body: u6
 pub extern "C" fn chip_event_lent(
     c: ChipNumbers,
     mem: &mut [u8],
+    area: &[u8],
     kind: u64,
     body: u64,
 ) -> EventNumbers
-    ensures { λ r. ⌜ (r ≡ eventOf c (now (mem .entry)) kind body) × (now (mem .exit) ≡ eventMemory c (now (mem .entry)) kind body) ⌝ }
+    ensures { λ r. ⌜ (r ≡ eventOf c (now (mem .entry)) (now (area .entry)) kind body)
+        × (now (mem .exit) ≡ eventMemory c (now (mem .entry)) (now (area .entry)) kind body) ⌝ }
 {
     if !is_state(c.flags, c.kind) {
-        return refuse_event(c, no_state(mem.len()));
+        return refuse_event(c, no_state(mem.len(), area.len()));
     }
-    let a = lent::event_by_lending(chip_of(c), mem, kind, body);
+    let a = lent::event_by_lending(chip_of(c), mem, area, kind, body);
     if a.refusal != 0 {
         return refuse_event(c, a.refusal);
     }
     event_done(a)
 }
 
-// A script run, for every state, memory, script and output.
+// A script run, for every state, memory, area, script and output.
 #[no_mangle]
 pub extern "C" fn chip_run(
     c: ChipNumbers,
     mem: &mut [u8],
+    area: &[u8],
     script: &[u8],
     out: &mut [u8],
 ) -> RunNumbers
-    ensures { λ r. ⌜ (r ≡ runOf c (now (mem .entry)) (now (script .entry)) (now (out .entry)))
-        × (now (mem .exit) ≡ runMemory c (now (mem .entry)) (now (script .entry)) (now (out .entry)))
-        × (now (out .exit) ≡ runOutput c (now (mem .entry)) (now (script .entry)) (now (out .entry))) ⌝ }
+    ensures { λ r. ⌜ (r ≡ runOf c (now (mem .entry)) (now (area .entry)) (now (script .entry)) (now (out .entry)))
+        × (now (mem .exit) ≡ runMemory c (now (mem .entry)) (now (area .entry)) (now (script .entry)) (now (out .entry)))
+        × (now (out .exit) ≡ runOutput c (now (mem .entry)) (now (area .entry)) (now (script .entry)) (now (out .entry))) ⌝ }
 {
     if !is_state(c.flags, c.kind) {
-        return refuse_run(c, no_state(mem.len()), 0);
+        return refuse_run(c, no_state(mem.len(), area.len()), 0);
     }
-    let a = script::run(chip_of(c), mem, script, out);
+    let a = script::run(chip_of(c), mem, area, script, out);
     if a.refusal != 0 {
         return refuse_run(c, a.refusal, a.offset);
     }
     run_done(a)
+}
+
+// Where the parameter table of an identity stands in an SFDP area, or what refuses it.
+#[no_mangle]
+pub extern "C" fn sfdp_find(area: &[u8], identity: u8) -> TableNumbers
+    ensures { λ r. ⌜ r ≡ tableNumbers (foundOf (now (area .entry)) identity) ⌝ }
+{
+    let found = sfdp::find_table(area, identity);
+    TableNumbers {
+        refusal: found.refusal,
+        place: found.place,
+        length: found.length,
+    }
+}
+
+// The part's own SFDP area, for a caller to lend.
+#[no_mangle]
+pub extern "C" fn sfdp_own_area() -> AreaNumbers
+    ensures { λ r. ⌜ r ≡ areaNumbers ownArea ⌝ }
+{
+    AreaNumbers {
+        bytes: part::own_area(),
+    }
 }

@@ -19,8 +19,8 @@ refuse-event-requires c κs = search needs
 
 returns : tie.Need-returns
 returns c =
-    let no : isState (c .before .before .before .before .before .args .c) ≡ false = sym (c .before .before .before .is-state .ensures) ∙ not-true _ (c .before .before .if1 .taken) in
-    (event-no-state _ _ _ _ _ _ no (c .before .no-state .ensures) (c .refuse-event .ensures), event-memory-no-state _ _ _ _ no)
+    let no : isState (c .before .before .before .before .before .before .args .c) ≡ false = sym (c .before .before .before .is-state .ensures) ∙ not-true _ (c .before .before .if1 .taken) in
+    (event-no-state _ _ _ _ _ _ _ no (c .before .no-state .ensures) (c .refuse-event .ensures), event-memory-no-state _ _ _ _ _ no)
 
 chip-of-requires : tie.Need-chip-of-requires
 chip-of-requires c κs = search needs
@@ -36,9 +36,9 @@ same-length c = search needs
 
 returns-2 : tie.Need-returns-2
 returns-2 c =
-    let is : isState (c .before .before .before .before .before .before .before .before .before .before .before .args .c) ≡ true = sym (c .before .before .before .before .before .before .before .before .before .is-state .ensures) ∙ not-false _ (c .before .before .before .before .before .before .before .before .if1 .left) in (
-      event-state _ _ _ _ _ _ _ is (c .before .before .before .before .before .before .before .chip-of .ensures) (c .before .before .before .before .before .event-by-lending .ensures .0) (c .refuse-event2 .ensures ∙ sym (event-refused _ _ (c .before .if2 .taken))),
-      event-memory-state _ _ _ _ _ _ is (c .before .before .before .before .before .before .before .chip-of .ensures) (c .before .before .before .before .before .event-by-lending .ensures .1),
+    let is : isState (c .before .before .before .before .before .before .before .before .before .before .before .before .args .c) ≡ true = sym (c .before .before .before .before .before .before .before .before .before .is-state .ensures) ∙ not-false _ (c .before .before .before .before .before .before .before .before .if1 .left) in (
+      event-state _ _ _ _ _ _ _ _ is (c .before .before .before .before .before .before .before .chip-of .ensures) (c .before .before .before .before .before .event-by-lending .ensures .0) (c .refuse-event2 .ensures ∙ sym (event-refused _ _ (c .before .if2 .taken))),
+      event-memory-state _ _ _ _ _ _ _ is (c .before .before .before .before .before .before .before .chip-of .ensures) (c .before .before .before .before .before .event-by-lending .ensures .1),
     )
 
 event-done-requires : tie.Need-event-done-requires
@@ -49,9 +49,9 @@ same-length-2 c = search needs
 
 returns-3 : tie.Need-returns-3
 returns-3 c =
-    let is : isState (c .before .before .before .before .before .before .before .before .before .before .before .args .c) ≡ true = sym (c .before .before .before .before .before .before .before .before .before .is-state .ensures) ∙ not-false _ (c .before .before .before .before .before .before .before .before .if1 .left) in (
-      event-state _ _ _ _ _ _ _ is (c .before .before .before .before .before .before .before .chip-of .ensures) (c .before .before .before .before .before .event-by-lending .ensures .0) (c .event-done .ensures ∙ sym (event-done _ _ (c .before .if2 .left))),
-      event-memory-state _ _ _ _ _ _ is (c .before .before .before .before .before .before .before .chip-of .ensures) (c .before .before .before .before .before .event-by-lending .ensures .1),
+    let is : isState (c .before .before .before .before .before .before .before .before .before .before .before .before .args .c) ≡ true = sym (c .before .before .before .before .before .before .before .before .before .is-state .ensures) ∙ not-false _ (c .before .before .before .before .before .before .before .before .if1 .left) in (
+      event-state _ _ _ _ _ _ _ _ is (c .before .before .before .before .before .before .before .chip-of .ensures) (c .before .before .before .before .before .event-by-lending .ensures .0) (c .event-done .ensures ∙ sym (event-done _ _ (c .before .if2 .left))),
+      event-memory-state _ _ _ _ _ _ _ is (c .before .before .before .before .before .before .before .chip-of .ensures) (c .before .before .before .before .before .event-by-lending .ensures .1),
     )
 
 pub chip-event-lent-spec : {M : Type 1} → statement M

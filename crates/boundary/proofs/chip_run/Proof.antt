@@ -19,8 +19,8 @@ refuse-run-requires c κs = search needs
 
 returns : tie.Need-returns
 returns c =
-    let no : isState (c .before .before .before .before .before .before .before .args .c) ≡ false = sym (c .before .before .before .is-state .ensures) ∙ not-true _ (c .before .before .if1 .taken) in
-    (run-no-state _ _ _ _ _ _ no (c .before .no-state .ensures) (c .refuse-run .ensures), run-memory-no-state _ _ _ _ no, run-output-no-state _ _ _ _ no)
+    let no : isState (c .before .before .before .before .before .before .before .before .args .c) ≡ false = sym (c .before .before .before .is-state .ensures) ∙ not-true _ (c .before .before .if1 .taken) in
+    (run-no-state _ _ _ _ _ _ _ no (c .before .no-state .ensures) (c .refuse-run .ensures), run-memory-no-state _ _ _ _ _ no, run-output-no-state _ _ _ _ _ no)
 
 chip-of-requires : tie.Need-chip-of-requires
 chip-of-requires c κs = search needs
@@ -39,10 +39,10 @@ same-length-2 c = search needs
 
 returns-2 : tie.Need-returns-2
 returns-2 c =
-    let is : isState (c .before .before .before .before .before .before .before .before .before .before .before .before .before .before .before .before .args .c) ≡ true = sym (c .before .before .before .before .before .before .before .before .before .before .before .before .is-state .ensures) ∙ not-false _ (c .before .before .before .before .before .before .before .before .before .before .before .if1 .left) in (
-      run-state _ _ _ _ _ _ _ is (c .before .before .before .before .before .before .before .before .before .before .chip-of .ensures) (c .before .before .before .before .before .before .before .run .ensures .0) (c .refuse-run2 .ensures ∙ sym (run-refused _ _ (c .before .if2 .taken))),
-      run-memory-state _ _ _ _ _ _ is (c .before .before .before .before .before .before .before .before .before .before .chip-of .ensures) (c .before .before .before .before .before .before .before .run .ensures .1),
-      run-output-state _ _ _ _ _ _ is (c .before .before .before .before .before .before .before .before .before .before .chip-of .ensures) (c .before .before .before .before .before .before .before .run .ensures .2),
+    let is : isState (c .before .before .before .before .before .before .before .before .before .before .before .before .before .before .before .before .before .args .c) ≡ true = sym (c .before .before .before .before .before .before .before .before .before .before .before .before .is-state .ensures) ∙ not-false _ (c .before .before .before .before .before .before .before .before .before .before .before .if1 .left) in (
+      run-state _ _ _ _ _ _ _ _ is (c .before .before .before .before .before .before .before .before .before .before .chip-of .ensures) (c .before .before .before .before .before .before .before .run .ensures .0) (c .refuse-run2 .ensures ∙ sym (run-refused _ _ (c .before .if2 .taken))),
+      run-memory-state _ _ _ _ _ _ _ is (c .before .before .before .before .before .before .before .before .before .before .chip-of .ensures) (c .before .before .before .before .before .before .before .run .ensures .1),
+      run-output-state _ _ _ _ _ _ _ is (c .before .before .before .before .before .before .before .before .before .before .chip-of .ensures) (c .before .before .before .before .before .before .before .run .ensures .2),
     )
 
 run-done-requires : tie.Need-run-done-requires
@@ -56,10 +56,10 @@ same-length-4 c = search needs
 
 returns-3 : tie.Need-returns-3
 returns-3 c =
-    let is : isState (c .before .before .before .before .before .before .before .before .before .before .before .before .before .before .before .before .args .c) ≡ true = sym (c .before .before .before .before .before .before .before .before .before .before .before .before .is-state .ensures) ∙ not-false _ (c .before .before .before .before .before .before .before .before .before .before .before .if1 .left) in (
-      run-state _ _ _ _ _ _ _ is (c .before .before .before .before .before .before .before .before .before .before .chip-of .ensures) (c .before .before .before .before .before .before .before .run .ensures .0) (c .run-done .ensures ∙ sym (run-done _ _ (c .before .if2 .left))),
-      run-memory-state _ _ _ _ _ _ is (c .before .before .before .before .before .before .before .before .before .before .chip-of .ensures) (c .before .before .before .before .before .before .before .run .ensures .1),
-      run-output-state _ _ _ _ _ _ is (c .before .before .before .before .before .before .before .before .before .before .chip-of .ensures) (c .before .before .before .before .before .before .before .run .ensures .2),
+    let is : isState (c .before .before .before .before .before .before .before .before .before .before .before .before .before .before .before .before .before .args .c) ≡ true = sym (c .before .before .before .before .before .before .before .before .before .before .before .before .is-state .ensures) ∙ not-false _ (c .before .before .before .before .before .before .before .before .before .before .before .if1 .left) in (
+      run-state _ _ _ _ _ _ _ _ is (c .before .before .before .before .before .before .before .before .before .before .chip-of .ensures) (c .before .before .before .before .before .before .before .run .ensures .0) (c .run-done .ensures ∙ sym (run-done _ _ (c .before .if2 .left))),
+      run-memory-state _ _ _ _ _ _ _ is (c .before .before .before .before .before .before .before .before .before .before .chip-of .ensures) (c .before .before .before .before .before .before .before .run .ensures .1),
+      run-output-state _ _ _ _ _ _ _ is (c .before .before .before .before .before .before .before .before .before .before .chip-of .ensures) (c .before .before .before .before .before .before .before .run .ensures .2),
     )
 
 pub chip-run-spec : {M : Type 1} → statement M
