@@ -33,11 +33,15 @@ linesOf T (e ∷ es) w = cond (yields (e .kind)) (lineOf (e .offset) (does T e w
 unfoldable pub answerText : List ℕ → ℕ → ℕ → ℕ → List ℕ
 answerText lines refusal offset ticks = cond (eqb refusal 0) (lines ++ doneLine ticks) (refusedLine refusal offset)
 
+-- the program's part has an empty SFDP area, so that 5Ah drives FFh (RULES, The program)
+abbrev pub programArea : List ℕ
+programArea = []
+
 -- the text of a run of s on a chip c and a memory m, with an output `out` lent
 unfoldable pub runText : Chip → List ℕ → List ℕ → List ℕ → List ℕ
 runText c m s out =
-    let r : Ran = answerOf c m s out in
-    partLine (length m) ++ answerText (linesOf (settingOf (length m)) (events s) (world c m [] 0)) (r .refusal) (r .offset) (r .ticks)
+    let r : Ran = answerOf c m programArea s out in
+    partLine (length m) ++ answerText (linesOf (settingOf (length m) programArea) (events s) (world c m [] 0)) (r .refusal) (r .offset) (r .ticks)
 
 -- a script on a blank part of one sector, fresh from status 00h, with the longest record's room for each of its bytes (RULES, The program)
 unfoldable pub reportOf : List ℕ → List ℕ

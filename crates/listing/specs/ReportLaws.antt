@@ -18,19 +18,19 @@ use Rattle.script.specs.Laws.{accepted, answer-number, output-done}
 use Rattle.listing.specs.Text.{partLine, doneLine, tooLong}
 use Rattle.listing.specs.Output.{readLines}
 use Rattle.listing.specs.OutputLaws.{known-events, read-lines}
-use Rattle.listing.specs.Report.{linesOf, answerText, runText, longestScript, outputRoom, reportOf}
+use Rattle.listing.specs.Report.{linesOf, answerText, programArea, runText, longestScript, outputRoom, reportOf}
 
 -- ---- the lines of a run
 
 -- the lines that are read from the output of a run that is done are those of its events as they happened
-pub read-run : (c : Chip) (m s out : List ℕ) → answerOf c m s out .refusal ≡ 0
-    → readLines (events s) (outputOf c m s out) 0 ≡ linesOf (settingOf (length m)) (events s) (world c m [] 0)
+pub read-run : (c : Chip) (m area s out : List ℕ) → answerOf c m area s out .refusal ≡ 0
+    → readLines (events s) (outputOf c m area s out) 0 ≡ linesOf (settingOf (length m) area) (events s) (world c m [] 0)
 unfolding worldAfter
-read-run c m s out h =
-    let ok : refusal c (length m) s (length out) .number ≡ 0 = sym (answer-number c m s out) ∙ h in
-    ap (λ (o : List ℕ). readLines (events s) o 0) (output-done c m s out ok)
-    ∙ read-lines (settingOf (length m)) (drop (length (worldAfter c m s .written)) out) (events s) (world c m [] 0)
-    (known-events s (length s) 0 (omega arith) (accepted c (length m) s (length out) ok .script-playable .clean))
+read-run c m area s out h =
+    let ok : refusal c (length m) (length area) s (length out) .number ≡ 0 = sym (answer-number c m area s out) ∙ h in
+    ap (λ (o : List ℕ). readLines (events s) o 0) (output-done c m area s out ok)
+    ∙ read-lines (settingOf (length m) area) (drop (length (worldAfter c m area s .written)) out) (events s) (world c m [] 0)
+    (known-events s (length s) 0 (omega arith) (accepted c (length m) (length area) s (length out) ok .script-playable .clean))
 
 -- ---- the text of a run
 
@@ -41,15 +41,15 @@ answer-lines lines lines′ zero offset ticks same = ap (λ (l : List ℕ). l ++
 answer-lines lines lines′ (suc n) offset ticks same = let some : eqb (suc n) 0 ≡ false = ne-eqb (suc n) 0 (λ e. omega arith) in cond-no _ _ _ some ∙ sym (cond-no _ _ _ some)
 
 -- the text of a run, from its answer and its output
-pub text-run : (c : Chip) (m s out : List ℕ) (r : Ran) (out′ : List ℕ) → r ≡ answerOf c m s out → out′ ≡ outputOf c m s out
+pub text-run : (c : Chip) (m s out : List ℕ) (r : Ran) (out′ : List ℕ) → r ≡ answerOf c m programArea s out → out′ ≡ outputOf c m programArea s out
     → runText c m s out ≡ partLine (length m) ++ answerText (readLines (events s) out′ 0) (r .refusal) (r .offset) (r .ticks)
 unfolding runText
 text-run c m s out r out′ is e =
-    let lines : List ℕ = linesOf (settingOf (length m)) (events s) (world c m [] 0) in
+    let lines : List ℕ = linesOf (settingOf (length m) programArea) (events s) (world c m [] 0) in
     ap (λ (a : Ran). partLine (length m) ++ answerText lines (a .refusal) (a .offset) (a .ticks)) (sym is)
     ∙ ap (λ (t : List ℕ). partLine (length m) ++ t)
     (answer-lines lines (readLines (events s) out′ 0) (r .refusal) (r .offset) (r .ticks)
-    (λ ok. sym (ap (λ (o : List ℕ). readLines (events s) o 0) e ∙ read-run c m s out (ap (λ (a : Ran). a .refusal) (sym is) ∙ ok))))
+    (λ ok. sym (ap (λ (o : List ℕ). readLines (events s) o 0) e ∙ read-run c m programArea s out (ap (λ (a : Ran). a .refusal) (sym is) ∙ ok))))
 
 -- ---- what the program prints
 

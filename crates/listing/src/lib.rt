@@ -133,13 +133,13 @@ fn put_answer(
     put_number(text, end, b"answer 0 ticks ", ticks, b'\n')
 }
 
-// Runs a script, and puts what is printed of the run.
+// Runs a script with an empty SFDP area, and puts what is printed of the run.
 fn put_run(text: &mut [u8; ROOM], chip: Chip, mem: &mut [u8], s: &[u8], out: &mut [u8]) -> usize
     requires { ⌜ length (now s) ≤ longestScript ⌝ }
     ensures { λ r. ⌜ Put (now (text .entry)) 0 (runText chip (now (mem .entry)) (now (s .entry)) (now (out .entry))) r (now (text .exit)) × (r ≤ length (now (text .exit))) ⌝ }
 {
     let at = put_number(text, 0, b"part ", mem.len() as u64, b'\n');
-    let r = script::run(chip, mem, s, out);
+    let r = script::run(chip, mem, &[], s, out);
     put_answer(text, at, s, out, r.refusal, r.offset, r.ticks)
 }
 

@@ -13,11 +13,14 @@ slice-aggregate-put-number c = search needs
 put-number-requires : tie.Need-put-number-requires
 put-number-requires c κs = search needs
 
+slice-aggregate-run : tie.Need-slice-aggregate-run
+slice-aggregate-run c = search needs
+
 run-requires : tie.Need-run-requires
 run-requires c κs = search needs
 
 put-answer-requires : tie.Need-put-answer-requires
-put-answer-requires c κs = (c .before .before .before .before .before .before .before .before .before .before .before .before .before .before .before .pre, omega (arith, c .before .before .before .before .before .before .before .before .before .put-number .ensures .1))
+put-answer-requires c κs = (c .before .before .before .before .before .before .before .before .before .before .before .before .before .before .before .before .pre, omega (arith, c .before .before .before .before .before .before .before .before .before .before .put-number .ensures .1))
 
 same-length : tie.Need-same-length
 same-length c = search needs
@@ -28,7 +31,7 @@ same-length-2 c = search needs
 returns : tie.Need-returns
 unfolding partLine
 returns c =
-    (put-as (text-run _ _ _ _ _ _ (c .before .before .before .before .before .before .before .run .ensures .0) (c .before .before .before .before .before .before .before .run .ensures .2)) (put-then (c .before .before .before .before .before .before .before .before .before .before .put-number .ensures .0) (c .put-answer .ensures .0)), c .put-answer .ensures .1)
+    (put-as (text-run _ _ _ _ _ _ (c .before .before .before .before .before .before .before .run .ensures .0) (c .before .before .before .before .before .before .before .run .ensures .2)) (put-then (c .before .before .before .before .before .before .before .before .before .before .before .put-number .ensures .0) (c .put-answer .ensures .0)), c .put-answer .ensures .1)
 
 pub put-run-spec : {M : Type 1} → statement M
 put-run-spec =
@@ -36,6 +39,7 @@ put-run-spec =
     (tie.spec
     slice-aggregate-put-number
     put-number-requires
+    slice-aggregate-run
     run-requires
     put-answer-requires
     same-length
