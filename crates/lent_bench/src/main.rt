@@ -1,4 +1,5 @@
-// The worked example P9 twice over, event by event: on a chip that is lent, and on one passed by value.
+// The worked example P9 and a byte of the SFDP area twice over, event by event: on a chip that is lent, and on one
+// passed by value.
 use chip::Chip;
 use chip::Core;
 use chip::Frame;
@@ -88,9 +89,16 @@ fn same_answer(a: Answer, b: Answer) -> bool {
 }
 
 // One event on both chips, each over its own memory.
-fn apply(pair: Pair, mem: &mut [u8], twin: &mut [u8], kind: u8, body: u8) -> Pair {
-    let a = lent::event_by_lending(pair.lent, mem, kind as u64, body as u64);
-    let b = event::event(pair.given, twin, kind as u64, body as u64);
+fn apply(
+    pair: Pair,
+    mem: &mut [u8],
+    twin: &mut [u8],
+    area: &[u8; 208],
+    kind: u8,
+    body: u8,
+) -> Pair {
+    let a = lent::event_by_lending(pair.lent, mem, area, kind as u64, body as u64);
+    let b = event::event(pair.given, twin, area, kind as u64, body as u64);
     let chip = a.chip;
     let given = b.chip;
     let said = a.said;
@@ -103,14 +111,14 @@ fn apply(pair: Pair, mem: &mut [u8], twin: &mut [u8], kind: u8, body: u8) -> Pai
 }
 
 // The events of a script, each a byte of kind and a byte of body.
-fn play(pair: Pair, mem: &mut [u8], twin: &mut [u8], script: &[u8]) -> Pair {
+fn play(pair: Pair, mem: &mut [u8], twin: &mut [u8], area: &[u8; 208], script: &[u8]) -> Pair {
     let mut next = pair;
     let mut i = 0;
     while i + 1 < script.len() {
         let kind = script[i];
         let body = script[i + 1];
         i += 2;
-        next = apply(next, mem, twin, kind, body);
+        next = apply(next, mem, twin, area, kind, body);
     }
     next
 }
@@ -122,12 +130,25 @@ fn say(yes: bool, text: &[u8]) {
     io::write_all(1, text);
 }
 
-// The status byte that was read, and whether lent and by value came to the same answers and memories.
-fn report(pair: Pair, memories: bool) {
-    io::write_all(1, b"status ");
+// The byte that was read, by its name, and whether lent and by value came to the same answers and memories.
+fn report(name: &[u8], pair: Pair, memories: bool) {
+    io::write_all(1, name);
     io::print_hex(1, pair.said, 2);
     io::write_all(1, b", lent and by value ");
     say(pair.same & memories, b"the same\n");
+}
+
+// The end of the frame before, and the first byte of the area by 5Ah: an address and a byte more come before it.
+fn read_area(pair: Pair, mem: &mut [u8], twin: &mut [u8], area: &[u8; 208]) {
+    let first = play(
+        pair,
+        mem,
+        twin,
+        area,
+        b"\x03\x00\x01\x00\x02\x5a\x02\x00\x02\x00\x02\x00\x02\x00\x02\x00",
+    );
+    io::write_all(1, b"SFDP: ");
+    report(b"first byte ", first, check::same(mem, twin));
 }
 
 fn main() {
@@ -135,6 +156,7 @@ fn main() {
     let mut twin = [90u8; 65536];
     let old = [90u8; 256];
     let blank = [255u8; 4096];
+    let area = part::own_area();
     let chip = Chip::fresh(0);
     let fresh = Pair {
         lent: chip,
@@ -147,6 +169,7 @@ fn main() {
         fresh,
         &mut mem,
         &mut twin,
+        &area,
         b"\x01\x00\x02\x06\x03\x00\x01\x00\x02\x20\x02\x00\x02\x10\x02\x00\x03\x00",
     );
     io::write_all(1, b"erase: ");
@@ -157,20 +180,24 @@ fn main() {
         begun,
         &mut mem,
         &mut twin,
+        &area,
         b"\x05\x0f\x01\x00\x02\x05\x02\x00",
     );
     io::write_all(1, b"15 ticks: last 256 bytes ");
     say(check::same(&mem[7936..8192], &old), b"old, ");
-    report(fifteen, check::same(&mem, &twin));
+    report(b"status ", fifteen, check::same(&mem, &twin));
 
     // The end of that frame, one tick more, and another read.
     let sixteen = play(
         fifteen,
         &mut mem,
         &mut twin,
+        &area,
         b"\x03\x00\x04\x00\x01\x00\x02\x05\x02\x00",
     );
     io::write_all(1, b"16 ticks: sector ");
     say(check::same(&mem[4096..8192], &blank), b"blank, ");
-    report(sixteen, check::same(&mem, &twin));
+    report(b"status ", sixteen, check::same(&mem, &twin));
+
+    read_area(sixteen, &mut mem, &mut twin, &area);
 }

@@ -7,10 +7,10 @@ use Rattle.lent_bench.proofs.play.Statement.{statement}
 use Rattle.lent_bench.proofs.play.Tie as tie
 
 abbrev Inv-loop : tie.InvT-loop
-Inv-loop mem₀ twin₀ script next₀ i₀ mem twin next i = (i ≤ length script) × (length mem ≡ length mem₀) × (length twin ≡ length twin₀)
+Inv-loop mem₀ twin₀ area script next₀ i₀ mem twin next i = (i ≤ length script) × (length mem ≡ length mem₀) × (length twin ≡ length twin₀)
 
 abbrev μ-loop : tie.MeasureT-loop
-μ-loop mem₀ twin₀ script next₀ i₀ mem twin next i = length script - i
+μ-loop mem₀ twin₀ area script next₀ i₀ mem twin next i = length script - i
 
 loop-holds : tie.Need-loop-holds Inv-loop μ-loop
 loop-holds c = search needs
