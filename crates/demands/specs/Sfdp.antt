@@ -10,7 +10,7 @@ use lib.ListN.{length, getD, replicate}
 use borrow.Author.Tests.{eqb-true, eq-eqb, le-leb}
 use Rattle.cells.specs.Choice.{cond-either, and-left, and-right, and-both, and-four}
 use Rattle.part.specs.Part.{Setting, settingOf}
-use Rattle.part.specs.Area.{longestArea, areaPlaces, areaByte}
+use Rattle.part.specs.Area.{areaPlaces, areaByte}
 use Rattle.part.specs.Laws.{areaByte-inside}
 use Rattle.commands.specs.Table.{rowOf, rowIn, isProgram, lowPowerRead, highSpeedRead, wake, readSfdp}
 use Rattle.kinds.specs.Kinds.{SELECT, EXCHANGE}
@@ -27,7 +27,6 @@ use Rattle.legal.specs.Legality.{chip-facts}
 use Rattle.frame.specs.Frame.{judge, nextPlace, reading, exchange, taken, exchanged}
 use Rattle.frame.specs.Laws.{taken-area, exchanged-taken}
 use Rattle.event.specs.Event.{Outcome, settleExchange, applied}
-use Rattle.event.specs.Laws.{applied-exchange}
 use Rattle.script.specs.Script.{Event}
 use Rattle.script.specs.Run.{World, world, after, does, onward, runs}
 use Rattle.script.specs.Laws.{runs-add}

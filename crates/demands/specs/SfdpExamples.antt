@@ -2,7 +2,7 @@
 use Prim.Native.Nat.{ℕ}
 use mathlib.Core.List.{List, [], _∷_, _++_}
 use mathlib.Core.Path.{_≡_, refl}
-use lib.ListN.{replicate}
+use lib.ListN.{getD, replicate}
 use Rattle.part.specs.Part.{setting}
 use Rattle.part.specs.Area.{ownArea}
 use Rattle.kinds.specs.Kinds.{SELECT, LOOSE, knownIn, kindRowIn, knownKind, kindRow}
@@ -59,13 +59,16 @@ q3 : Q3
 unfolding runs eventsFrom walk faultAt knownKind knownIn kindRow kindRowIn applied exchanged taken judge fresh rowOf rowIn isProgram verdict listed isRead settled acted heldAfter
 q3 m = (refl, refl)
 
--- Q4: an address past the memory's end is not carried over: on one sector 010000h is no byte of the area, and a read of cells there is cell 0
+-- Q4: an address past the memory's end is not carried over: on one sector 010000h is no place of the area, where a read of cells there drives cell 0
 abbrev pub Q4 : Type 0
-Q4 = (m : List ℕ) → writtenOn 1 ownArea (sfdpFrame 0x01 0x00 0x00 1) m ≡ shows (0xFF ∷ [])
+Q4 =
+    (m : List ℕ)
+    → (writtenOn 1 ownArea (sfdpFrame 0x01 0x00 0x00 1) m ≡ shows (0xFF ∷ []))
+    × (writtenOn 1 ownArea (frame (0x0B ∷ 0x01 ∷ 0x00 ∷ 0x00 ∷ 0x00 ∷ 0x00 ∷ [])) m ≡ shows (getD m 0 0 ∷ []))
 
 q4 : Q4
 unfolding runs eventsFrom walk faultAt knownKind knownIn kindRow kindRowIn applied exchanged taken judge fresh rowOf rowIn isProgram verdict listed isRead settled acted heldAfter ownArea
-q4 m = refl
+q4 m = (refl, refl)
 
 -- Q5: asleep the frame is 5, while a job runs 6, while one is suspended 7, and it floats; loose it is 0
 abbrev pub erases : List ℕ

@@ -93,10 +93,6 @@ found-inside area identity =
     (λ e. table-inside area identity (eqb-true _ _ e))
     (λ _. omega arith)
 
--- an area has few places
-pub place-small : (area : List ℕ) (identity : ℕ) → refusal area identity ≡ 0 → foundOf area identity .place ≤ 256
-place-small area identity e = omega (arith, found-inside area identity, area-short area identity e)
-
 -- the table is as long as told
 pub table-length : (area : List ℕ) (identity : ℕ) → length (tableOf area identity) ≡ foundOf area identity .length
 unfolding tableOf

@@ -2,7 +2,7 @@
 ghost use mathlib.Core.Path.{_≡_};
 ghost use Prim.Native.Nat.{_≤_, _<_};
 ghost use lib.ListN.{length};
-ghost use Rattle.sfdp.specs.Reader.{signed, headerCount, headerAt, identityAt, tableLength, tablePlace, headerOf, refusal, foundOf, tableOf};
+ghost use Rattle.sfdp.specs.Reader.{signed, headerCount, headerAt, tableLength, tablePlace, headerOf, refusal, foundOf, tableOf};
 use part::Part;
 
 // The number that refuses, 0 for none, and a table's place and length in bytes, both 0 if refused.

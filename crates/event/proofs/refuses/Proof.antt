@@ -1,5 +1,5 @@
-use borrow.Author.Tests.{lt-ltb, le-ltb}
 -- `event::refuses` meets its contract. 1, 13, 2, 5, 6 in that order, each early return after the ones before it passed.
+use borrow.Author.Tests.{lt-ltb, le-ltb}
 use Rattle.part.specs.Laws.{no-sectors, some-sectors}
 use Rattle.event.specs.Alone.{refusal}
 use borrow.Author.Needs.{needs}

@@ -1,5 +1,5 @@
-use lib.ListN.{length}
 -- `sfdp::table` meets its contract. What is told lies inside the area (`found-inside`), so the part can be lent.
+use lib.ListN.{length}
 use Prim.Native.Nat.{_+_, _-_, _≤_}
 use mathlib.Core.Path.{_≡_}
 use native.Mathlib.Omega.{arith}
