@@ -3,17 +3,27 @@
 use crate::case::{room, Case, Content, Start, Step, LENGTHS};
 use crate::event::{events_of, Event};
 use crate::expected::Expected;
-use crate::image::{edited_image, image_difference};
-use crate::model::{self, Record};
+use crate::image::{edited_image, image_difference, Image};
+use crate::model;
 use crate::rng::Rng;
-use crate::side::{record_bytes, Answer, Side, GUARD, MEMORY_AREA, OUTPUT_AREA};
+use crate::sfdp::{self, Found};
+use crate::side::{
+    record_bytes, Answer, Loan, Side, GUARD, MEMORY_AREA, NO_RECORD, OUTPUT_AREA, SFDP_AREA,
+};
 
-/// The chip that is expected, the model's memory and output, and the side that is held to them.
+/// The part's own SFDP area as the file that a bench may take it from.
+const OWN_AREA_FILE: &[u8; 208] = include_bytes!("../samples/le25s161.sfdp");
+
+/// The chip that is expected, the model's memory and output, the SFDP area that is lent, and the
+/// side that is held to them.
 pub struct Bench<'a> {
     pub expected: Expected,
     pub length: usize,
     memory: Vec<u8>,
     output: Vec<u8>,
+    /// The SFDP area with its guards.
+    sfdp: Vec<u8>,
+    area_length: usize,
     /// A memory whose content does not matter.
     scratch: Vec<u8>,
     /// The memories may differ, for the last step found a difference.
@@ -21,10 +31,21 @@ pub struct Bench<'a> {
     other: &'a mut dyn Side,
 }
 
+/// The answer to what has none.
+const NO_ANSWER: Answer =
+    Answer { refusal: 0, record: NO_RECORD, offset: 0, written: 0, ticks: 0 };
+
 /// What the output holds before a run.
 fn mark_output(output: &mut [u8]) {
     for (place, byte) in output.iter_mut().enumerate() {
         *byte = (place * 37 + 11) as u8;
+    }
+}
+
+/// What stands before and after an SFDP area: never FFh, so that a byte driven from there shows.
+fn mark_guards(sfdp: &mut [u8]) {
+    for (place, byte) in sfdp.iter_mut().enumerate() {
+        *byte = (place % 127) as u8;
     }
 }
 
@@ -46,12 +67,37 @@ fn answer_words(answer: &Answer) -> String {
     format!("{refusal}, record {record}, offset {offset}, written {written}, ticks {ticks}")
 }
 
+/// The reader's answer in words.
+fn found_words(Found { refusal, place, length }: &Found) -> String {
+    format!("{refusal}, place {place}, length {length}")
+}
+
 impl<'a> Bench<'a> {
     /// A bench with the side to compare.
     pub fn new(other: &'a mut dyn Side) -> Bench<'a> {
+        let (expected, length) = (Expected::fresh(0), LENGTHS[0]);
         let (memory, output) = (vec![0; MEMORY_AREA], vec![0; OUTPUT_AREA]);
-        let (expected, length, scratch) = (Expected::fresh(0), LENGTHS[0], vec![0; LENGTHS[5]]);
-        Bench { expected, length, memory, output, scratch, differs: true, other }
+        let (sfdp, area_length) = (vec![0; SFDP_AREA], 0);
+        let (scratch, differs) = (vec![0; LENGTHS[5]], true);
+        Bench { expected, length, memory, output, sfdp, area_length, scratch, differs, other }
+    }
+
+    /// The SFDP area that is lent.
+    pub fn area(&self) -> &[u8] {
+        &self.sfdp[GUARD..GUARD + self.area_length]
+    }
+
+    /// What the last run that was done wrote, given its answer.
+    pub fn written(&self, answer: &Answer) -> &[u8] {
+        &self.output[..answer.written as usize]
+    }
+
+    /// Lends an SFDP area from here on.
+    fn lend(&mut self, area: &[u8]) {
+        mark_guards(&mut self.sfdp);
+        self.sfdp[GUARD..GUARD + area.len()].copy_from_slice(area);
+        self.area_length = area.len();
+        self.other.sfdp().copy_from_slice(&self.sfdp);
     }
 
     /// Makes both memory areas the same again, if they may differ.
@@ -73,6 +119,7 @@ impl<'a> Bench<'a> {
             Content::Noise(seed) => Rng::new(seed).fill(cells),
         }
         self.other.memory()[..case.length].copy_from_slice(cells);
+        self.lend(&case.area);
         match &case.start {
             Start::Fresh(status) => {
                 self.expected = Expected::fresh(*status);
@@ -106,23 +153,58 @@ impl<'a> Bench<'a> {
 
     /// Does one step on both sides, compares all that came of it and gives the answer.
     pub fn perform(&mut self, step: &Step) -> Result<Answer, String> {
-        self.differs = true;
-        let before = self.other.image();
-        let (length, wanted, found, output_end) = match step {
-            Step::HandOver => return self.hand_over(),
+        match step {
             Step::Event { event, lent, length } => {
-                let length = length.unwrap_or(self.length);
-                let wanted = self.model_event(length, *event);
-                (length, wanted, self.other.event(length, *event, *lent)?, 0)
+                self.event(length.unwrap_or(self.length), *event, *lent)
             }
             Step::Run { script, spare, length } => {
-                let (length, room) = (length.unwrap_or(self.length), room(script, *spare));
-                mark_output(&mut self.output[..room + GUARD]);
-                mark_output(&mut self.other.output()[..room + GUARD]);
-                let wanted = self.model_run(length, script, room);
-                (length, wanted, self.other.run(length, script, room)?, room + GUARD)
+                self.run(length.unwrap_or(self.length), script, room(script, *spare))
             }
-        };
+            Step::HandOver => self.hand_over(),
+            Step::Lend(area) => {
+                self.lend(area);
+                Ok(NO_ANSWER)
+            }
+            Step::Find(identity) => self.find(*identity),
+            Step::OwnArea => self.own_area(),
+        }
+    }
+
+    /// Applies one event on both sides and compares.
+    fn event(&mut self, length: usize, event: Event, lent: bool) -> Result<Answer, String> {
+        self.differs = true;
+        let (before, loan) = (self.other.image(), self.loan(length));
+        let wanted = self.model_event(length, event);
+        let found = self.other.event(loan, event, lent)?;
+        self.compare_step(&before, length, 0, wanted, found)
+    }
+
+    /// Runs a script on both sides and compares.
+    fn run(&mut self, length: usize, script: &[u8], room: usize) -> Result<Answer, String> {
+        self.differs = true;
+        let (before, loan, end) = (self.other.image(), self.loan(length), room + GUARD);
+        mark_output(&mut self.output[..end]);
+        mark_output(&mut self.other.output()[..end]);
+        let wanted = self.model_run(length, script, room);
+        let found = self.other.run(loan, script, room)?;
+        self.compare_step(&before, length, end, wanted, found)
+    }
+
+    /// A loan of so many bytes of memory and of the whole SFDP area.
+    fn loan(&self, memory: usize) -> Loan {
+        Loan { memory, area: self.area_length }
+    }
+
+    /// Compares all that came of an event or a run, given the other side's chip before it, the
+    /// memory length and the end of the output that it was lent, and gives the answer.
+    fn compare_step(
+        &mut self,
+        before: &Image,
+        length: usize,
+        output_end: usize,
+        wanted: Answer,
+        found: Answer,
+    ) -> Result<Answer, String> {
         if wanted != found {
             let (wanted, found) = (answer_words(&wanted), answer_words(&found));
             return Err(format!("answer: {found}\nin place of {wanted}"));
@@ -130,7 +212,7 @@ impl<'a> Bench<'a> {
         self.compare_areas(length.max(self.length) + GUARD, output_end)?;
         match wanted.refusal {
             0 => self.compare_state()?,
-            _ => as_error(image_difference(&before, &self.other.image()))?,
+            _ => as_error(image_difference(before, &self.other.image()))?,
         }
         self.differs = false;
         Ok(wanted)
@@ -139,12 +221,33 @@ impl<'a> Bench<'a> {
     /// Puts the chip that is expected in the place of the other side's.
     fn hand_over(&mut self) -> Result<Answer, String> {
         self.other.put(&self.expected.chip, &self.expected.image())?;
-        Ok(Answer::to_event(0, record_bytes(Record::None), 0))
+        Ok(NO_ANSWER)
+    }
+
+    /// Asks both readers for the table of an identity; of the answer only the refusal is given.
+    fn find(&mut self, identity: u8) -> Result<Answer, String> {
+        let wanted = sfdp::find(self.area(), identity);
+        let found = self.other.find(self.area_length, identity)?;
+        if wanted != found {
+            let (wanted, found) = (found_words(&wanted), found_words(&found));
+            return Err(format!("identity {identity:02X}h: {found}\nin place of {wanted}"));
+        }
+        self.compare_sfdp()?;
+        Ok(Answer { refusal: wanted.refusal, ..NO_ANSWER })
+    }
+
+    /// Holds the part's own area to the second program's and to the file.
+    fn own_area(&mut self) -> Result<Answer, String> {
+        let found = self.other.own_area()?;
+        as_error(area_difference("own area", &sfdp::CONTENT, &found))?;
+        as_error(area_difference("own area, to the file's,", OWN_AREA_FILE, &found))?;
+        Ok(NO_ANSWER)
     }
 
     /// The model's answer to one event.
     fn model_event(&mut self, length: usize, event: Event) -> Answer {
-        let answer = self.expected.event(&mut self.memory[..length], event);
+        let area = &self.sfdp[GUARD..GUARD + self.area_length];
+        let answer = self.expected.event(&mut self.memory[..length], area, event);
         Answer::to_event(answer.refusal, record_bytes(answer.record), answer.ticks)
     }
 
@@ -153,10 +256,11 @@ impl<'a> Bench<'a> {
     fn model_run(&mut self, length: usize, script: &[u8], room: usize) -> Answer {
         let mut chip = self.expected.chip.clone();
         let (memory, output) = (&mut self.memory[..length], &mut self.output[..room]);
-        let answer = model::run(&mut chip, memory, script, output);
+        let area = &self.sfdp[GUARD..GUARD + self.area_length];
+        let answer = model::run(&mut chip, memory, area, script, output);
         if answer.refusal == 0 {
             for event in events_of(script).0 {
-                self.expected.event(&mut self.scratch[..length], event);
+                self.expected.event(&mut self.scratch[..length], area, event);
             }
             assert!(self.expected.chip == chip, "the model's run is not its events one by one");
         }
@@ -164,13 +268,19 @@ impl<'a> Bench<'a> {
         Answer::to_run(answer.refusal, offset, written, answer.ticks)
     }
 
-    /// Compares the memories and the outputs up to the ends given.
+    /// Compares the SFDP areas, which are only read, and their guards.
+    fn compare_sfdp(&mut self) -> Result<(), String> {
+        as_error(area_difference("SFDP area and its guards", &self.sfdp, self.other.sfdp()))
+    }
+
+    /// Compares the memories and the outputs up to the ends given, and the SFDP areas.
     fn compare_areas(&mut self, memory_end: usize, output_end: usize) -> Result<(), String> {
         let memory = &self.memory[..memory_end];
         let different = area_difference("memory", memory, &self.other.memory()[..memory_end]);
         let output = &self.output[..output_end];
         let too = area_difference("output", output, &self.other.output()[..output_end]);
-        as_error(different.or(too))
+        as_error(different.or(too))?;
+        self.compare_sfdp()
     }
 
     /// Does a whole case and gives its first difference and the step that it is at.

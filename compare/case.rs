@@ -38,6 +38,12 @@ pub enum Step {
     Run { script: Vec<u8>, spare: i64, length: Option<usize> },
     /// The chip that is expected takes the place of the other side's.
     HandOver,
+    /// Another SFDP area is lent from here on.
+    Lend(Vec<u8>),
+    /// The reader is asked for the table of an identity in the area that is lent.
+    Find(u8),
+    /// The part's own area is asked for.
+    OwnArea,
 }
 
 /// A start and the steps after it.
@@ -46,6 +52,8 @@ pub struct Case {
     pub length: usize,
     pub start: Start,
     pub content: Content,
+    /// The SFDP area that is lent at first.
+    pub area: Vec<u8>,
     pub steps: Vec<Step>,
 }
 

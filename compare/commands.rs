@@ -21,7 +21,7 @@ const fn other(name: &'static str, verdicts: &'static [u8]) -> Command {
 /// The opcodes, the bytes that are none, and the deselects without an opcode, each with the
 /// verdicts that can occur on a legal state after a frame that was sent byte by byte. (A frame that
 /// came with a lent state may carry any judgement and is not counted here.)
-pub const COMMANDS: [Command; 23] = [
+pub const COMMANDS: [Command; 24] = [
     command(0x06, "write enable", &[1, 4, 5, 6, 7]),
     command(0x04, "write disable", &[1, 4, 5, 6, 7]),
     command(0x05, "read status", &[0, 5]),
@@ -42,12 +42,15 @@ pub const COMMANDS: [Command; 23] = [
     command(0xB9, "deep power-down", &[1, 4, 5, 6, 7]),
     command(0x66, "reset enable", &[1, 4, 5]),
     command(0x99, "reset", &[1, 4, 5, 11]),
+    command(0x5A, "read SFDP", &[0, 5, 6, 7]),
     other("unknown", &[3]),
     other("empty frame", &[0]),
     other("unselected", &[0]),
 ];
 
+/// The row of 5Ah, the last of the opcodes.
+pub const READ_SFDP: usize = 20;
 /// The rows after the opcodes.
-pub const UNKNOWN: usize = 20;
-pub const EMPTY: usize = 21;
-pub const UNSELECTED: usize = 22;
+pub const UNKNOWN: usize = 21;
+pub const EMPTY: usize = 22;
+pub const UNSELECTED: usize = 23;

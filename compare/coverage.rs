@@ -1,19 +1,22 @@
 // What has occurred: opcodes by verdicts, refusals by entry points, jobs by fates, and situations.
 
-use crate::case::{Start, Step, LENGTHS};
+use crate::area_coverage::AreaCoverage;
+use crate::areas::LONGEST_TAKEN;
+use crate::case::{room, Case, Start, Step, LENGTHS};
 use crate::class::Class;
 use crate::commands::{COMMANDS, EMPTY, UNKNOWN, UNSELECTED};
 use crate::event::{events_of, kind, Event, LONGEST};
 use crate::expected::{Expected, NOTHING};
 use crate::image::{Edit, FLAGS};
-use crate::model::{Chip, Record};
+use crate::model::{self, Chip, Record};
 use crate::side::Answer;
 use crate::states::RULES;
+use crate::tally::{mark, print_cells, print_head, print_line, Tally};
 use std::collections::BTreeSet;
 
 /// Why a verdict cannot occur in the rows that do not list it.
 const REASONS: [&str; 13] = [
-    "of the opcodes only the four reads end so; ABh is none of them",
+    "of the opcodes only the five reads end so; ABh is none of them",
     "a read is 0 before, and what begins a job is 2",
     "only programs, erases and write status begin a job",
     "only a byte without a row of the table",
@@ -28,12 +31,15 @@ const REASONS: [&str; 13] = [
     "a suspended job means WEN 1 in every legal state",
 ];
 
+/// The refusals, columns of their table.
+const REFUSALS: [u8; 9] = [0, 1, 2, 3, 4, 5, 6, 7, 13];
+
 /// The entry points, rows of the table of refusals, each with the numbers that can occur.
 /// A single event has no script, so that 3, 4 and 7 cannot: its kind and body are two numbers.
 const ENTRIES: [(&str, &[u8]); 3] = [
-    ("event", &[0, 1, 2, 5, 6]),
-    ("event, lent", &[0, 1, 2, 5, 6]),
-    ("run", &[0, 1, 2, 3, 4, 5, 6, 7]),
+    ("event", &[0, 1, 2, 5, 6, 13]),
+    ("event, lent", &[0, 1, 2, 5, 6, 13]),
+    ("run", &REFUSALS),
 ];
 
 /// The kinds of job that the table of fates has as rows.
@@ -100,10 +106,11 @@ const SITUATIONS: [&str; 32] = [
 
 /// All that has occurred.
 pub struct Coverage {
-    verdicts: [[u64; 13]; 23],
-    refusals: [[u64; 8]; 3],
+    verdicts: [[u64; 13]; COMMANDS.len()],
+    refusals: [[u64; REFUSALS.len()]; 3],
     fates: Vec<Vec<BTreeSet<u32>>>,
-    situations: [u64; SITUATIONS.len()],
+    situations: Tally,
+    areas: AreaCoverage,
     over_top: [[u64; 2]; 6],
     rules: [u64; RULES.len()],
     flags: [[u64; 3]; FLAGS.len()],
@@ -119,10 +126,11 @@ impl Coverage {
     /// Nothing yet.
     pub fn new() -> Coverage {
         Coverage {
-            verdicts: [[0; 13]; 23],
-            refusals: [[0; 8]; 3],
+            verdicts: [[0; 13]; COMMANDS.len()],
+            refusals: [[0; REFUSALS.len()]; 3],
             fates: vec![vec![BTreeSet::new(); FATES.len()]; JOBS.len()],
-            situations: [0; SITUATIONS.len()],
+            situations: Tally::new(&SITUATIONS),
+            areas: AreaCoverage::new(),
             over_top: [[0; 2]; 6],
             rules: [0; RULES.len()],
             flags: [[0; 3]; FLAGS.len()],
@@ -136,21 +144,18 @@ impl Coverage {
 
     /// Takes note of a situation, if it has occurred.
     fn saw(&mut self, name: &str, occurred: bool) {
-        if occurred {
-            let number = SITUATIONS.iter().position(|known| *known == name);
-            self.situations[number.expect("a situation of the list")] += 1;
-        }
+        self.situations.saw(name, occurred);
     }
 
     /// Takes note of the start of a case.
-    pub fn note_start(&mut self, start: &Start) {
+    pub fn note_start(&mut self, Case { start, area, .. }: &Case) {
         self.bad_flag = match start {
             Start::Lent(_, Edit::Flag(flag, _)) => Some(*flag),
             _ => None,
         };
+        self.close_frame();
         self.frame_lent = matches!(start, Start::Lent(chip, _) if chip.frame.byte_count > 0);
-        self.frame_bytes = 0;
-        self.last_status = None;
+        self.areas.lend(area);
     }
 
     /// Takes note of a rule of legality that was broken alone and refused.
@@ -168,14 +173,19 @@ impl Coverage {
         length: usize,
     ) -> u64 {
         let entry = match step {
-            Step::HandOver => return 0,
             Step::Event { lent, .. } => usize::from(*lent),
             Step::Run { .. } => 2,
+            Step::Find(identity) => {
+                self.areas.note_find(*identity);
+                return 1;
+            }
+            Step::Lend(area) => {
+                self.areas.lend(area);
+                return 0;
+            }
+            Step::HandOver | Step::OwnArea => return 0,
         };
-        self.refusals[entry][usize::from(answer.refusal)] += 1;
-        if let (Some(flag), 2) = (self.bad_flag, answer.refusal) {
-            self.flags[flag][entry] += 1;
-        }
+        self.note_answer(before, step, entry, answer.refusal, length);
         match step {
             _ if answer.refusal != 0 => 1,
             Step::Run { script, spare, .. } => {
@@ -188,7 +198,53 @@ impl Coverage {
                 self.replay(before.clone(), &[*event], length);
                 1
             }
-            Step::HandOver => 0,
+            _ => 0,
+        }
+    }
+
+    /// Takes note of the refusal, or of none, that an event or a run got at an entry point.
+    fn note_answer(
+        &mut self,
+        before: &Expected,
+        step: &Step,
+        entry: usize,
+        refusal: u8,
+        length: usize,
+    ) {
+        let column = REFUSALS.iter().position(|number| *number == refusal);
+        self.refusals[entry][column.expect("a refusal of the table")] += 1;
+        if let (Some(flag), 2) = (self.bad_flag, refusal) {
+            self.flags[flag][entry] += 1;
+        }
+        if self.frame_lent && self.frame_bytes == 0 {
+            self.areas.note_lent_frame(&before.chip, refusal, length);
+        }
+        self.areas.note_step();
+        if self.areas.lent.len() > LONGEST_TAKEN {
+            let otherwise = self.refusal_without_area(before, step, length);
+            self.areas.note_too_long(entry, refusal, otherwise);
+        }
+    }
+
+    /// The number that an event or a run would be refused by if the area were empty.
+    fn refusal_without_area(&mut self, before: &Expected, step: &Step, length: usize) -> u8 {
+        let (Step::Event { length: other, .. } | Step::Run { length: other, .. }) = step else {
+            return 0;
+        };
+        let length = other.unwrap_or(length);
+        if !LENGTHS.contains(&length) {
+            return 1;
+        }
+        let (mut chip, memory) = (before.chip.clone(), &mut self.memory[..length]);
+        match step {
+            Step::Event { event: (kind, body), .. } => {
+                model::event(&mut chip, memory, &[], *kind, *body).refusal
+            }
+            Step::Run { script, spare, .. } => {
+                let mut output = vec![0; room(script, *spare)];
+                model::run(&mut chip, memory, &[], script, &mut output).refusal
+            }
+            _ => 0,
         }
     }
 
@@ -208,7 +264,7 @@ impl Coverage {
     fn replay(&mut self, mut after: Expected, events: &[Event], length: usize) -> Expected {
         for event in events {
             let before = after.clone();
-            let answer = after.event(&mut self.memory[..length], *event);
+            let answer = after.event(&mut self.memory[..length], &self.areas.lent, *event);
             self.note_leftovers(&before, *event, answer.record, &after);
             let (before, after) = (&before.chip, &after.chip);
             self.note_job(before, *event, answer.record, after, length);
@@ -216,7 +272,8 @@ impl Coverage {
                 kind::SELECT => self.saw("select while selected", before.selected),
                 kind::EXCHANGE => self.note_exchange(before, answer.record, length),
                 kind::DESELECT | kind::LOOSE_DESELECT => {
-                    self.note_deselect(before, answer.record, length)
+                    let loose = event.0 == kind::LOOSE_DESELECT;
+                    self.note_deselect(before, answer.record, loose, length)
                 }
                 kind::TICK | kind::TICKS => self.note_ticks(before, after, answer.ticks),
                 kind::POWER_CUT => self.close_frame(),
@@ -259,12 +316,14 @@ impl Coverage {
         self.frame_lent = false;
         self.frame_bytes = 0;
         self.last_status = None;
+        self.areas.close_frame();
     }
 
     /// Takes note of an exchange.
     fn note_exchange(&mut self, before: &Chip, record: Record, length: usize) {
         self.saw("exchange unselected", !before.selected);
         self.frame_bytes += usize::from(before.selected);
+        self.areas.note_exchange(before, record, length);
         let Record::Driven(byte) = record else { return };
         self.saw("lent frame, byte driven", self.frame_lent);
         let frame = &before.frame;
@@ -301,9 +360,10 @@ impl Coverage {
     }
 
     /// Takes note of a deselect and its verdict.
-    fn note_deselect(&mut self, before: &Chip, record: Record, length: usize) {
+    fn note_deselect(&mut self, before: &Chip, record: Record, loose: bool, length: usize) {
         let Record::Verdict(verdict) = record else { return };
         let frame = &before.frame;
+        self.areas.note_deselect(before, loose, verdict);
         let row = if !before.selected {
             UNSELECTED
         } else if frame.byte_count == 0 {
@@ -376,6 +436,7 @@ impl Coverage {
     pub fn report(&self) -> usize {
         let mut faults = self.report_verdicts();
         faults += self.report_refusals();
+        faults += self.areas.report(&ENTRIES);
         faults += self.report_fates();
         faults + self.report_situations()
     }
@@ -383,8 +444,7 @@ impl Coverage {
     /// Prints opcodes by verdicts.
     fn report_verdicts(&self) -> usize {
         println!("frames by verdict (- cannot occur)");
-        let head: String = (0..13).map(|verdict| format!("{verdict:>8}")).collect();
-        println!("{:24}{head}", "");
+        print_head(&[0, 1, 2, 3, 4, 5, 6, 7, 8, 9, 10, 11, 12]);
         let mut faults = 0;
         for (command, counts) in COMMANDS.iter().zip(&self.verdicts) {
             let opcode = command.opcode.map_or("  ".to_string(), |opcode| format!("{opcode:02X}"));
@@ -401,12 +461,11 @@ impl Coverage {
     /// Prints refusals by entry points.
     fn report_refusals(&self) -> usize {
         println!("\nrefusals by entry point (- cannot occur: a single event has no script and no output)");
-        let head: String = (0..8).map(|number| format!("{number:>8}")).collect();
-        println!("{:24}{head}", "");
+        print_head(&REFUSALS);
         let mut faults = 0;
         for ((name, numbers), counts) in ENTRIES.iter().zip(&self.refusals) {
             print!("{name:24}");
-            faults += print_cells(counts, |number| numbers.contains(&(number as u8)));
+            faults += print_cells(counts, |column| numbers.contains(&REFUSALS[column]));
         }
         faults + self.report_rules()
     }
@@ -416,8 +475,7 @@ impl Coverage {
         let mut faults = 0;
         println!("\nstates that break one rule of legality alone, refused by 2");
         for ((name, _), count) in RULES.iter().zip(&self.rules) {
-            println!("  {name:48}{count:>8}{}", mark(*count == 0));
-            faults += usize::from(*count == 0);
+            faults += print_line(name, *count);
         }
         println!("\nflags that are a byte above 1, refused by 2 at each entry point");
         println!("{:24}{:>8}{:>8}{:>8}", "", "event", "lent", "run");
@@ -451,39 +509,11 @@ impl Coverage {
     /// Prints the situations.
     fn report_situations(&self) -> usize {
         println!("\nsituations");
-        let mut lines: Vec<(String, u64)> =
-            SITUATIONS.iter().map(|name| name.to_string()).zip(self.situations).collect();
+        let mut faults = self.situations.report();
         for (length, counts) in LENGTHS.iter().zip(self.over_top) {
-            lines.push((format!("03h over the top of {length}"), counts[0]));
-            lines.push((format!("0Bh over the top of {length}"), counts[1]));
-        }
-        let mut faults = 0;
-        for (name, count) in lines {
-            println!("  {name:48}{count:>8}{}", mark(count == 0));
-            faults += usize::from(count == 0);
+            faults += print_line(&format!("03h over the top of {length}"), counts[0]);
+            faults += print_line(&format!("0Bh over the top of {length}"), counts[1]);
         }
         faults
     }
-}
-
-/// The mark of a cell that is not as it should be.
-fn mark(bad: bool) -> &'static str {
-    if bad {
-        "!"
-    } else {
-        ""
-    }
-}
-
-/// Prints a row of counts and gives the number of those that are not as they should be.
-fn print_cells(counts: &[u64], can: impl Fn(usize) -> bool) -> usize {
-    let mut faults = 0;
-    for (column, count) in counts.iter().enumerate() {
-        let bad = can(column) != (*count > 0);
-        let cell = if can(column) || bad { count.to_string() } else { "-".to_string() };
-        print!("{:>8}", cell + mark(bad));
-        faults += usize::from(bad);
-    }
-    println!();
-    faults
 }

@@ -59,9 +59,14 @@ impl Expected {
     /// Applies one event and gives the model's answer. A job's last step, a reset that is done and
     /// a power cut leave nothing of a job, and one that begins starts with nothing left; every
     /// other event leaves the leftovers as they are.
-    pub fn event(&mut self, memory: &mut [u8], (kind, body): Event) -> EventAnswer {
+    pub fn event(
+        &mut self,
+        memory: &mut [u8],
+        area: &[u8],
+        (kind, body): Event,
+    ) -> EventAnswer {
         let (job, opcode) = (self.chip.job.is_some(), self.chip.frame.opcode);
-        let answer = model::event(&mut self.chip, memory, kind, body);
+        let answer = model::event(&mut self.chip, memory, area, kind, body);
         let cleared = match (kind, answer.record) {
             (kind::TICK | kind::TICKS, _) => job && self.chip.job.is_none(),
             (_, Record::Verdict(1)) => opcode == RESET,
@@ -98,7 +103,7 @@ fn seen_address(opcode: u8, count: u8) -> u32 {
     };
     match opcode {
         0x01 if count == 2 => 0xFF,                // the byte to write
-        0x03 | 0x0B if count < 4 => taken,         // at byte 4 it goes to the read place
+        0x03 | 0x0B | 0x5A if count < 4 => taken,  // at byte 4 it goes to the read place
         0x20 | 0xD7 | 0xD8 if count <= 4 => taken, // longer ones are verdict 4
         0x02 | 0x0A => taken,
         _ => 0,
@@ -109,8 +114,8 @@ fn seen_address(opcode: u8, count: u8) -> u32 {
 /// - of a frame that is judged, floats and keeps its verdict: address, both places and load;
 /// - of any other frame: the address unless a later byte or the deselect uses it (the library
 ///   takes address bytes in every frame, the model only where they mean something), the read
-///   place but in 03h and 0Bh from byte 4 on and in 9Fh, the load place and the load but in a
-///   program.
+///   place but in 03h, 0Bh and 5Ah from byte 4 on and in 9Fh, the load place and the load but in
+///   a program.
 ///
 /// Of an empty frame nothing is left out, for a legal state says what it is, and nothing of a job.
 fn forget_unseen(image: &mut Image, chip: &Chip) {
@@ -118,7 +123,7 @@ fn forget_unseen(image: &mut Image, chip: &Chip) {
     let (opcode, count) = (frame.opcode, frame.byte_count);
     let judged = frame.judgement.is_some();
     let program = matches!(opcode, 0x02 | 0x0A) && !judged;
-    let read = matches!(opcode, 0x03 | 0x0B) && count >= 4 || opcode == 0x9F;
+    let read = matches!(opcode, 0x03 | 0x0B | 0x5A) && count >= 4 || opcode == 0x9F;
     if count > 0 {
         image.address &= if judged { 0 } else { seen_address(opcode, count) };
         image.place *= u64::from(read && !judged);

@@ -1,13 +1,19 @@
 // A copy of the model as the other side, with a planted fault or none, to test the harness itself.
 
+use crate::areas::LONGEST_TAKEN;
+use crate::case::LENGTHS;
 use crate::event::{events_of, kind, Event, LONGEST};
 use crate::expected::Expected;
 use crate::image::{with_flags, Image};
 use crate::model::{self, Chip, EventAnswer, Job, JobKind, Record};
-use crate::side::{record_bytes, Answer, Side, MEMORY_AREA, OUTPUT_AREA};
+use crate::sfdp::{self, Found, CONTENT};
+use crate::side::{
+    record_bytes, Answer, Loan, Side, GUARD, MEMORY_AREA, NO_RECORD, OUTPUT_AREA, SFDP_AREA,
+};
+use crate::wrong_reader;
 
-/// The faults, in words; the first five are errors that look right.
-pub const FAULTS: [&str; 21] = [
+/// The faults but the reader's, in words; the first five are errors that look right.
+const FAULTS: [&str; 31] = [
     "a load is laid down from the page start",
     "a program stores its bytes where cells only lose bits",
     "verdict 9 or 10 clears WEN",
@@ -29,7 +35,25 @@ pub const FAULTS: [&str; 21] = [
     "an erase begun keeps the old load",
     "a reset without a job keeps a load that is left",
     "a program blanks the part of its load that is done",
+    "a 5Ah place is reduced by the memory length",
+    "the dummy of a 5Ah frame drives FFh",
+    "the data of a 5Ah frame begin at byte 5",
+    "the area is read in a circle past its end",
+    "after FFFFFFh a 5Ah place is 2^24",
+    "a 5Ah frame clears the byte after the area",
+    "13 is tested after 2",
+    "13 is tested before 1",
+    "an area of 257 bytes is taken",
+    "the part's own area has zeros for its third header",
 ];
+
+/// The number of the first fault of the reader.
+const READER: usize = FAULTS.len();
+
+/// All faults, in words, the reader's last.
+pub fn all_faults() -> impl Iterator<Item = &'static str> {
+    FAULTS.into_iter().chain(wrong_reader::FAULTS)
+}
 
 /// The copy: its chip, memory and output, and the number of its fault.
 pub struct WrongCopy {
@@ -38,6 +62,8 @@ pub struct WrongCopy {
     image: Image,
     memory: Vec<u8>,
     output: Vec<u8>,
+    /// The SFDP area with its guards.
+    sfdp: Vec<u8>,
     /// A memory whose content does not matter.
     scratch: Vec<u8>,
     fault: Option<usize>,
@@ -47,8 +73,9 @@ impl WrongCopy {
     /// A copy with a fault of the list, or none.
     pub fn new(fault: Option<usize>) -> WrongCopy {
         let (memory, scratch) = (vec![0; MEMORY_AREA], vec![0; MEMORY_AREA]);
-        let (expected, output) = (Expected::fresh(0), vec![0; OUTPUT_AREA]);
-        WrongCopy { image: expected.image(), expected, memory, output, scratch, fault }
+        let (expected, image) = (Expected::fresh(0), Expected::fresh(0).image());
+        let (output, sfdp) = (vec![0; OUTPUT_AREA], vec![0; SFDP_AREA]);
+        WrongCopy { expected, image, memory, output, sfdp, scratch, fault }
     }
 
     /// Whether a fault is the planted one.
@@ -65,24 +92,48 @@ impl WrongCopy {
         }
     }
 
+    /// The refusal that the fault puts before the model's, if it does.
+    fn early_refusal(&self, Loan { memory, area }: Loan) -> Option<u8> {
+        let legal = self.expected.chip.legal(memory);
+        match self.fault {
+            _ if area <= LONGEST_TAKEN => None,
+            Some(27) if LENGTHS.contains(&memory) && !legal => Some(2),
+            Some(28) => Some(13),
+            _ => None,
+        }
+    }
+
+    /// The length of the area as the copy sees it, with the fault.
+    fn area_length(&self, loan: Loan) -> usize {
+        match loan.area {
+            257 if self.has(29) => LONGEST_TAKEN,
+            length => length,
+        }
+    }
+
     /// Applies one event, with the fault.
-    fn apply(&mut self, length: usize, (kind, body): Event) -> Answer {
+    fn apply(&mut self, loan: Loan, (kind, body): Event) -> Answer {
+        if let Some(refusal) = self.early_refusal(loan) {
+            return Answer::to_event(refusal, NO_RECORD, 0);
+        }
         let (kind, body) = match kind {
             256.. if self.has(12) => (kind % 256, body),
             kind::LOOSE_DESELECT if self.has(13) && (1..=7).contains(&body) => (kind::DESELECT, 0),
             kind::TICKS if self.has(6) && body > 2 && body < 65_536 => (kind, body - 1),
             _ => (kind, body),
         };
-        let before = self.expected.clone();
+        let (before, area_length) = (self.expected.clone(), self.area_length(loan));
         if self.has(11) && before.chip.frame.address == 1 << 24 {
             self.expected.chip.frame.address = 0;
         }
-        let answer = self.expected.event(&mut self.memory[..length], (kind, body));
+        let (memory, area) = (&mut self.memory[..loan.memory], &self.sfdp[GUARD..][..area_length]);
+        let answer = self.expected.event(memory, area, (kind, body));
         let EventAnswer { refusal, mut record, ticks } = answer;
         if refusal == 0 {
             self.spoil_state(&before.chip, kind, record);
             self.spoil_leftovers(&before, kind, record);
-            record = self.spoil_record(&before.chip, record, length);
+            record = self.spoil_record(&before.chip, record, loan.memory);
+            record = self.spoil_area_read(&before.chip, record, loan);
         } else if refusal == 6 && self.has(10) {
             self.expected.chip.armed = false;
             self.image.flags[6] = 0; // armed
@@ -157,11 +208,37 @@ impl WrongCopy {
         record
     }
 
+    /// Plants the faults that are seen in a 5Ah frame.
+    fn spoil_area_read(&mut self, before: &Chip, record: Record, loan: Loan) -> Record {
+        let Chip { frame, .. } = before;
+        let driven = matches!(record, Record::Driven(_));
+        let dummy = record == Record::Floating && frame.byte_count == 4;
+        if frame.opcode != 0x5A || frame.judgement.is_some() || matches!(record, Record::Verdict(_))
+        {
+            return record;
+        }
+        let (place, next) = (frame.read_place as usize, &mut self.expected.chip.frame.read_place);
+        let area = &mut self.sfdp[GUARD..];
+        match self.fault {
+            Some(21) => *next %= loan.memory as u32,
+            Some(22) if dummy => return Record::Driven(0xFF),
+            Some(23) if dummy => {
+                *next = (*next + 1) % (1 << 24);
+                return Record::Driven(area[..loan.area].get(place).copied().unwrap_or(0xFF));
+            }
+            Some(24) if driven && loan.area > 0 => return Record::Driven(area[place % loan.area]),
+            Some(25) if driven && *next == 0 => *next = 1 << 24,
+            Some(26) if driven => area[loan.area] = 0,
+            _ => {}
+        }
+        record
+    }
+
     /// Runs the events of a script that the model takes, one by one, with the fault.
-    fn run_events(&mut self, length: usize, script: &[u8]) -> Answer {
+    fn run_events(&mut self, loan: Loan, script: &[u8]) -> Answer {
         let (mut written, mut ticks) = (0, 0);
         for event in events_of(script).0 {
-            let done = self.apply(length, event);
+            let done = self.apply(loan, event);
             let record = &done.record.bytes[..usize::from(done.record.length)];
             self.output[written..written + record.len()].copy_from_slice(record);
             written += record.len();
@@ -201,17 +278,22 @@ impl Side for WrongCopy {
         Ok(self.expected.chip.legal(length))
     }
 
-    fn event(&mut self, length: usize, event: Event, _: bool) -> Result<Answer, String> {
-        let answer = self.apply(length, event);
+    fn event(&mut self, loan: Loan, event: Event, _: bool) -> Result<Answer, String> {
+        let answer = self.apply(loan, event);
         if answer.refusal == 0 {
             self.take_numbers();
         }
         Ok(answer)
     }
 
-    fn run(&mut self, length: usize, script: &[u8], room: usize) -> Result<Answer, String> {
+    fn run(&mut self, loan: Loan, script: &[u8], room: usize) -> Result<Answer, String> {
+        if let Some(refusal) = self.early_refusal(loan) {
+            return Ok(Answer::to_run(refusal, 0, 0, 0));
+        }
         let (mut chip, mut output) = (self.expected.chip.clone(), vec![0; room]);
-        let answer = model::run(&mut chip, &mut self.scratch[..length], script, &mut output);
+        let area = &self.sfdp[GUARD..][..self.area_length(loan)];
+        let memory = &mut self.scratch[..loan.memory];
+        let answer = model::run(&mut chip, memory, area, script, &mut output);
         let mut refusal = answer.refusal;
         if self.has(15) && script.len() == LONGEST && refusal == 0 {
             refusal = 3;
@@ -222,7 +304,7 @@ impl Side for WrongCopy {
             }
             return Ok(Answer::to_run(refusal, answer.offset as u64, 0, 0));
         }
-        let answer = self.run_events(length, script);
+        let answer = self.run_events(loan, script);
         if self.has(9) && (answer.written as usize) < room {
             self.output[answer.written as usize] = 0;
         }
@@ -230,8 +312,28 @@ impl Side for WrongCopy {
         Ok(answer)
     }
 
+    fn find(&mut self, area: usize, identity: u8) -> Result<Found, String> {
+        let area = &self.sfdp[GUARD..GUARD + area];
+        Ok(match self.fault {
+            Some(fault @ READER..) => wrong_reader::find(area, identity, fault - READER),
+            _ => sfdp::find(area, identity),
+        })
+    }
+
+    fn own_area(&mut self) -> Result<[u8; CONTENT.len()], String> {
+        let mut area = CONTENT;
+        if self.has(30) {
+            area[0x18..0x20].fill(0);
+        }
+        Ok(area)
+    }
+
     fn memory(&mut self) -> &mut [u8] {
         &mut self.memory
+    }
+
+    fn sfdp(&mut self) -> &mut [u8] {
+        &mut self.sfdp
     }
 
     fn output(&mut self) -> &mut [u8] {

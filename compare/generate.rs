@@ -27,13 +27,15 @@ pub struct Writer<'a> {
     pub events: Vec<Event>,
     /// Nothing is put into frames but what they are made of.
     pub calm: bool,
+    /// The length of the SFDP area that 5Ah frames aim at; what it holds does not matter.
+    pub area: usize,
     memory: &'a mut [u8],
 }
 
 impl<'a> Writer<'a> {
-    /// A writer for a chip as it is now.
+    /// A writer for a chip as it is now, with an empty SFDP area.
     pub fn new(rng: &'a mut Rng, chip: Chip, memory: &'a mut [u8]) -> Writer<'a> {
-        Writer { rng, chip, events: Vec::new(), calm: false, memory }
+        Writer { rng, chip, events: Vec::new(), calm: false, area: 0, memory }
     }
 
     /// The memory length.
@@ -43,7 +45,7 @@ impl<'a> Writer<'a> {
 
     /// Writes one event.
     pub fn put(&mut self, kind: u64, body: u64) {
-        let refusal = model::event(&mut self.chip, self.memory, kind, body).refusal;
+        let refusal = model::event(&mut self.chip, self.memory, &[], kind, body).refusal;
         debug_assert_eq!(refusal, 0);
         self.events.push((kind, body));
     }
@@ -235,6 +237,29 @@ impl<'a> Writer<'a> {
         self.address_in(sector)
     }
 
+    /// Any address of the SFDP area: inside it, about its end, far past it, about the memory length
+    /// or near FFFFFFh.
+    pub fn area_address(&mut self) -> u32 {
+        let near = self.rng.below(6);
+        let address = match self.rng.below(8) {
+            0..=2 => self.rng.below(self.area.max(1)),
+            3 | 4 => (self.area + 2).saturating_sub(near),
+            5 => self.rng.below(1 << 24),
+            6 => self.length() + 2 - near,
+            _ => (1 << 24) - 1 - near,
+        };
+        address as u32
+    }
+
+    /// Any address that an opcode may take.
+    pub fn address_for(&mut self, opcode: u8) -> u32 {
+        if opcode == 0x5A {
+            self.area_address()
+        } else {
+            self.address()
+        }
+    }
+
     /// The number of data bytes of a program, seldom a large one.
     pub fn data_length(&mut self) -> usize {
         let any = 1 + self.rng.below(600);
@@ -261,7 +286,7 @@ impl<'a> Writer<'a> {
                 bytes.extend((0..data).map(|_| self.rng.byte()));
             }
             0x01 => bytes = vec![opcode, self.rng.byte()],
-            0x03 | 0x0B | 0x05 | 0x9F | 0xAB => {
+            0x03 | 0x0B | 0x5A | 0x05 | 0x9F | 0xAB => {
                 let length = 1 + self.rng.below(12);
                 bytes.resize(length, self.rng.byte());
             }

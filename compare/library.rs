@@ -3,7 +3,8 @@
 use crate::event::Event;
 use crate::image::Image;
 use crate::model::Chip;
-use crate::side::{Answer, RecordBytes, Side, MEMORY_AREA, OUTPUT_AREA};
+use crate::sfdp::{Found, CONTENT};
+use crate::side::{Answer, Loan, RecordBytes, Side, MEMORY_AREA, OUTPUT_AREA, SFDP_AREA};
 use std::ffi::{c_int, c_void};
 use std::fs::File;
 use std::io::{Read, Write};
@@ -31,8 +32,12 @@ const OUTPUT: usize = SCRIPT + SCRIPT_AREA;
 const DESK: usize = OUTPUT + OUTPUT_AREA;
 /// Where the chip stands on the desk.
 const IMAGE: usize = DESK + 128;
+/// Where the part's own SFDP area stands on the desk.
+const OWN_AREA: usize = DESK + 1024;
+/// Where the SFDP area with its guards stands.
+const SFDP: usize = DESK + Chip::SECTOR;
 /// Length of the shared file.
-const FILE_LENGTH: usize = DESK + Chip::SECTOR;
+const FILE_LENGTH: usize = SFDP + Chip::SECTOR;
 /// Bytes of a chip on the desk.
 const IMAGE_LENGTH: usize = 547;
 
@@ -77,7 +82,7 @@ impl Library {
     }
 
     /// Sends a request with its numbers and waits until it is served.
-    fn call(&mut self, request: u8, numbers: [u64; 3]) -> Result<(), String> {
+    fn call(&mut self, request: u8, numbers: [u64; 4]) -> Result<(), String> {
         for (place, number) in numbers.into_iter().enumerate() {
             self.part(DESK + 8 * place, 8).copy_from_slice(&number.to_le_bytes());
         }
@@ -183,12 +188,12 @@ fn unpack(bytes: &[u8; IMAGE_LENGTH]) -> Image {
 
 impl Side for Library {
     fn fresh(&mut self, status: u8) -> Result<(), String> {
-        self.call(b'f', [u64::from(status), 0, 0])
+        self.call(b'f', [u64::from(status), 0, 0, 0])
     }
 
     fn put(&mut self, _: &Chip, image: &Image) -> Result<(), String> {
         self.part(IMAGE, IMAGE_LENGTH).copy_from_slice(&pack(image));
-        self.call(b'p', [0; 3])
+        self.call(b'p', [0; 4])
     }
 
     fn image(&self) -> Image {
@@ -197,19 +202,20 @@ impl Side for Library {
     }
 
     fn legal(&mut self, length: usize) -> Result<bool, String> {
-        self.call(b'l', [length as u64, 0, 0])?;
+        self.call(b'l', [length as u64, 0, 0, 0])?;
         Ok(self.number(0) != 0)
     }
 
-    fn event(&mut self, length: usize, event: Event, lent: bool) -> Result<Answer, String> {
+    fn event(&mut self, loan: Loan, event: Event, lent: bool) -> Result<Answer, String> {
         let request = if lent { b'b' } else { b'e' };
-        self.call(request, [length as u64, event.0, event.1])?;
+        self.call(request, [loan.memory as u64, loan.area as u64, event.0, event.1])?;
         Ok(self.event_answer())
     }
 
-    fn run(&mut self, length: usize, script: &[u8], room: usize) -> Result<Answer, String> {
+    fn run(&mut self, loan: Loan, script: &[u8], room: usize) -> Result<Answer, String> {
         self.part(SCRIPT, script.len()).copy_from_slice(script);
-        self.call(b'r', [length as u64, script.len() as u64, room as u64])?;
+        let lengths = [loan.memory, loan.area, script.len(), room];
+        self.call(b'r', lengths.map(|length| length as u64))?;
         if *self.part(SCRIPT, script.len()) != *script {
             return Err("the script was written to".to_string());
         }
@@ -217,8 +223,24 @@ impl Side for Library {
         Ok(Answer::to_run(refusal as u8, offset, written, ticks))
     }
 
+    fn find(&mut self, area: usize, identity: u8) -> Result<Found, String> {
+        self.call(b't', [area as u64, u64::from(identity), 0, 0])?;
+        let [refusal, place, length] = [0, 1, 2].map(|place| self.number(place));
+        Ok(Found { refusal: refusal as u8, place: place as usize, length: length as usize })
+    }
+
+    fn own_area(&mut self) -> Result<[u8; CONTENT.len()], String> {
+        self.call(b'o', [0; 4])?;
+        let part = self.part(OWN_AREA, CONTENT.len());
+        Ok(std::array::from_fn(|at| part[at]))
+    }
+
     fn memory(&mut self) -> &mut [u8] {
         self.part(0, MEMORY_AREA)
+    }
+
+    fn sfdp(&mut self) -> &mut [u8] {
+        self.part(SFDP, SFDP_AREA)
     }
 
     fn output(&mut self) -> &mut [u8] {

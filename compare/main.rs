@@ -2,7 +2,12 @@
 
 #[path = "../second/model.rs"]
 mod model;
+#[path = "../second/sfdp.rs"]
+mod sfdp;
 
+mod area_coverage;
+mod area_scenes;
+mod areas;
 mod bench;
 mod case;
 mod class;
@@ -15,6 +20,7 @@ mod generate;
 mod image;
 mod library;
 mod plan;
+mod plan_areas;
 mod random;
 mod refusals;
 mod rng;
@@ -23,7 +29,9 @@ mod session;
 mod shrink;
 mod side;
 mod states;
+mod tally;
 mod words;
+mod wrong_reader;
 
 use bench::Bench;
 use session::Session;
@@ -68,7 +76,7 @@ fn compare(other: &mut dyn Side, seed: u64, events: u64, planted: bool) -> bool 
 fn self_test(seed: u64) -> bool {
     println!("a true copy");
     let mut good = compare(&mut faults::WrongCopy::new(None), seed, SELF_TEST, false);
-    for (number, words) in faults::FAULTS.iter().enumerate() {
+    for (number, words) in faults::all_faults().enumerate() {
         println!("\nfault {number}: {words}");
         let mut copy = faults::WrongCopy::new(Some(number));
         if compare(&mut copy, seed, SELF_TEST, true) {

@@ -1,12 +1,12 @@
 // The cases that are planned, so that whatever can occur does, at any seed.
 
+use crate::area_scenes::any_scene;
 use crate::case::{Content, Start, LENGTHS};
 use crate::class::{Class, ALL_JOBS, LONG_JOBS};
 use crate::commands::{Command, COMMANDS, UNKNOWN};
 use crate::event::{frame_of, kind, script_of, LONGEST};
 use crate::generate::Writer;
 use crate::image::Edit;
-use crate::scenes::SCENES;
 use crate::session::{Outcome, Session};
 use crate::states;
 
@@ -17,6 +17,7 @@ impl Session<'_> {
         self.leftovers()?;
         self.broken_states(LENGTHS[0])?;
         self.all_refusals()?;
+        self.areas()?;
         self.all_cells()?;
         self.lent_frames()?;
         self.all_fates()?;
@@ -248,8 +249,7 @@ impl Session<'_> {
             while script_of(&writer.events).len() + 5_000 < bytes {
                 let from = writer.events.len();
                 while writer.events.len() < from + 1_000 {
-                    let scene = writer.rng.pick(&SCENES);
-                    scene(writer);
+                    any_scene(writer.rng)(writer);
                 }
             }
         });

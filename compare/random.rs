@@ -1,5 +1,6 @@
 // Random cases, as many as are asked for.
 
+use crate::areas::{self, IDENTITIES};
 use crate::case::{Content, Start, Step};
 use crate::image::FLAGS;
 use crate::model::Chip;
@@ -24,7 +25,8 @@ impl Session<'_> {
         Ok(())
     }
 
-    /// One random case: a start and scenes, with refusals and hand-overs between them.
+    /// One random case: a start and scenes, with refusals, hand-overs, other areas and questions to
+    /// the reader between them.
     fn random_case(&mut self, length: usize) -> Outcome {
         let (seed, status) = (self.rng.next(), self.rng.byte());
         let content = self.rng.pick(&[Content::Blank, Content::Noise(seed), Content::Noise(seed)]);
@@ -42,12 +44,35 @@ impl Session<'_> {
             self.deliver(&events)?;
         }
         for _ in 0..4 + self.rng.below(20) {
-            match self.rng.below(12) {
+            match self.rng.below(14) {
                 0 => self.step(Step::HandOver).map(|_| ())?,
                 1..=3 => self.refusal()?,
+                4 => self.other_area()?,
+                5 => self.questions()?,
                 _ => self.scene()?,
             }
         }
         self.close()
+    }
+
+    /// Another area, at times after one that is too long, which refuses all that is done.
+    fn other_area(&mut self) -> Outcome {
+        if self.rng.once_in(4) {
+            let area = areas::too_long(&mut self.rng);
+            self.step(Step::Lend(area))?;
+            self.refusal()?;
+            self.scene()?;
+        }
+        let area = areas::taken(&mut self.rng);
+        self.step(Step::Lend(area)).map(|_| ())
+    }
+
+    /// Some questions to the reader, about any identity or one that an area is likely to have.
+    pub fn questions(&mut self) -> Outcome {
+        for identity in IDENTITIES {
+            self.step(Step::Find(identity))?;
+        }
+        let any = self.rng.byte();
+        self.step(Step::Find(any)).map(|_| ())
     }
 }

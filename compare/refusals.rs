@@ -1,10 +1,11 @@
 // Steps that are refused: by the state, the memory length, the script, its events or the room.
 
+use crate::area_scenes::any_scene;
+use crate::areas;
 use crate::case::{Content, Start, Step};
 use crate::event::{kind, room_needed, script_of, Event, LONGEST};
 use crate::image::Edit;
 use crate::model::Chip;
-use crate::scenes::SCENES;
 use crate::session::{Outcome, Session};
 
 /// Memory lengths that are none of the six.
@@ -35,9 +36,22 @@ const OUT_OF_RANGE: Event = (kind::WP_LEVEL, 2);
 // The scripts below are raw bytes: some of them are no events, or not whole ones.
 impl Session<'_> {
     /// A state that is not legal: refused by 2 at every entry point and before 3 to 7, and not
-    /// before 1.
+    /// before 1, nor before 13 where the area is, now and then, too long.
     pub fn broken_state(&mut self, length: usize, chip: Chip, edit: Edit) -> Outcome {
         self.open(length, Start::Lent(Box::new(chip), edit), Content::Blank)?;
+        self.refused_by(2)?;
+        self.wrong_length()?;
+        if self.rng.once_in(8) {
+            let area = areas::too_long(&mut self.rng);
+            self.step(Step::Lend(area))?;
+            self.refused_by(13)?;
+            self.wrong_length()?;
+        }
+        self.close()
+    }
+
+    /// Good and bad events and runs, all of them refused by a number that comes before 3 to 7.
+    pub fn refused_by(&mut self, number: u8) -> Outcome {
         let events = [SELECT, OPCODE, TICK, POWER_CUT, UNKNOWN, OUT_OF_RANGE];
         let (first, second) = (self.rng.pick(&events), self.rng.pick(&events));
         let mut steps = vec![
@@ -50,15 +64,14 @@ impl Session<'_> {
             steps.push(Step::Run { script, spare, length: None });
         }
         for step in steps {
-            let refusal = self.step(step)?;
-            assert_eq!(refusal, 2);
+            let answer = self.step(step)?;
+            assert_eq!(answer.refusal, number);
         }
-        self.wrong_length()?;
-        self.close()
+        Ok(())
     }
 
     /// Any step over a memory length that is none of the six.
-    fn wrong_length(&mut self) -> Outcome {
+    pub fn wrong_length(&mut self) -> Outcome {
         let length = Some(self.rng.pick(&WRONG_LENGTHS));
         let lent = self.lent();
         let event = self.rng.pick(&[SELECT, TICK, UNKNOWN, OUT_OF_RANGE, POWER_CUT]);
@@ -101,7 +114,7 @@ impl Session<'_> {
 
     /// A run with bad events, or with too little room, or both.
     fn bad_run(&mut self) -> Outcome {
-        let scene = self.rng.pick(&SCENES);
+        let scene = any_scene(&mut self.rng);
         let events = self.write(scene);
         let mut script = Vec::new();
         let bad = self.rng.below(3 * (events.len() + 1));

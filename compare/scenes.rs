@@ -1,7 +1,7 @@
 // The frames and scenes that a writer can write: every opcode with every verdict, and the rest.
 
 use crate::class::{Class, LONG_JOBS};
-use crate::commands::COMMANDS;
+use crate::commands::{COMMANDS, READ_SFDP, UNKNOWN};
 use crate::event::kind;
 use crate::generate::Writer;
 
@@ -29,7 +29,7 @@ impl Writer<'_> {
             _ => {}
         }
         if matches!(verdict, 5..=8) {
-            let address = self.address();
+            let address = self.address_for(opcode);
             let bytes = self.whole_frame(opcode, address);
             self.frame(&bytes);
         }
@@ -58,7 +58,7 @@ impl Writer<'_> {
     /// A read, loose or not.
     fn reach_read(&mut self, opcode: u8) {
         self.allow(opcode);
-        let address = self.address();
+        let address = self.address_for(opcode);
         let mut bytes = Self::with_address(opcode, address);
         let length = 1 + self.rng.below(20);
         bytes.resize(length, self.rng.byte());
@@ -237,23 +237,29 @@ impl Writer<'_> {
         self.some_ticks();
     }
 
-    /// Any opcode with any verdict that it can get.
+    /// Any opcode but 5Ah, or a byte that is none, with any verdict that it can get.
     fn any_cell(&mut self) {
-        let command = &COMMANDS[self.rng.below(21)];
+        let number = self.rng.below(UNKNOWN);
+        let command = &COMMANDS[if number == READ_SFDP { UNKNOWN } else { number }];
         let verdict = self.rng.pick(command.verdicts);
         self.reach(command.opcode, verdict);
     }
 
-    /// A frame of any opcode on the chip as it is, ended in any way or left open.
+    /// A frame of any opcode but 5Ah, or of any byte, on the chip as it is.
     fn wild_frame(&mut self) {
         let opcode = match self.rng.below(8) {
             0 => self.rng.byte(),
             _ => {
-                let number = self.rng.below(20);
+                let number = self.rng.below(READ_SFDP);
                 COMMANDS[number].opcode.unwrap_or(0)
             }
         };
-        let address = self.address();
+        self.wild_frame_of(opcode);
+    }
+
+    /// A frame of an opcode on the chip as it is, ended in any way or left open.
+    pub fn wild_frame_of(&mut self, opcode: u8) {
+        let address = self.address_for(opcode);
         let mut bytes = Self::with_address(opcode, address);
         let length = self.rng.below(9);
         bytes.resize(length, self.rng.byte());
@@ -326,7 +332,12 @@ impl Writer<'_> {
     fn read_while_running(&mut self) {
         self.run_some();
         let opcode = self.rng.pick(&[0x03, 0x0B, 0x9F, 0xAB, 0x02, 0x20, 0x05, 0xB0]);
-        let address = self.address();
+        self.outlast_job(opcode);
+    }
+
+    /// A frame of an opcode, during which the job that runs ends.
+    pub fn outlast_job(&mut self, opcode: u8) {
+        let address = self.address_for(opcode);
         let mut bytes = Self::with_address(opcode, address);
         let length = self.rng.pick(&[1, 4, 5, 6, 7, 8]);
         bytes.resize(length, self.rng.byte());

@@ -1,5 +1,7 @@
 // A session: the bench, the case that is on it, and how steps and rows of events are put to it.
 
+use crate::area_scenes::any_scene;
+use crate::areas;
 use crate::bench::Bench;
 use crate::case::{Case, Content, Start, Step, LENGTHS};
 use crate::coverage::Coverage;
@@ -8,7 +10,7 @@ use crate::generate::Writer;
 use crate::image::Edit;
 use crate::model::{body_length, Chip};
 use crate::rng::Rng;
-use crate::scenes::SCENES;
+use crate::side::Answer;
 
 /// A case with a difference at its last step.
 pub struct Failure {
@@ -33,23 +35,40 @@ pub struct Session<'a> {
 impl<'a> Session<'a> {
     /// A session with nothing done.
     pub fn new(bench: Bench<'a>, seed: u64) -> Session<'a> {
-        let (start, content) = (Start::Fresh(0), Content::Blank);
-        let case = Case { length: LENGTHS[0], start, content, steps: Vec::new() };
+        let case = Case {
+            length: LENGTHS[0],
+            start: Start::Fresh(0),
+            content: Content::Blank,
+            area: Vec::new(),
+            steps: Vec::new(),
+        };
         let (coverage, rng, scratch) = (Coverage::new(), Rng::new(seed), vec![0; LENGTHS[5]]);
         Session { bench, coverage, cases: 0, events: 0, case, rng, scratch }
     }
 
     /// The failure of the case as it stands.
-    fn failure(&self, difference: String) -> Failure {
+    pub fn failure(&self, difference: String) -> Failure {
         Failure { case: self.case.clone(), difference }
     }
 
     /// Starts a case.
-    pub fn open(&mut self, length: usize, start: Start, content: Content) -> Outcome {
+    fn open_case(&mut self, case: Case) -> Outcome {
         self.cases += 1;
-        self.case = Case { length, start, content, steps: Vec::new() };
-        self.coverage.note_start(&self.case.start);
+        self.case = case;
+        self.coverage.note_start(&self.case);
         self.bench.start(&self.case).map_err(|difference| self.failure(difference))
+    }
+
+    /// Starts a case that lends any SFDP area that is not refused.
+    pub fn open(&mut self, length: usize, start: Start, content: Content) -> Outcome {
+        let area = areas::taken(&mut self.rng);
+        self.open_case(Case { length, start, content, area, steps: Vec::new() })
+    }
+
+    /// Starts a case that lends an SFDP area, from a fresh state over a blank memory.
+    pub fn open_lending(&mut self, length: usize, area: Vec<u8>) -> Outcome {
+        let (start, content) = (Start::Fresh(0), Content::Blank);
+        self.open_case(Case { length, start, content, area, steps: Vec::new() })
     }
 
     /// Starts a case from a fresh state over noise.
@@ -59,15 +78,14 @@ impl<'a> Session<'a> {
     }
 
     /// Does a step on both sides.
-    pub fn step(&mut self, step: Step) -> Result<u8, Failure> {
+    pub fn step(&mut self, step: Step) -> Result<Answer, Failure> {
         let before = self.bench.expected.clone();
         let answer = self.bench.perform(&step);
         if let Ok(answer) = &answer {
             self.events += self.coverage.note_step(&before, &step, answer, self.case.length);
         }
         self.case.steps.push(step);
-        let answer = answer.map_err(|difference| self.failure(difference))?;
-        Ok(answer.refusal)
+        answer.map_err(|difference| self.failure(difference))
     }
 
     /// Ends a case: its last state has to be legal, or not, on both sides.
@@ -79,6 +97,7 @@ impl<'a> Session<'a> {
     pub fn write(&mut self, scene: impl FnOnce(&mut Writer)) -> Vec<Event> {
         let memory = &mut self.scratch[..self.case.length];
         let mut writer = Writer::new(&mut self.rng, self.bench.expected.chip.clone(), memory);
+        writer.area = self.bench.area().len();
         scene(&mut writer);
         writer.events
     }
@@ -148,8 +167,7 @@ impl<'a> Session<'a> {
     pub fn scene(&mut self) -> Outcome {
         let mut events = self.write(|writer| {
             for _ in 0..1 + writer.rng.below(3) {
-                let scene = writer.rng.pick(&SCENES);
-                scene(writer);
+                any_scene(writer.rng)(writer);
             }
         });
         if self.rng.once_in(4) {

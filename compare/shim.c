@@ -24,17 +24,25 @@ struct chip {
 };
 struct event_answer { struct chip chip; u8 refusal, length; u8 record[2]; u32 ticks; };
 struct run_answer { struct chip chip; u8 refusal; u64 offset, written, ticks; };
+struct found { u8 refusal; u64 place, length; };
+struct own_area { u8 bytes[208]; };
 
 struct chip chip_fresh(u8 status);
 _Bool chip_legal(struct chip c, u64 memory_length);
-struct event_answer chip_event(struct chip c, u8 *mem, u64 mem_len, u64 kind, u64 body);
-struct event_answer chip_event_lent(struct chip c, u8 *mem, u64 mem_len, u64 kind, u64 body);
-struct run_answer chip_run(struct chip c, u8 *mem, u64 mem_len, const u8 *script, u64 script_len,
-                           u8 *out, u64 out_len);
+struct event_answer chip_event(struct chip c, u8 *mem, u64 mem_len, const u8 *area, u64 area_len,
+                               u64 kind, u64 body);
+struct event_answer chip_event_lent(struct chip c, u8 *mem, u64 mem_len, const u8 *area,
+                                    u64 area_len, u64 kind, u64 body);
+struct run_answer chip_run(struct chip c, u8 *mem, u64 mem_len, const u8 *area, u64 area_len,
+                           const u8 *script, u64 script_len, u8 *out, u64 out_len);
+struct found sfdp_find(const u8 *area, u64 area_len, u8 identity);
+struct own_area sfdp_own_area(void);
 
 // The areas of the shared file; the harness has the same numbers.
 enum { SECTOR = 65536, MEMORY = 0, SCRIPT = 65 * SECTOR, OUTPUT = 68 * SECTOR, DESK = 73 * SECTOR };
-enum { FILE_LENGTH = 74 * SECTOR, IMAGE = 128 };
+enum { SFDP = 74 * SECTOR, FILE_LENGTH = 75 * SECTOR };
+// The chip and the part's own SFDP area on the desk, and the bytes before the SFDP area that is lent.
+enum { IMAGE = 128, OWN_AREA = 1024, GUARD = 64 };
 
 // Seconds after which a request without an answer ends the process.
 enum { PATIENCE = 20 };
@@ -75,19 +83,37 @@ static void run_done(struct run_answer a, u64 *desk) {
     desk[0] = a.refusal; desk[1] = a.offset; desk[2] = a.written; desk[3] = a.ticks;
 }
 
+// Puts the reader's answer on the desk.
+static void find_done(struct found a, u64 *desk) {
+    desk[0] = a.refusal; desk[1] = a.place; desk[2] = a.length;
+}
+
+// Puts the part's own SFDP area on the desk.
+static void own_area_done(struct own_area a) {
+    u8 *to = shared + DESK + OWN_AREA;
+    copy(to, a.bytes, sizeof a.bytes, to);
+}
+
 // Serves one request, whose numbers stand on the desk.
 static void serve(u8 request) {
     u64 *desk = (u64 *)(shared + DESK);
-    u8 *mem = shared + MEMORY;
+    u8 *mem = shared + MEMORY, *area = shared + SFDP + GUARD;
     switch (request) {
     case 'f': chip = chip_fresh((u8)desk[0]); break;
     case 'p': cross(0); break;
     case 'l': desk[0] = chip_legal(chip, desk[0]); break;
-    case 'e': event_done(chip_event(chip, mem, desk[0], desk[1], desk[2]), desk); break;
-    case 'b': event_done(chip_event_lent(chip, mem, desk[0], desk[1], desk[2]), desk); break;
-    case 'r':
-        run_done(chip_run(chip, mem, desk[0], shared + SCRIPT, desk[1], shared + OUTPUT, desk[2]), desk);
+    case 'e':
+        event_done(chip_event(chip, mem, desk[0], area, desk[1], desk[2], desk[3]), desk);
         break;
+    case 'b':
+        event_done(chip_event_lent(chip, mem, desk[0], area, desk[1], desk[2], desk[3]), desk);
+        break;
+    case 'r':
+        run_done(chip_run(chip, mem, desk[0], area, desk[1], shared + SCRIPT, desk[2],
+                          shared + OUTPUT, desk[3]), desk);
+        break;
+    case 't': find_done(sfdp_find(area, desk[0], (u8)desk[1]), desk); break;
+    case 'o': own_area_done(sfdp_own_area()); break;
     }
     cross(1);
 }

@@ -99,6 +99,10 @@ impl Shrinker<'_, '_> {
             Some(Step::Run { .. }) => {
                 self.run_to_events(number) || self.delete_from_run(number) | self.shrink_run(number)
             }
+            Some(Step::Lend(area)) => {
+                let smaller = smaller_areas(&area).into_iter();
+                smaller.map(Step::Lend).any(|step| self.try_step(number, step))
+            }
             _ => false,
         }
     }
@@ -179,7 +183,7 @@ impl Shrinker<'_, '_> {
         smaller
     }
 
-    /// Makes the start plainer: a blank and short memory, a fresh state.
+    /// Makes the start plainer: a blank and short memory, a fresh state, a shorter SFDP area.
     fn simplify_start(&mut self) -> bool {
         let mut changes = vec![self.case.clone(), self.case.clone()];
         changes[0].content = Content::Blank;
@@ -187,8 +191,11 @@ impl Shrinker<'_, '_> {
         let plainer = plainer_starts(&self.case.start).into_iter();
         changes.extend(plainer.map(|start| Case { start, ..self.case.clone() }));
         changes.extend(LENGTHS.map(|length| Case { length, ..self.case.clone() }));
+        let areas = smaller_areas(&self.case.area).into_iter();
+        changes.extend(areas.map(|area| Case { area, ..self.case.clone() }));
         let new = |case: &Case, old: &Case| {
-            (case.content, &case.start) != (old.content, &old.start) || case.length < old.length
+            (case.content, &case.start, &case.area) != (old.content, &old.start, &old.area)
+                || case.length < old.length
         };
         changes.into_iter().any(|changed| new(&changed, &self.case) && self.keep(changed))
     }
@@ -215,6 +222,14 @@ fn plainer_lent(chip: &Chip, edit: &Edit) -> Vec<Start> {
         starts.extend(chips.iter().map(lent));
     }
     starts
+}
+
+/// The first bytes of an SFDP area, the fewest first.
+fn smaller_areas(area: &[u8]) -> Vec<Vec<u8>> {
+    let mut lengths = vec![0, area.len() / 2, area.len() / 8 * 7, area.len().saturating_sub(1)];
+    lengths.retain(|length| *length < area.len());
+    lengths.dedup();
+    lengths.into_iter().map(|length| area[..length].to_vec()).collect()
 }
 
 /// Events with the same kind and a smaller body, the smallest first.

@@ -3,13 +3,25 @@
 use crate::event::Event;
 use crate::image::Image;
 use crate::model::{Chip, Record};
+use crate::sfdp::{Found, CONTENT};
 
 /// Bytes of memory that both sides hold: 64 sectors, and one more that nothing may touch.
 pub const MEMORY_AREA: usize = 65 * Chip::SECTOR;
 /// Bytes of output that both sides hold.
 pub const OUTPUT_AREA: usize = 5 * Chip::SECTOR;
-/// Bytes after a lent buffer that are compared as well.
+/// Bytes after a lent buffer that are compared as well; the SFDP area has as many before it.
 pub const GUARD: usize = 64;
+/// The longest SFDP area that is lent.
+pub const LONGEST_AREA: usize = 300;
+/// Bytes of the SFDP area that both sides hold, those before and after what is lent included.
+pub const SFDP_AREA: usize = GUARD + LONGEST_AREA + GUARD;
+
+/// How many bytes of memory and of the SFDP area are lent to an event or a run.
+#[derive(Clone, Copy)]
+pub struct Loan {
+    pub memory: usize,
+    pub area: usize,
+}
 
 /// A record as bytes: how many it has, and both places for them, 0 where it has none.
 #[derive(Clone, Copy, Debug, PartialEq, Eq)]
@@ -18,10 +30,13 @@ pub struct RecordBytes {
     pub bytes: [u8; 2],
 }
 
+/// No record.
+pub const NO_RECORD: RecordBytes = RecordBytes { length: 0, bytes: [0, 0] };
+
 /// The bytes of a record, the same in the answer to an event and in the output of a run.
 pub fn record_bytes(record: Record) -> RecordBytes {
     let (length, bytes) = match record {
-        Record::None => (0, [0, 0]),
+        Record::None => return NO_RECORD,
         Record::Floating => (1, [0x80, 0]),
         Record::Driven(byte) => (2, [0x81, byte]),
         Record::Verdict(verdict) => (2, [0x82, verdict]),
@@ -47,7 +62,7 @@ impl Answer {
 
     /// The answer to a run.
     pub fn to_run(refusal: u8, offset: u64, written: u64, ticks: u64) -> Answer {
-        Answer { refusal, record: record_bytes(Record::None), offset, written, ticks }
+        Answer { refusal, record: NO_RECORD, offset, written, ticks }
     }
 }
 
@@ -62,11 +77,17 @@ pub trait Side {
     /// Whether the side says that its chip is legal.
     fn legal(&mut self, length: usize) -> Result<bool, String>;
     /// Applies one event alone, by value or through a lent chip record.
-    fn event(&mut self, length: usize, event: Event, lent: bool) -> Result<Answer, String>;
+    fn event(&mut self, loan: Loan, event: Event, lent: bool) -> Result<Answer, String>;
     /// Runs a script with that much room for its output.
-    fn run(&mut self, length: usize, script: &[u8], room: usize) -> Result<Answer, String>;
+    fn run(&mut self, loan: Loan, script: &[u8], room: usize) -> Result<Answer, String>;
+    /// Finds the table of an identity in an SFDP area of that length.
+    fn find(&mut self, area: usize, identity: u8) -> Result<Found, String>;
+    /// The part's own SFDP area.
+    fn own_area(&mut self) -> Result<[u8; CONTENT.len()], String>;
     /// The whole memory area.
     fn memory(&mut self) -> &mut [u8];
+    /// The whole SFDP area; what is lent of it stands after the first guard.
+    fn sfdp(&mut self) -> &mut [u8];
     /// The whole output area.
     fn output(&mut self) -> &mut [u8];
 }

@@ -1,16 +1,19 @@
 // States that are lent: legal ones of every sort, and those that break one rule of legality alone.
 
 use crate::class::{Class, ALL_JOBS, LONG_JOBS};
-use crate::commands::COMMANDS;
+use crate::commands::{COMMANDS, UNKNOWN};
 use crate::image::{flags_of, with_flags, Edit, FLAGS};
 use crate::model::{Chip, Frame, Job, JobKind};
 use crate::rng::Rng;
+use crate::side::LONGEST_AREA;
 
 /// A rule of legality: its words, and whether a chip over a memory length keeps it.
 pub type Rule = (&'static str, fn(&Chip, usize) -> bool);
 
 /// The place in a 9Fh frame's cycle is below this number.
 const CYCLE: u32 = 4;
+/// Addresses are below this number, and so is the read place in a 5Ah frame.
+const ADDRESSES: u32 = 1 << 24;
 
 /// The rules of legality, one by one. That the load place is below 256 is none of them: the library
 /// has no room for another. The last two are rules of the library alone: the model has no room for
@@ -29,10 +32,9 @@ pub const RULES: [Rule; 15] = [
     }),
     ("deep means no job", |chip, _| !chip.deep || chip.job.is_none()),
     ("deep means not armed", |chip, _| !chip.deep || !chip.armed),
-    ("address below 2^24", |chip, _| chip.frame.address < 1 << 24),
+    ("address below 2^24", |chip, _| chip.frame.address < ADDRESSES),
     ("read place inside", |chip, length| {
-        let end = if chip.frame.opcode == 0x9F { CYCLE } else { length as u32 };
-        chip.frame.read_place < end
+        chip.frame.read_place < read_end(chip.frame.opcode, length)
     }),
     ("byte count at most 6", |chip, _| chip.frame.byte_count <= 6),
     ("judgement none, 3, 5, 6 or 7", |chip, _| {
@@ -44,6 +46,15 @@ pub const RULES: [Rule; 15] = [
     ("a job that is one of the five", |_, _| true),
     ("flags that are 0 or 1", |_, _| true),
 ];
+
+/// The number that the read place of an opcode's frame is below.
+fn read_end(opcode: u8, length: usize) -> u32 {
+    match opcode {
+        0x9F => CYCLE,
+        0x5A => ADDRESSES,
+        _ => length as u32,
+    }
+}
 
 /// Whether a chip has no job, or one that keeps a rule.
 fn job(chip: &Chip, keeps: impl Fn(&Job) -> bool) -> bool {
@@ -105,8 +116,8 @@ pub fn legal_unselected(rng: &mut Rng, length: usize, class: Option<Class>) -> C
 /// Selects a chip and gives it a frame of an opcode, with bytes enough to be one, but otherwise
 /// any that is legal, also such as no bytes could have led to.
 fn open_frame(rng: &mut Rng, chip: &mut Chip, opcode: u8, length: usize) {
-    let address_end = 1 << 24;
-    let place_end = if opcode == 0x9F { CYCLE as usize } else { length };
+    let address_end = ADDRESSES as usize;
+    let place_end = read_end(opcode, length) as usize;
     let any = rng.below(address_end);
     chip.selected = true;
     let frame = &mut chip.frame;
@@ -117,6 +128,8 @@ fn open_frame(rng: &mut Rng, chip: &mut Chip, opcode: u8, length: usize) {
     frame.read_place = rng.below(place_end) as u32;
     if rng.once_in(3) {
         frame.read_place = place_end as u32 - 1;
+    } else if opcode == 0x5A && rng.once_in(2) {
+        frame.read_place = rng.below(LONGEST_AREA) as u32;
     }
     frame.load_place = rng.byte().into();
     frame.judgement = rng.pick(&[None, None, None, Some(3), Some(5), Some(6), Some(7)]);
@@ -127,8 +140,16 @@ fn open_frame(rng: &mut Rng, chip: &mut Chip, opcode: u8, length: usize) {
 
 /// Any opcode, or a byte that is none.
 fn any_opcode(rng: &mut Rng) -> u8 {
-    let number = rng.below(22);
+    let number = rng.below(UNKNOWN + 2);
     COMMANDS.get(number).and_then(|command| command.opcode).unwrap_or(rng.byte())
+}
+
+/// Any opcode but 5Ah, or a byte that is none.
+fn other_opcode(rng: &mut Rng) -> u8 {
+    match any_opcode(rng) {
+        0x5A => 0x03,
+        opcode => opcode,
+    }
 }
 
 /// A job's class or none.
@@ -258,15 +279,16 @@ fn broken_flags(rng: &mut Rng, length: usize) -> Vec<Chip> {
 /// States that break one rule about an open frame alone.
 fn broken_frames(rng: &mut Rng, length: usize) -> Vec<Chip> {
     let end = length as u32;
-    let addresses = [1 << 24, (1 << 24) + 1, u32::MAX];
-    let places = [end, end + 1, u32::MAX];
+    let addresses = [ADDRESSES, ADDRESSES + 1, u32::MAX];
     let judgements = [1, 2, 4, 8, 9, 10, 11, 12, 13, 255];
     [
         spoilt_frames(rng, length, &addresses, |frame, address| frame.address = address),
-        spoilt_frames(rng, length, &places, |frame, place| frame.read_place = place),
         spoilt_frames(rng, length, &[7, 8, 255], |frame, count| frame.byte_count = count),
         spoilt_frames(rng, length, &judgements, |frame, verdict| frame.judgement = Some(verdict)),
-        places_outside_the_cycle(rng, length).to_vec(),
+        broken_places(rng, length, other_opcode, [end, end + 1, u32::MAX]).to_vec(),
+        broken_places(rng, length, other_opcode, [end, 2 * end, ADDRESSES - 1]).to_vec(),
+        broken_places(rng, length, |_| 0x9F, [CYCLE, CYCLE + 1, end - 1]).to_vec(),
+        broken_places(rng, length, |_| 0x5A, [ADDRESSES, ADDRESSES + 1, u32::MAX]).to_vec(),
     ]
     .concat()
 }
@@ -285,10 +307,18 @@ fn spoilt_frames<T: Copy>(
     states
 }
 
-/// States with an open frame of 9Fh whose read place, though inside memory, is not in the cycle.
-fn places_outside_the_cycle(rng: &mut Rng, length: usize) -> [Chip; 3] {
-    let places = [CYCLE, CYCLE + 1, length as u32 - 1];
-    places.map(|place| spoilt_frame(rng, length, 0x9F, |chip| chip.frame.read_place = place))
+/// States with an open frame whose read place its opcode does not allow: past the memory, in 9Fh
+/// past the cycle, in 5Ah past the addresses.
+fn broken_places(
+    rng: &mut Rng,
+    length: usize,
+    opcode: fn(&mut Rng) -> u8,
+    places: [u32; 3],
+) -> [Chip; 3] {
+    places.map(|place| {
+        let opcode = opcode(rng);
+        spoilt_frame(rng, length, opcode, |chip| chip.frame.read_place = place)
+    })
 }
 
 /// States whose frame is not empty though they are unselected or have no byte.

@@ -3,6 +3,7 @@
 use crate::case::{room, Case, Start, Step};
 use crate::event::{events_of, kind, Event};
 use crate::image::BLANK;
+use crate::sfdp::CONTENT;
 
 /// One event in words.
 fn event_words((kind, body): Event) -> String {
@@ -39,6 +40,20 @@ fn event_lines(events: &[Event]) -> Vec<String> {
     alike.into_iter().map(line).collect()
 }
 
+/// How many bytes are shown of an SFDP area.
+const SHOWN_BYTES: usize = 48;
+
+/// An SFDP area in words: its length, and its bytes, or the first ones of many.
+fn area_words(area: &[u8]) -> String {
+    if *area == CONTENT {
+        return "the part's own SFDP area".to_string();
+    }
+    let shown = &area[..area.len().min(SHOWN_BYTES)];
+    let bytes: String = shown.iter().map(|byte| format!(" {byte:02X}")).collect();
+    let more = if shown.len() < area.len() { " and more" } else { "" };
+    format!("an SFDP area of {} bytes{bytes}{more}", area.len())
+}
+
 /// A step in words, one line an event.
 fn step_words(step: &Step) -> String {
     let over = |length: &Option<usize>| {
@@ -46,6 +61,9 @@ fn step_words(step: &Step) -> String {
     };
     match step {
         Step::HandOver => "the expected chip is handed over".to_string(),
+        Step::Lend(area) => format!("{} is lent", area_words(area)),
+        Step::Find(identity) => format!("the reader is asked for identity {identity:02X}h"),
+        Step::OwnArea => "the part's own SFDP area is asked for".to_string(),
         Step::Event { event, lent, length } => {
             let way = if *lent { " (lent record)" } else { "" };
             format!("{}{way}{}", event_words(*event), over(length))
@@ -83,6 +101,7 @@ fn start_words(start: &Start) -> String {
 /// A case in words.
 pub fn case_words(case: &Case) -> String {
     let mut text = format!("  memory length {}, {:?}\n", case.length, case.content);
+    text += &format!("  {}\n", area_words(&case.area));
     text += &format!("  {}\n", start_words(&case.start));
     for step in &case.steps {
         text += &format!("    {}\n", step_words(step));
