@@ -4,7 +4,8 @@
 use crate::event::Event;
 use crate::image::Image;
 use crate::model::Chip;
-use crate::side::{Answer, RecordBytes, Side, MEMORY_AREA, OUTPUT_AREA};
+use crate::sfdp::{Found, CONTENT};
+use crate::side::{Answer, Loan, RecordBytes, Side, GUARD, MEMORY_AREA, OUTPUT_AREA, SFDP_AREA};
 use std::mem::MaybeUninit;
 
 #[repr(C)]
@@ -25,21 +26,51 @@ struct RunNumbers {
     ticks: u64,
 }
 
-/// A function that applies one event: its answer, the chip, the memory with its length, the event's
-/// kind and its body.
-type EventFunction = unsafe extern "C" fn(*mut EventNumbers, *mut Image, *mut u8, usize, u64, u64);
+#[repr(C)]
+struct FoundNumbers {
+    refusal: u8,
+    place: usize,
+    length: usize,
+}
+
+/// A function that applies one event: its answer, the chip, the memory with its length, the SFDP
+/// area with its length, the event's kind and its body.
+type EventFunction =
+    unsafe extern "C" fn(*mut EventNumbers, *mut Image, *mut u8, usize, *const u8, usize, u64, u64);
 
 extern "C" {
     fn chip_fresh(answer: *mut Image, status: u8);
     fn chip_legal(chip: *mut Image, length: usize) -> bool;
     // Both are an `EventFunction`.
-    fn chip_event(_: *mut EventNumbers, _: *mut Image, _: *mut u8, _: usize, _: u64, _: u64);
-    fn chip_event_lent(_: *mut EventNumbers, _: *mut Image, _: *mut u8, _: usize, _: u64, _: u64);
+    fn chip_event(
+        _: *mut EventNumbers,
+        _: *mut Image,
+        _: *mut u8,
+        _: usize,
+        _: *const u8,
+        _: usize,
+        _: u64,
+        _: u64,
+    );
+    fn chip_event_lent(
+        _: *mut EventNumbers,
+        _: *mut Image,
+        _: *mut u8,
+        _: usize,
+        _: *const u8,
+        _: usize,
+        _: u64,
+        _: u64,
+    );
+    fn sfdp_find(answer: *mut FoundNumbers, area: *const u8, length: usize, identity: u8);
+    fn sfdp_own_area(answer: *mut [u8; CONTENT.len()]);
     fn chip_run(
         answer: *mut RunNumbers,
         chip: *mut Image,
         memory: *mut u8,
         length: usize,
+        area: *const u8,
+        area_length: usize,
         script: *const u8,
         script_length: usize,
         output: *mut u8,
@@ -57,17 +88,19 @@ fn fresh(status: u8) -> Image {
     }
 }
 
-/// One chip of the library with its memory and its output.
+/// One chip of the library with its memory, its SFDP area and its output.
 pub struct Linked {
     chip: Image,
     memory: Vec<u8>,
+    sfdp: Vec<u8>,
     output: Vec<u8>,
 }
 
 impl Linked {
     /// A fresh chip.
     pub fn new() -> Linked {
-        Linked { chip: fresh(0), memory: vec![0; MEMORY_AREA], output: vec![0; OUTPUT_AREA] }
+        let (memory, sfdp) = (vec![0; MEMORY_AREA], vec![0; SFDP_AREA]);
+        Linked { chip: fresh(0), memory, sfdp, output: vec![0; OUTPUT_AREA] }
     }
 }
 
@@ -92,13 +125,14 @@ impl Side for Linked {
         Ok(unsafe { chip_legal(&mut chip, length) })
     }
 
-    fn event(&mut self, length: usize, event: Event, lent: bool) -> Result<Answer, String> {
+    fn event(&mut self, loan: Loan, event: Event, lent: bool) -> Result<Answer, String> {
         let function: EventFunction = if lent { chip_event_lent } else { chip_event };
         let (mut chip, mut answer) = (self.chip, MaybeUninit::uninit());
-        let memory = self.memory[..length].as_mut_ptr();
-        // The memory is lent for the call alone, which writes the whole answer.
+        let (memory, length) = (self.memory[..loan.memory].as_mut_ptr(), loan.memory);
+        let (area, to) = (self.sfdp[GUARD..][..loan.area].as_ptr(), answer.as_mut_ptr());
+        // The memory and the area are lent for the call alone, which writes the whole answer.
         let a = unsafe {
-            function(answer.as_mut_ptr(), &mut chip, memory, length, event.0, event.1);
+            function(to, &mut chip, memory, length, area, loan.area, event.0, event.1);
             answer.assume_init()
         };
         self.chip = a.chip;
@@ -106,23 +140,45 @@ impl Side for Linked {
         Ok(Answer::to_event(a.refusal, record, u64::from(a.ticks)))
     }
 
-    fn run(&mut self, length: usize, script: &[u8], room: usize) -> Result<Answer, String> {
+    fn run(&mut self, loan: Loan, script: &[u8], room: usize) -> Result<Answer, String> {
         let (mut chip, mut answer) = (self.chip, MaybeUninit::<RunNumbers>::uninit());
-        let memory = self.memory[..length].as_mut_ptr();
+        let (memory, length) = (self.memory[..loan.memory].as_mut_ptr(), loan.memory);
+        let (area, area_length) = (self.sfdp[GUARD..][..loan.area].as_ptr(), loan.area);
         let output = self.output[..room].as_mut_ptr();
-        let (from, to) = (script.as_ptr(), answer.as_mut_ptr());
-        // The memory, the script and the output are lent for the call alone, which writes the
-        // whole answer.
+        let (from, bytes, to) = (script.as_ptr(), script.len(), answer.as_mut_ptr());
+        // The memory, the area, the script and the output are lent for the call alone, which
+        // writes the whole answer.
         let a = unsafe {
-            chip_run(to, &mut chip, memory, length, from, script.len(), output, room);
+            chip_run(to, &mut chip, memory, length, area, area_length, from, bytes, output, room);
             answer.assume_init()
         };
         self.chip = a.chip;
         Ok(Answer::to_run(a.refusal, a.offset as u64, a.written as u64, a.ticks))
     }
 
+    fn find(&mut self, area: usize, identity: u8) -> Result<Found, String> {
+        let (from, mut answer) = (self.sfdp[GUARD..][..area].as_ptr(), MaybeUninit::uninit());
+        // The area is lent for the call alone, which writes the whole answer.
+        let FoundNumbers { refusal, place, length } = unsafe {
+            sfdp_find(answer.as_mut_ptr(), from, area, identity);
+            answer.assume_init()
+        };
+        Ok(Found { refusal, place, length })
+    }
+
+    fn own_area(&mut self) -> Result<[u8; CONTENT.len()], String> {
+        let mut area = [0; CONTENT.len()];
+        // It writes the whole area.
+        unsafe { sfdp_own_area(&mut area) };
+        Ok(area)
+    }
+
     fn memory(&mut self) -> &mut [u8] {
         &mut self.memory
+    }
+
+    fn sfdp(&mut self) -> &mut [u8] {
+        &mut self.sfdp
     }
 
     fn output(&mut self) -> &mut [u8] {

@@ -30,6 +30,8 @@ mod rng;
 #[allow(dead_code)]
 #[path = "../compare/scenes.rs"]
 mod scenes;
+#[path = "../second/sfdp.rs"]
+mod sfdp;
 #[path = "../compare/side.rs"]
 mod side;
 mod timing;
@@ -104,10 +106,11 @@ fn single(words: &'static str, events: &[Event], lent: bool) -> Row {
     row(words, 1, events.iter().map(step).collect(), None)
 }
 
-/// A case on a fresh chip.
+/// A case on a fresh chip with an empty SFDP area.
 fn row(words: &'static str, sectors: usize, steps: Vec<Step>, target: Option<f64>) -> Row {
     let (length, start, content) = (sectors * Chip::SECTOR, Start::Fresh(0), Content::Noise(1));
-    Row { words, case: Case { length, start, content, steps }, filled: None, target }
+    let case = Case { length, start, content, area: Vec::new(), steps };
+    Row { words, case, filled: None, target }
 }
 
 /// All cases.

@@ -4,7 +4,7 @@ use crate::case::{Case, Step};
 use crate::event::room_needed;
 use crate::linked::Linked;
 use crate::model::{self, Chip};
-use crate::side::{Side, OUTPUT_AREA};
+use crate::side::{Loan, Side, OUTPUT_AREA};
 use std::hint::black_box;
 use std::time::{Duration, Instant};
 
@@ -35,12 +35,12 @@ fn time_model(case: &Case, rooms: &[usize], memory: &mut [u8], output: &mut [u8]
     for (step, room) in case.steps.iter().zip(rooms) {
         match step {
             Step::Event { event: (kind, body), .. } => {
-                black_box(model::event(&mut chip, memory, *kind, *body));
+                black_box(model::event(&mut chip, memory, &case.area, *kind, *body));
             }
             Step::Run { script, .. } => {
-                black_box(model::run(&mut chip, memory, script, &mut output[..*room]));
+                black_box(model::run(&mut chip, memory, &case.area, script, &mut output[..*room]));
             }
-            Step::HandOver => {}
+            _ => {}
         }
     }
     begun.elapsed()
@@ -49,16 +49,17 @@ fn time_model(case: &Case, rooms: &[usize], memory: &mut [u8], output: &mut [u8]
 /// The time of the steps of a case on the engine.
 fn time_engine(engine: &mut Linked, case: &Case, rooms: &[usize]) -> Result<Duration, String> {
     engine.fresh(0)?;
+    let loan = Loan { memory: case.length, area: case.area.len() };
     let begun = Instant::now();
     for (step, room) in case.steps.iter().zip(rooms) {
         match step {
             Step::Event { event, lent, .. } => {
-                black_box(engine.event(case.length, *event, *lent)?);
+                black_box(engine.event(loan, *event, *lent)?);
             }
             Step::Run { script, .. } => {
-                black_box(engine.run(case.length, script, *room)?);
+                black_box(engine.run(loan, script, *room)?);
             }
-            Step::HandOver => {}
+            _ => {}
         }
     }
     Ok(begun.elapsed())

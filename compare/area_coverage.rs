@@ -210,7 +210,9 @@ impl AreaCoverage {
 
     /// Prints the tables and gives the number of cells that are empty, or filled and should not be.
     pub fn report(&self, entries: &[(&str, &[u8])]) -> usize {
-        println!("\nareas over 256 bytes, by what an empty area would get: 1 stays, all else is 13");
+        println!(
+            "\nareas over 256 bytes, by what an empty area would get: 1 stays, all else is 13"
+        );
         print_head(&[0, 1, 2, 3, 4, 5, 6, 7]);
         let mut faults = 0;
         for ((name, numbers), counts) in entries.iter().zip(&self.too_long) {

@@ -70,15 +70,18 @@ pub fn damaged(rng: &mut Rng) -> Vec<u8> {
     area
 }
 
+/// An area of a length full of noise.
+pub fn noise(rng: &mut Rng, length: usize) -> Vec<u8> {
+    let mut area = vec![0; length];
+    rng.fill(&mut area);
+    area
+}
+
 /// An area of a length: noise, FFh, the part's own or a damaged one cut or filled, or one in which
 /// the reader gets far.
 pub fn of_length(rng: &mut Rng, length: usize) -> Vec<u8> {
     let mut area = match rng.below(5) {
-        0 => {
-            let mut noise = vec![0; length];
-            rng.fill(&mut noise);
-            noise
-        }
+        0 => noise(rng, length),
         1 => Vec::new(),
         2 => CONTENT.to_vec(),
         3 => damaged(rng),

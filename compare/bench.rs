@@ -32,8 +32,7 @@ pub struct Bench<'a> {
 }
 
 /// The answer to what has none.
-const NO_ANSWER: Answer =
-    Answer { refusal: 0, record: NO_RECORD, offset: 0, written: 0, ticks: 0 };
+const NO_ANSWER: Answer = Answer { refusal: 0, record: NO_RECORD, offset: 0, written: 0, ticks: 0 };
 
 /// What the output holds before a run.
 fn mark_output(output: &mut [u8]) {

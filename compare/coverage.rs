@@ -36,11 +36,8 @@ const REFUSALS: [u8; 9] = [0, 1, 2, 3, 4, 5, 6, 7, 13];
 
 /// The entry points, rows of the table of refusals, each with the numbers that can occur.
 /// A single event has no script, so that 3, 4 and 7 cannot: its kind and body are two numbers.
-const ENTRIES: [(&str, &[u8]); 3] = [
-    ("event", &[0, 1, 2, 5, 6, 13]),
-    ("event, lent", &[0, 1, 2, 5, 6, 13]),
-    ("run", &REFUSALS),
-];
+const ENTRIES: [(&str, &[u8]); 3] =
+    [("event", &[0, 1, 2, 5, 6, 13]), ("event, lent", &[0, 1, 2, 5, 6, 13]), ("run", &REFUSALS)];
 
 /// The kinds of job that the table of fates has as rows.
 const JOBS: [&str; 6] = [

@@ -59,12 +59,7 @@ impl Expected {
     /// Applies one event and gives the model's answer. A job's last step, a reset that is done and
     /// a power cut leave nothing of a job, and one that begins starts with nothing left; every
     /// other event leaves the leftovers as they are.
-    pub fn event(
-        &mut self,
-        memory: &mut [u8],
-        area: &[u8],
-        (kind, body): Event,
-    ) -> EventAnswer {
+    pub fn event(&mut self, memory: &mut [u8], area: &[u8], (kind, body): Event) -> EventAnswer {
         let (job, opcode) = (self.chip.job.is_some(), self.chip.frame.opcode);
         let answer = model::event(&mut self.chip, memory, area, kind, body);
         let cleared = match (kind, answer.record) {

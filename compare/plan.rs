@@ -14,10 +14,11 @@ impl Session<'_> {
     /// Does what is planned; what takes long comes last, so that most faults are found early.
     pub fn planned(&mut self) -> Outcome {
         self.fresh_states()?;
+        self.areas()?;
         self.leftovers()?;
         self.broken_states(LENGTHS[0])?;
         self.all_refusals()?;
-        self.areas()?;
+        self.area_lengths()?;
         self.all_cells()?;
         self.lent_frames()?;
         self.all_fates()?;

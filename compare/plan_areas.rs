@@ -21,20 +21,27 @@ const FIRST_BYTES: [u8; 39] = [
 ];
 
 impl Session<'_> {
-    /// Does what is planned about the area.
+    /// The part's own area, the reader, and reads of an area; its lengths are apart, for they take
+    /// longer.
     pub fn areas(&mut self) -> Outcome {
         self.own_area()?;
         self.first_bytes()?;
         self.all_identities()?;
         self.reader_edges()?;
         self.damaged_headers()?;
-        for length in 0..=LONGEST_AREA {
-            self.area_of_length(length)?;
-        }
+        self.damaged_areas()?;
         for length in LENGTHS {
             self.reads_past_memory(length)?;
         }
         self.lent_at_last_place()
+    }
+
+    /// Areas of every length.
+    pub fn area_lengths(&mut self) -> Outcome {
+        for length in 0..=LONGEST_AREA {
+            self.area_of_length(length)?;
+        }
+        Ok(())
     }
 
     /// The part's own area.
@@ -113,6 +120,17 @@ impl Session<'_> {
         Ok(())
     }
 
+    /// The part's own area, damaged in any way.
+    fn damaged_areas(&mut self) -> Outcome {
+        self.open_lending(LENGTHS[0], Vec::new())?;
+        for _ in 0..100 {
+            let area = areas::damaged(&mut self.rng);
+            self.step(Step::Lend(area))?;
+            self.questions()?;
+        }
+        self.close()
+    }
+
     /// Areas of a length: read about their end, and looked for tables in; or refused by 13.
     fn area_of_length(&mut self, length: usize) -> Outcome {
         let area = areas::of_length(&mut self.rng, length);
@@ -135,16 +153,15 @@ impl Session<'_> {
         self.close()
     }
 
-    /// Reads of places past the memory length, over FFFFFFh, and about the end of an area that is
-    /// as long as can be.
+    /// Reads of places past the memory length, over FFFFFFh, and of a whole area that is as long as
+    /// can be, from its first byte past its end.
     fn reads_past_memory(&mut self, length: usize) -> Outcome {
-        let area = areas::of_length(&mut self.rng, LONGEST_TAKEN);
+        let area = areas::noise(&mut self.rng, LONGEST_TAKEN);
         self.open_lending(length, area)?;
         let events = self.write(|writer| {
             writer.read_past_memory();
             writer.read_over_last_place();
-            writer.read_over_area_end();
-            writer.read_area_at(LONGEST_TAKEN as u32 - 1, 2, false);
+            writer.read_area_at(0, LONGEST_TAKEN + 4, false);
         });
         self.deliver(&events)?;
         self.close()
