@@ -112,13 +112,13 @@ impl AreaCoverage {
         let mut mended = chip.clone();
         mended.frame.read_place = 0;
         let alone = refusal == 2 && mended.legal(length);
-        let saw = &mut self.situations;
+        let tally = &mut self.situations;
         if opcode == READ_SFDP {
-            saw.saw("lent 5Ah frame at FFFFFFh, taken", refusal == 0 && place == LAST_PLACE);
-            saw.saw("lent 5Ah frame beyond the memory, taken", refusal == 0 && beyond);
-            saw.saw("lent 5Ah frame at 2^24, refused by 2", alone && place == LAST_PLACE + 1);
+            tally.saw("lent 5Ah frame at FFFFFFh, taken", refusal == 0 && place == LAST_PLACE);
+            tally.saw("lent 5Ah frame beyond the memory, taken", refusal == 0 && beyond);
+            tally.saw("lent 5Ah frame at 2^24, refused by 2", alone && place == LAST_PLACE + 1);
         } else {
-            saw.saw("lent other frame beyond the memory, refused by 2", alone && beyond);
+            tally.saw("lent other frame beyond the memory, refused by 2", alone && beyond);
         }
     }
 
@@ -148,14 +148,14 @@ impl AreaCoverage {
             self.crossed[number][0] += u64::from(over_length);
             self.crossed[number][1] += u64::from(over_last);
         }
-        let saw = &mut self.situations;
-        saw.saw("5Ah byte driven inside the area", at < end);
-        saw.saw("5Ah byte driven at the area's end", at == end);
-        saw.saw("5Ah byte driven past the area's end", at > end);
-        saw.saw("5Ah byte driven on an empty area", end == 0);
-        saw.saw("5Ah frame across the area's end", over_end);
-        saw.saw("5Ah frame across the end of an area of 256", over_end && end == 256);
-        saw.saw("5Ah frame, another area lent between two bytes", self.changed);
+        let tally = &mut self.situations;
+        tally.saw("5Ah byte driven inside the area", at < end);
+        tally.saw("5Ah byte driven at the area's end", at == end);
+        tally.saw("5Ah byte driven past the area's end", at > end);
+        tally.saw("5Ah byte driven on an empty area", end == 0);
+        tally.saw("5Ah frame across the area's end", over_end);
+        tally.saw("5Ah frame across the end of an area of 256", over_end && end == 256);
+        tally.saw("5Ah frame, another area lent between two bytes", self.changed);
         self.last_place = Some(place);
     }
 
@@ -172,62 +172,82 @@ impl AreaCoverage {
 
     /// Takes note of a question to the reader.
     pub fn note_find(&mut self, identity: u8) {
-        let (area, end) = (&self.lent, self.lent.len());
-        let refusal = sfdp::find(area, identity).refusal;
+        let refusal = sfdp::find(&self.lent, identity).refusal;
         let column = READER.iter().position(|number| *number == refusal);
         self.reader[column.expect("a number of the reader")] += 1;
-        self.lengths_read.insert(end);
-        if matches!(refusal, 13 | 14) || end < 8 {
-            return;
+        self.lengths_read.insert(self.lent.len());
+        if !matches!(refusal, 13 | 14) && self.lent.len() >= 8 {
+            self.note_last_header();
         }
-        let headers_end = 8 + 8 * (usize::from(area[6]) + 1);
-        let saw = &mut self.questions;
-        saw.saw("last header that ends at the area's end", headers_end == end);
-        saw.saw("last header that ends one byte past it, 15", headers_end == end + 1);
-        if !matches!(refusal, 0 | 17) {
-            return;
+        if matches!(refusal, 0 | 17) {
+            self.note_tables(identity, refusal);
         }
-        let tables: Vec<(usize, usize)> = area[8..headers_end]
-            .chunks_exact(8)
-            .filter(|header| header[0] == identity)
-            .map(table_of)
-            .collect();
+    }
+
+    /// Where the last header of the area ends.
+    fn headers_end(&self) -> usize {
+        8 + 8 * (usize::from(self.lent[6]) + 1)
+    }
+
+    /// Takes note of where the last header ends.
+    fn note_last_header(&mut self) {
+        let (headers_end, end) = (self.headers_end(), self.lent.len());
+        let tally = &mut self.questions;
+        tally.saw("last header that ends at the area's end", headers_end == end);
+        tally.saw("last header that ends one byte past it, 15", headers_end == end + 1);
+    }
+
+    /// Takes note of where the tables of an identity end: the first decides.
+    fn note_tables(&mut self, identity: u8, refusal: u8) {
+        let (end, headers) = (self.lent.len(), self.lent[8..self.headers_end()].chunks_exact(8));
+        let alike = headers.filter(|header| header[0] == identity);
+        let tables: Vec<(usize, usize)> = alike.map(table_of).collect();
         let (place, length) = tables[0];
         let (full, table_end) = (length > 0, place + length);
-        saw.saw("table that ends at the area's end", full && table_end == end);
-        saw.saw("table that ends one byte past it, 17", full && table_end == end + 1);
-        saw.saw("table of 0 words at the area's end", !full && place == end);
-        saw.saw("table of 0 words one byte past it, 17", !full && place == end + 1);
-        saw.saw(
-            "identity that a later header has too",
-            refusal == 0 && tables.iter().any(|other| *other != tables[0]),
-        );
-        saw.saw(
-            "first header of an identity 17, a later one good",
-            refusal == 17 && tables.iter().any(|(place, length)| place + length <= end),
-        );
+        let other = tables.iter().any(|table| *table != tables[0]);
+        let good = tables.iter().any(|(place, length)| place + length <= end);
+        let tally = &mut self.questions;
+        tally.saw("table that ends at the area's end", full && table_end == end);
+        tally.saw("table that ends one byte past it, 17", full && table_end == end + 1);
+        tally.saw("table of 0 words at the area's end", !full && place == end);
+        tally.saw("table of 0 words one byte past it, 17", !full && place == end + 1);
+        tally.saw("identity that a later header has too", refusal == 0 && other);
+        tally.saw("first header of an identity 17, a later one good", refusal == 17 && good);
     }
 
     /// Prints the tables and gives the number of cells that are empty, or filled and should not be.
     pub fn report(&self, entries: &[(&str, &[u8])]) -> usize {
-        println!(
-            "\nareas over 256 bytes, by what an empty area would get: 1 stays, all else is 13"
-        );
+        self.report_too_long(entries) + self.report_reader() + self.report_situations()
+    }
+
+    /// Prints what came of areas that are too long, by entry points.
+    fn report_too_long(&self, entries: &[(&str, &[u8])]) -> usize {
+        println!("\nareas over 256 bytes, by what an empty one would get: 1 stays, all else is 13");
         print_head(&[0, 1, 2, 3, 4, 5, 6, 7]);
         let mut faults = 0;
         for ((name, numbers), counts) in entries.iter().zip(&self.too_long) {
             print!("{name:24}");
             faults += print_cells(counts, |number| numbers.contains(&(number as u8)));
         }
+        faults
+    }
+
+    /// Prints the reader's numbers, and the lengths of areas.
+    fn report_reader(&self) -> usize {
         println!("\nthe reader's numbers");
         print_head(&READER);
         print!("{:24}", "reader");
-        faults += print_cells(&self.reader, |_| true);
+        let faults = print_cells(&self.reader, |_| true);
         println!("\nlengths of areas, of 0 to {LONGEST_AREA}");
-        faults += print_lengths("lent to events and runs", &self.lengths);
-        faults += print_lengths("lent to the reader", &self.lengths_read);
+        faults
+            + print_lengths("lent to events and runs", &self.lengths)
+            + print_lengths("lent to the reader", &self.lengths_read)
+    }
+
+    /// Prints the situations and the questions to the reader.
+    fn report_situations(&self) -> usize {
         println!("\nreads of areas and questions to the reader");
-        faults += self.situations.report();
+        let mut faults = self.situations.report();
         for (length, counts) in LENGTHS.iter().zip(self.crossed) {
             faults += print_line(&format!("5Ah past the top of {length}"), counts[0]);
             faults += print_line(&format!("5Ah over FFFFFFh beside {length}"), counts[1]);

@@ -94,10 +94,12 @@ impl WrongCopy {
 
     /// The refusal that the fault puts before the model's, if it does.
     fn early_refusal(&self, Loan { memory, area }: Loan) -> Option<u8> {
-        let legal = self.expected.chip.legal(memory);
+        if area <= LONGEST_TAKEN {
+            return None;
+        }
+        let known = LENGTHS.contains(&memory);
         match self.fault {
-            _ if area <= LONGEST_TAKEN => None,
-            Some(27) if LENGTHS.contains(&memory) && !legal => Some(2),
+            Some(27) if known && !self.expected.chip.legal(memory) => Some(2),
             Some(28) => Some(13),
             _ => None,
         }
@@ -210,13 +212,12 @@ impl WrongCopy {
 
     /// Plants the faults that are seen in a 5Ah frame.
     fn spoil_area_read(&mut self, before: &Chip, record: Record, loan: Loan) -> Record {
-        let Chip { frame, .. } = before;
-        let driven = matches!(record, Record::Driven(_));
-        let dummy = record == Record::Floating && frame.byte_count == 4;
-        if frame.opcode != 0x5A || frame.judgement.is_some() || matches!(record, Record::Verdict(_))
-        {
+        let frame = &before.frame;
+        if frame.opcode != 0x5A || frame.judgement.is_some() {
             return record;
         }
+        let driven = matches!(record, Record::Driven(_));
+        let dummy = record == Record::Floating && frame.byte_count == 4;
         let (place, next) = (frame.read_place as usize, &mut self.expected.chip.frame.read_place);
         let area = &mut self.sfdp[GUARD..];
         match self.fault {

@@ -36,7 +36,7 @@ fn search(area: &[u8], identity: u8, fault: usize) -> Result<(usize, usize), u8>
     }
     let headers = (0..count).map(|number| 8 + 8 * number);
     let mut alike = headers.filter(|at| byte(*at) == usize::from(identity));
-    let header = if fault == 2 { alike.last() } else { alike.next() }.ok_or(16)?;
+    let header = if fault == 2 { alike.next_back() } else { alike.next() }.ok_or(16)?;
     let [mut low, middle, mut high] = [4, 5, 6].map(|at| byte(header + at));
     if fault == 1 {
         (low, high) = (high, low);
