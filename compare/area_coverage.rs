@@ -57,6 +57,8 @@ pub struct AreaCoverage {
     lengths_read: BTreeSet<usize>,
     /// Steps with an area over 256 bytes, by entry point and what an empty area would get.
     too_long: [[u64; 8]; 3],
+    /// Those of them on numbers that are no state, refused by 13.
+    no_state: [u64; 3],
     /// Frames of 5Ah past the memory length and over FFFFFFh, by memory length.
     crossed: [[u64; 2]; 6],
     reader: [u64; READER.len()],
@@ -74,6 +76,7 @@ impl AreaCoverage {
             lengths: BTreeSet::new(),
             lengths_read: BTreeSet::new(),
             too_long: [[0; 8]; 3],
+            no_state: [0; 3],
             crossed: [[0; 2]; 6],
             reader: [0; READER.len()],
             situations: Tally::new(&SITUATIONS),
@@ -99,10 +102,12 @@ impl AreaCoverage {
     }
 
     /// Takes note of a step with too long an area, from its entry point, its answer and the number
-    /// that it would get with an empty area: 1 has to stay, all else to be 13.
-    pub fn note_too_long(&mut self, entry: usize, answered: u8, otherwise: u8) {
+    /// that it would get with an empty area: 1 has to stay, all else to be 13, also on numbers that
+    /// are no state.
+    pub fn note_too_long(&mut self, entry: usize, answered: u8, otherwise: u8, no_state: bool) {
         let right = if otherwise == 1 { 1 } else { 13 };
         self.too_long[entry][usize::from(otherwise)] += u64::from(answered == right);
+        self.no_state[entry] += u64::from(no_state && answered == 13);
     }
 
     /// Takes note of the first step on a state that is lent with a frame.
@@ -228,6 +233,10 @@ impl AreaCoverage {
         for ((name, numbers), counts) in entries.iter().zip(&self.too_long) {
             print!("{name:24}");
             faults += print_cells(counts, |number| numbers.contains(&(number as u8)));
+        }
+        println!("\nareas over 256 bytes on numbers that are no state, refused by 13");
+        for ((name, _), count) in entries.iter().zip(self.no_state) {
+            faults += print_line(name, count);
         }
         faults
     }

@@ -113,6 +113,8 @@ pub struct Coverage {
     flags: [[u64; 3]; FLAGS.len()],
     /// The flag of the case that is a byte above 1.
     bad_flag: Option<usize>,
+    /// The numbers of the case are no state: a flag above 1, or a job that is none of the five.
+    no_state: bool,
     frame_lent: bool,
     frame_bytes: usize,
     last_status: Option<u8>,
@@ -132,6 +134,7 @@ impl Coverage {
             rules: [0; RULES.len()],
             flags: [[0; 3]; FLAGS.len()],
             bad_flag: None,
+            no_state: false,
             frame_lent: false,
             frame_bytes: 0,
             last_status: None,
@@ -150,6 +153,8 @@ impl Coverage {
             Start::Lent(_, Edit::Flag(flag, _)) => Some(*flag),
             _ => None,
         };
+        let no_job = matches!(start, Start::Lent(_, Edit::JobKind(_)));
+        self.no_state = no_job || self.bad_flag.is_some();
         self.close_frame();
         self.frame_lent = matches!(start, Start::Lent(chip, _) if chip.frame.byte_count > 0);
         self.areas.lend(area);
@@ -219,7 +224,7 @@ impl Coverage {
         self.areas.note_step();
         if self.areas.lent.len() > LONGEST_TAKEN {
             let otherwise = self.refusal_without_area(before, step, length);
-            self.areas.note_too_long(entry, refusal, otherwise);
+            self.areas.note_too_long(entry, refusal, otherwise, self.no_state);
         }
     }
 

@@ -2,7 +2,7 @@
 
 use crate::area_scenes::any_scene;
 use crate::areas;
-use crate::case::{Content, Start, Step};
+use crate::case::{Content, Start, Step, LENGTHS};
 use crate::event::{kind, room_needed, script_of, Event, LONGEST};
 use crate::image::Edit;
 use crate::model::Chip;
@@ -36,12 +36,15 @@ const OUT_OF_RANGE: Event = (kind::WP_LEVEL, 2);
 // The scripts below are raw bytes: some of them are no events, or not whole ones.
 impl Session<'_> {
     /// A state that is not legal: refused by 2 at every entry point and before 3 to 7, and not
-    /// before 1, nor before 13 where the area is, now and then, too long.
+    /// before 1, nor before 13 where the area is too long: with numbers that are no state always, on
+    /// a short memory, and with other states now and then.
     pub fn broken_state(&mut self, length: usize, chip: Chip, edit: Edit) -> Outcome {
+        let short = length == LENGTHS[0];
+        let no_state = matches!(edit, Edit::Flag(..) | Edit::JobKind(_));
         self.open(length, Start::Lent(Box::new(chip), edit), Content::Blank)?;
         self.refused_by(2)?;
         self.wrong_length()?;
-        if self.rng.once_in(8) {
+        if short && no_state || self.rng.once_in(8) {
             let area = areas::too_long(&mut self.rng);
             self.step(Step::Lend(area))?;
             self.refused_by(13)?;
@@ -58,7 +61,8 @@ impl Session<'_> {
             Step::Event { event: first, lent: false, length: None },
             Step::Event { event: second, lent: true, length: None },
         ];
-        let scripts = [vec![], vec![1, 2, 5, 2, 0, 3], vec![1, 9], vec![2], vec![4; LONGEST + 1]];
+        let too_long = vec![4; LONGEST + 1];
+        let scripts = [vec![], vec![1, 2, 5, 2, 0, 3], vec![1, 9], vec![2], vec![6, 2], too_long];
         for script in scripts {
             let spare = self.rng.pick(&[0, -1, 3]);
             steps.push(Step::Run { script, spare, length: None });
