@@ -13,9 +13,8 @@ use Rattle.chip.specs.Chip.{fresh}
 use Rattle.legal.specs.Legal.{legal}
 use Rattle.job.specs.Tick.{TicksAnswer}
 use Rattle.frame.specs.Frame.{Exchange, exchange, exchanged}
-use Rattle.frame.specs.Stream.{moved, streamed}
+use Rattle.frame.specs.Stream.{streamed}
 use Rattle.frame.specs.declared.Exchanged.{Exchanged}
-use Rattle.frame.specs.declared.Streamed.{Streamed}
 use Rattle.event.specs.declared.Answer.{Answer}
 use Rattle.event.specs.declared.Stepped.{Stepped}
 use Rattle.event.specs.Event.{Outcome, outcome, applied}
@@ -59,23 +58,20 @@ unique-step T c m kind body r r′ l₁ l₂ p₁ p₂ m₁ m₂ p q = (
     stepped : Outcome → Stepped
     stepped o = record { core = o .chip .core; frame = o .chip .frame; said = o .said; ticks = o .ticks }
 
--- `frame::exchange`: the answer and the load
-pub unique-exchange : (T : Setting) (k : Core) (f : Frame) (load m : List ℕ) (b : ℕ) (r r′ : Exchanged) (l₁ l₂ : List ℕ)
-    → exchange (r .said) (r .frame) l₁ ≡ exchanged T k f load m b → exchange (r′ .said) (r′ .frame) l₂ ≡ exchanged T k f load m b → (r ≡ r′) × (l₁ ≡ l₂)
-unique-exchange T k f load m b r r′ l₁ l₂ p q = (ap (λ (x : Exchange). told x) (same p q), ap (λ (x : Exchange). x .load) (same p q))
+-- `frame::exchange` and `frame::stream`: the answer and the load
+exchange-parts : (e : Exchange) (r r′ : Exchanged) (l₁ l₂ : List ℕ) → exchange (r .said) (r .frame) l₁ ≡ e → exchange (r′ .said) (r′ .frame) l₂ ≡ e → (r ≡ r′) × (l₁ ≡ l₂)
+exchange-parts e r r′ l₁ l₂ p q = (ap (λ (x : Exchange). told x) (same p q), ap (λ (x : Exchange). x .load) (same p q))
   where
     told : Exchange → Exchanged
     told x = record { said = x .said; frame = x .frame }
 
--- `frame::stream`: the same, and of the frame the three numbers that it moves
-pub unique-stream : (S : ℕ) (f : Frame) (load m : List ℕ) (b : ℕ) (r r′ : Streamed) (l₁ l₂ : List ℕ)
-    → exchange (r .said) (moved (r .place) (r .slot) (r .count) f) l₁ ≡ streamed S f load m b
-    → exchange (r′ .said) (moved (r′ .place) (r′ .slot) (r′ .count) f) l₂ ≡ streamed S f load m b
-    → (r ≡ r′) × (l₁ ≡ l₂)
-unique-stream S f load m b r r′ l₁ l₂ p q = (ap (λ (x : Exchange). told x) (same p q), ap (λ (x : Exchange). x .load) (same p q))
-  where
-    told : Exchange → Streamed
-    told x = record { said = x .said; place = x .frame .place; slot = x .frame .slot; count = x .frame .count }
+pub unique-exchange : (T : Setting) (k : Core) (f : Frame) (load m : List ℕ) (b : ℕ) (r r′ : Exchanged) (l₁ l₂ : List ℕ)
+    → exchange (r .said) (r .frame) l₁ ≡ exchanged T k f load m b → exchange (r′ .said) (r′ .frame) l₂ ≡ exchanged T k f load m b → (r ≡ r′) × (l₁ ≡ l₂)
+unique-exchange T k f load m b = exchange-parts (exchanged T k f load m b)
+
+pub unique-stream : (S : ℕ) (f : Frame) (load m : List ℕ) (b : ℕ) (r r′ : Exchanged) (l₁ l₂ : List ℕ)
+    → exchange (r .said) (r .frame) l₁ ≡ streamed S f load m b → exchange (r′ .said) (r′ .frame) l₂ ≡ streamed S f load m b → (r ≡ r′) × (l₁ ≡ l₂)
+unique-stream S f load m b = exchange-parts (streamed S f load m b)
 
 -- `job::ticks`: the core, the working ticks, the job's load and the memory
 pub unique-ticks : (S n : ℕ) (k : Core) (held m : List ℕ) (k₁ k₂ : Core) (w₁ w₂ : ℕ) (h₁ h₂ m₁ m₂ : List ℕ)

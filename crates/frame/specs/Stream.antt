@@ -7,7 +7,6 @@ use lib.ListN.{getD, set}
 use Rattle.part.specs.Part.{lengthOf}
 use Rattle.chip.specs.declared.Frame.{Frame}
 use Rattle.chip.specs.declared.Record.the-variants.{Floating, Driven}
-use Rattle.chip.specs.Fields.{withPlace, withSlot, withCount}
 use Rattle.frame.specs.Frame.{Exchange, exchange, reading, loading, readsCell, takesData}
 
 -- whether the next byte is such a byte
@@ -17,10 +16,6 @@ isData f = readsCell f || takesData f
 -- and the frame is open and not judged
 abbrev pub streams : Frame → Bool
 streams f = f .selected && eqb (f .judgement) 0 && isData f
-
--- the three numbers of the frame that such a byte may move: read place, load place and count
-abbrev pub moved : ℕ → ℕ → ℕ → Frame → Frame
-moved place slot count f = withPlace place (withSlot slot (withCount count f))
 
 -- what it does, on a part of S sectors: a cell is driven, or the byte goes into the load
 unfoldable pub streamed : ℕ → Frame → List ℕ → List ℕ → ℕ → Exchange

@@ -3,8 +3,8 @@ ghost use mathlib.Core.Path.{_≡_};
 ghost use Prim.Native.Nat.{_%_, _*_, _+_, _<_};
 ghost use Rattle.part.specs.Part.{setting};
 ghost use Rattle.chip.specs.declared.Record.{Record};
-ghost use Rattle.frame.specs.Frame.{judge, counted, shifted, nextPlace, nextSlot, opened, counting, reading, firstPlace, addressing, readsCell, takesData, readsArea, exchange, taken, exchanged};
-ghost use Rattle.frame.specs.Stream.{isData, streams, moved, streamed};
+ghost use Rattle.frame.specs.Frame.{judge, counted, shifted, nextPlace, nextSlot, opened, counting, reading, loading, firstPlace, addressing, readsCell, takesData, readsArea, exchange, taken, exchanged};
+ghost use Rattle.frame.specs.Stream.{isData, streams, streamed};
 use chip::Core;
 use chip::Frame;
 use chip::Record;
@@ -15,14 +15,6 @@ use part::Part;
 pub struct Exchanged {
     pub said: Record,
     pub frame: Frame,
-}
-
-// What a data byte says, and the three numbers of the frame that it moves.
-pub struct Streamed {
-    pub said: Record,
-    pub place: usize,
-    pub slot: u8,
-    pub count: u8,
 }
 
 // The judgement of an opcode: 3, 5, 6, 7, or 0 for none.
@@ -113,6 +105,15 @@ fn read(n: usize, f: Frame) -> Frame
     next
 }
 
+fn load_up(f: Frame) -> Frame
+    ensures { λ r. ⌜ r ≡ loading f ⌝ }
+{
+    let mut next = f;
+    next.slot = slot_up(f.slot);
+    next.count = count_up(f.count);
+    next
+}
+
 // The read place that an address sets: 5Ah takes the address as it is.
 fn first_place(sectors: u8, opcode: u8, address: u32) -> usize
     ensures { λ r. ⌜ r ≡ firstPlace sectors opcode address ⌝ }
@@ -191,28 +192,19 @@ pub fn streams(f: Frame) -> bool
     f.selected & (f.judgement == 0) & is_data(f)
 }
 
-// A data byte of a read of cells or of a page load: it asks nothing of the core, and leaves the rest of the frame alone.
-pub fn stream(f: Frame, load: &mut [u8; 256], mem: &[u8], sectors: u8, b: u8) -> Streamed
-    ensures { λ r. ⌜ exchange (r .said) (moved (r .place) (r .slot) (r .count) f) (now (load .exit)) ≡ streamed sectors f (now (load .entry)) (now (mem .entry)) b ⌝ }
+// A data byte of a read of cells or of a page load: it asks nothing of the core.
+pub fn stream(f: Frame, load: &mut [u8; 256], mem: &[u8], sectors: u8, b: u8) -> Exchanged
+    ensures { λ r. ⌜ exchange (r .said) (r .frame) (now (load .exit)) ≡ streamed sectors f (now (load .entry)) (now (mem .entry)) b ⌝ }
 {
-    let count = count_up(f.count);
     if reads_cell(f) {
-        let cell = cells::byte_at(mem, f.place);
-        return Streamed {
-            said: Record::Driven(cell),
-            place: place_up(part::length_of(sectors), f.place),
-            slot: f.slot,
-            count: count,
-        };
+        return drives(
+            cells::byte_at(mem, f.place),
+            read(part::length_of(sectors), f),
+        );
     }
     let slot = f.slot as usize;
     load[slot] = b;
-    Streamed {
-        said: Record::Floating,
-        place: f.place,
-        slot: slot_up(f.slot),
-        count: count,
-    }
+    floats(load_up(f))
 }
 
 // Byte 2 and up of a frame with judgement none.
@@ -228,16 +220,7 @@ fn take(
     ensures { λ r. ⌜ exchange (r .said) (r .frame) (now (load .exit)) ≡ taken (setting sectors (now (area .entry))) core f (now (load .entry)) (now (mem .entry)) b ⌝ }
 {
     if is_data(f) {
-        let data = stream(f, load, mem, sectors, b);
-        let said = data.said;
-        let mut next = f;
-        next.place = data.place;
-        next.slot = data.slot;
-        next.count = data.count;
-        return Exchanged {
-            said: said,
-            frame: next,
-        };
+        return stream(f, load, mem, sectors, b);
     }
     if f.opcode == Command::READ_STATUS {
         return drives(chip::status_byte(core), count(f));

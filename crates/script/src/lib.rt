@@ -160,9 +160,7 @@ fn play(chip: Chip, mem: &mut [u8], script: &[u8], out: &mut [u8], sectors: u8, 
                 let data = frame::stream(frame, &mut load, mem, sectors, b);
                 let given = data.said;
                 pos = put(out, pos, given);
-                frame.place = data.place;
-                frame.slot = data.slot;
-                frame.count = data.count;
+                frame = data.frame;
                 at += 2;
                 continue;
             }

@@ -5,9 +5,6 @@ use borrow.Author.Needs.{needs}
 use Rattle.frame.proofs.stream.Statement.{statement}
 use Rattle.frame.proofs.stream.Tie as tie
 
-count-up-requires : tie.Need-count-up-requires
-count-up-requires c κs = search needs
-
 reads-cell-requires : tie.Need-reads-cell-requires
 reads-cell-requires c κs = search needs
 
@@ -17,11 +14,14 @@ byte-at-requires c κs = search needs
 length-of-requires : tie.Need-length-of-requires
 length-of-requires c κs = search needs
 
-place-up-requires : tie.Need-place-up-requires
-place-up-requires c κs = search needs
+read-requires : tie.Need-read-requires
+read-requires c κs = search needs
+
+drives-requires : tie.Need-drives-requires
+drives-requires c κs = search needs
 
 returns : tie.Need-returns
-returns c = rw (c .place-up .ensures, c .before .length-of .ensures .0, c .before .before .byte-at .ensures, c .before .before .before .before .before .count-up .ensures) (sym (streamed-cell _ _ _ _ _ (sym (c .before .before .before .before .reads-cell .ensures) ∙ c .before .before .before .if1 .taken)))
+returns c = rw (c .drives .ensures, c .before .read .ensures, c .before .before .length-of .ensures .0, c .before .before .before .byte-at .ensures) (sym (streamed-cell _ _ _ _ _ (sym (c .before .before .before .before .before .reads-cell .ensures) ∙ c .before .before .before .before .if1 .taken)))
 
 cast-slot : tie.Need-cast-slot
 cast-slot c = search needs
@@ -29,23 +29,27 @@ cast-slot c = search needs
 element-write-load : tie.Need-element-write-load
 element-write-load c = search needs
 
-slot-up-requires : tie.Need-slot-up-requires
-slot-up-requires c κs = search needs
+load-up-requires : tie.Need-load-up-requires
+load-up-requires c κs = search needs
+
+floats-requires : tie.Need-floats-requires
+floats-requires c κs = search needs
 
 returns-2 : tie.Need-returns-2
-returns-2 c = rw (c .slot-up .ensures, c .before .before .before .before .count-up .ensures) (sym (streamed-load _ _ _ _ _ (sym (c .before .before .before .reads-cell .ensures) ∙ c .before .before .if1 .left)))
+returns-2 c = rw (c .floats .ensures, c .before .load-up .ensures) (sym (streamed-load _ _ _ _ _ (sym (c .before .before .before .before .reads-cell .ensures) ∙ c .before .before .before .if1 .left)))
 
 pub stream-spec : {M : Type 1} → statement M
 stream-spec =
     tie.close
     (tie.spec
-    count-up-requires
     reads-cell-requires
     byte-at-requires
     length-of-requires
-    place-up-requires
+    read-requires
+    drives-requires
     returns
     cast-slot
     element-write-load
-    slot-up-requires
+    load-up-requires
+    floats-requires
     returns-2)
