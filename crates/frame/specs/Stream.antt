@@ -5,6 +5,7 @@ use mathlib.Core.List.{List}
 use lib.Dec.{eqb}
 use lib.ListN.{getD, set}
 use Rattle.part.specs.Part.{lengthOf}
+use Rattle.commands.specs.Table.{isProgram}
 use Rattle.chip.specs.declared.Frame.{Frame}
 use Rattle.chip.specs.declared.Record.the-variants.{Floating, Driven}
 use Rattle.frame.specs.Frame.{Exchange, exchange, reading, loading, readsCell, takesData}
@@ -17,7 +18,7 @@ isData f = readsCell f || takesData f
 abbrev pub streams : Frame → Bool
 streams f = f .selected && eqb (f .judgement) 0 && isData f
 
--- what it does, on a part of S sectors: a cell is driven, or the byte goes into the load
+-- what it does, on a part of S sectors: of a program it goes into the load, of a read a cell is driven
 unfoldable pub streamed : ℕ → Frame → List ℕ → List ℕ → ℕ → Exchange
 streamed S f load m b =
-    cond (readsCell f) (exchange (Driven (getD m (f .place) 0)) (reading (lengthOf S) f) load) (exchange Floating (loading f) (set load (f .slot) b))
+    cond (isProgram (f .opcode)) (exchange Floating (loading f) (set load (f .slot) b)) (exchange (Driven (getD m (f .place) 0)) (reading (lengthOf S) f) load)

@@ -1,8 +1,8 @@
 -- What is true of a data byte: each way it goes, and that it is what the exchange does.
 use Prim.Native.Nat.{ℕ}
-use mathlib.Core.Bool.{Bool, true, false, cond, _&&_, _||_, false≢true}
+use mathlib.Core.Bool.{Bool, true, false, _&&_, _||_, false≢true}
 use mathlib.Core.List.{List}
-use mathlib.Core.Path.{_≡_, refl, sym, subst, _∙_}
+use mathlib.Core.Path.{_≡_, refl, sym, ap, subst, _∙_}
 use lib.Dec.{eqb, leb}
 use lib.ListN.{getD, set}
 use borrow.Author.Tests.{eqb-true}
@@ -12,18 +12,28 @@ use Rattle.commands.specs.Table.{isProgram, lowPowerRead, highSpeedRead}
 use Rattle.chip.specs.declared.Core.{Core}
 use Rattle.chip.specs.declared.Frame.{Frame}
 use Rattle.chip.specs.declared.Record.the-variants.{Floating, Driven}
-use Rattle.frame.specs.Frame.{Exchange, exchange, reading, loading, readsCell, takesData, taken, exchanged}
-use Rattle.frame.specs.Laws.{exchanged-taken}
+use Rattle.frame.specs.Frame.{exchange, reading, loading, readsCell, takesData, taken, exchanged}
+use Rattle.frame.specs.Laws.{taken-cell, taken-data, exchanged-taken}
 use Rattle.frame.specs.Stream.{isData, streams, streamed}
 
 module _ (S : ℕ) (f : Frame) (load m : List ℕ) (b : ℕ) where
-  pub streamed-cell : readsCell f ≡ true → streamed S f load m b ≡ exchange (Driven (getD m (f .place) 0)) (reading (lengthOf S) f) load
+  pub streamed-load : isProgram (f .opcode) ≡ true → streamed S f load m b ≡ exchange Floating (loading f) (set load (f .slot) b)
   unfolding streamed
-  streamed-cell h = cond-yes _ _ _ h
+  streamed-load h = cond-yes _ _ _ h
 
-  pub streamed-load : readsCell f ≡ false → streamed S f load m b ≡ exchange Floating (loading f) (set load (f .slot) b)
+  pub streamed-cell : isProgram (f .opcode) ≡ false → streamed S f load m b ≡ exchange (Driven (getD m (f .place) 0)) (reading (lengthOf S) f) load
   unfolding streamed
-  streamed-load h = cond-no _ _ _ h
+  streamed-cell h = cond-no _ _ _ h
+
+-- a read of cells is no program
+cell-no-program : (f : Frame) → readsCell f ≡ true → isProgram (f .opcode) ≡ false
+unfolding isProgram
+cell-no-program f h = go (eqb (f .opcode) lowPowerRead) (eqb (f .opcode) highSpeedRead) refl refl h
+  where
+    go : (a b : Bool) → eqb (f .opcode) lowPowerRead ≡ a → eqb (f .opcode) highSpeedRead ≡ b → (a && leb 4 (f .count) || b && leb 5 (f .count)) ≡ true → isProgram (f .opcode) ≡ false
+    go true b p q e = ap isProgram (eqb-true (f .opcode) lowPowerRead p)
+    go false true p q e = ap isProgram (eqb-true (f .opcode) highSpeedRead q)
+    go false false p q e = absurd (false≢true e)
 
 -- a byte that is no data byte is of neither kind
 neither : (a b : Bool) → (a || b) ≡ false → (a ≡ false) × (b ≡ false)
@@ -40,13 +50,12 @@ no-load f h = neither (readsCell f) (takesData f) h .1
 
 module _ (T : Setting) (k : Core) (f : Frame) (load m : List ℕ) (b : ℕ) where
   pub taken-stream : isData f ≡ true → taken T k f load m b ≡ streamed (T .sectors) f load m b
-  unfolding taken streamed
-  taken-stream h = go (readsCell f) (takesData f) _ _ _ h
+  taken-stream h = go (readsCell f) (takesData f) refl refl h
     where
-      go : (cell load : Bool) (x y z : Exchange) → (cell || load) ≡ true → cond cell x (cond load y z) ≡ cond cell x y
-      go true load x y z e = refl
-      go false true x y z e = refl
-      go false false x y z e = absurd (false≢true e)
+      go : (cell loads : Bool) → readsCell f ≡ cell → takesData f ≡ loads → (cell || loads) ≡ true → taken T k f load m b ≡ streamed (T .sectors) f load m b
+      go true loads p q e = taken-cell T k f load m b p ∙ sym (streamed-cell (T .sectors) f load m b (cell-no-program f p))
+      go false true p q e = taken-data T k f load m b p q ∙ sym (streamed-load (T .sectors) f load m b (and-left (isProgram (f .opcode)) (leb 4 (f .count)) q))
+      go false false p q e = absurd (false≢true e)
 
   -- data comes after the address
   begun : isData f ≡ true → f .count ≡ 0 → ⊥

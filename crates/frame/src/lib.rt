@@ -196,15 +196,15 @@ pub fn streams(f: Frame) -> bool
 pub fn stream(f: Frame, load: &mut [u8; 256], mem: &[u8], sectors: u8, b: u8) -> Exchanged
     ensures { λ r. ⌜ exchange (r .said) (r .frame) (now (load .exit)) ≡ streamed sectors f (now (load .entry)) (now (mem .entry)) b ⌝ }
 {
-    if reads_cell(f) {
-        return drives(
-            cells::byte_at(mem, f.place),
-            read(part::length_of(sectors), f),
-        );
+    if commands::is_program(f.opcode) {
+        let slot = f.slot as usize;
+        load[slot] = b;
+        return floats(load_up(f));
     }
-    let slot = f.slot as usize;
-    load[slot] = b;
-    floats(load_up(f))
+    drives(
+        cells::byte_at(mem, f.place),
+        read(part::length_of(sectors), f),
+    )
 }
 
 // Byte 2 and up of a frame with judgement none.
