@@ -68,6 +68,11 @@ pub applied-exchange : (T : Setting) (c : Chip) (m : List ℕ) (kind b : ℕ) �
 unfolding applied
 applied-exchange T c m kind b e l = rw (e, mod-eq-of-lt l)
 
+-- ticks, as an event
+pub applied-ticks : (T : Setting) (c : Chip) (m : List ℕ) (kind n : ℕ) → kind ≡ TICKS → applied T c m kind n ≡ tick T c m n
+unfolding applied
+applied-ticks T c m kind n e = rw e
+
 -- ---- an event alone
 
 -- done means: a permitted length, an area that is not too long, a legal state, a known kind and a body in its range

@@ -7,19 +7,22 @@ use native.Mathlib.Omega.{arith}
 use lib.ListN.{length, getD, take, drop, take-append-drop}
 use lib.Seq.{drop-drop, length-take-le}
 use Rattle.part.specs.Part.{Setting}
-use Rattle.kinds.specs.Kinds.{EXCHANGE, roomOf}
+use Rattle.kinds.specs.Kinds.{EXCHANGE, TICKS, roomOf}
 use Rattle.kinds.specs.Body.{nextAt, bodyAt}
 use Rattle.chip.specs.declared.Chip.{Chip}
+use Rattle.chip.specs.declared.Core.{Core}
 use Rattle.chip.specs.declared.Frame.{Frame}
 use Rattle.chip.specs.declared.Record.{Record}
+use Rattle.chip.specs.declared.Record.the-variants.{Nothing}
 use Rattle.chip.specs.Chip.{whole}
 use Rattle.chip.specs.Record.{recordBytes}
+use Rattle.job.specs.Tick.{TicksAnswer}
 use Rattle.frame.specs.Frame.{exchange, exchanged}
-use Rattle.event.specs.Event.{Outcome, settleExchange, applied}
-use Rattle.event.specs.Laws.{applied-exchange, said-room}
+use Rattle.event.specs.Event.{Outcome, outcome, settleExchange, applied}
+use Rattle.event.specs.Laws.{applied-exchange, applied-ticks, said-room}
 use Rattle.script.specs.Script.{Refusal, events, eventsFrom, firstBad, room}
 use Rattle.script.specs.Run.{World, world, after, runs, Stored, Playable, Played, finished, done}
-use Rattle.script.specs.Laws.{exchange-body, exchange-next, no-fault, good-event, Good, firstBad-later, room-more, runs-more, runs-none}
+use Rattle.script.specs.Laws.{exchange-body, exchange-next, no-fault, good-event, Good, firstBad-later, room-more, stored-none, runs-more, runs-none}
 
 pub record Playing (T : Setting) (s : List ℕ) (c₀ : Chip) (m₀ out₀ : List ℕ) (c : Chip) (m out : List ℕ) (at pos ticks : ℕ) : Type 0 where
   pub same : runs T (events s) (world c₀ m₀ [] 0) ≡ runs T (eventsFrom s at) (world c m (take pos out) ticks)
@@ -114,6 +117,14 @@ module _ {T : Setting} {s : List ℕ} {c₀ : Chip} {m₀ out₀ : List ℕ} {c 
       exchange-turns pos′ out′ st lo =
           let p : Playing T s c₀ m₀ out₀ (heard .chip) m out′ (nextAt s at) pos′ (ticks + 0) = turns heard pos′ out′ heard-is st (omega arith) refl lo in
           rw (exchange-next s at is-exchange, add-zero ticks) at p
+
+    -- the same of ticks, which say nothing and ask nothing of the frame
+    pub ticks-turn : getD s at 0 ≡ TICKS → (n : ℕ) → n ≡ bodyAt s at → (k′ : Core) (w : ℕ) (held′ m′ : List ℕ) → TicksAnswer (T .sectors) n (c .core) (c .held) m k′ w held′ m′
+        → w < 4294967296 → length m′ ≡ length m → Playing T s c₀ m₀ out₀ (whole k′ (c .frame) (c .load) held′) m′ out (nextAt s at) pos (ticks + w)
+    ticks-turn is-ticks n body k′ w held′ m′ a few kept =
+        turns (outcome k′ (c .frame) (c .load) held′ m′ Nothing w) pos out
+        ((λ i. outcome (a .core i) (c .frame) (c .load) (a .load i) (a .memory i) Nothing (a .working i)) ∙ sym (applied-ticks T c m (getD s at 0) n is-ticks) ∙ ap (applied T c m (getD s at 0)) body)
+        (stored-none out pos Nothing refl) few kept refl
 
   -- after the last event
   pub ends : length s ≤ at → Played T c₀ m₀ s out₀ (finished c pos ticks) m out
