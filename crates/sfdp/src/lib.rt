@@ -119,7 +119,7 @@ pub fn find_table(area: &[u8], identity: u8) -> Found
     }
 }
 
-// The table of an identity itself, as a part of the caller's area; an empty part if refused.
+// The table of an identity: that piece of the caller's own bytes, and none of them if refused.
 pub fn table(area: &[u8], identity: u8) -> &[u8]
     ensures { λ r. ⌜ now r ≡ tableOf (now (area .entry)) identity ⌝ }
 {
