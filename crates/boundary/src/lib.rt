@@ -409,7 +409,6 @@ pub extern "C" fn sfdp_find(area: &[u8], identity: u8) -> TableNumbers
 pub extern "C" fn sfdp_own_area() -> AreaNumbers
     ensures { λ r. ⌜ r ≡ areaNumbers ownArea ⌝ }
 {
-    AreaNumbers {
-        bytes: part::own_area(),
-    }
+    let own = part::own_area();
+    AreaNumbers { bytes: own.bytes }
 }

@@ -11,7 +11,6 @@ use lib.ListN.{length, getD, length-append, List·getD-append}
 use lib.Seq.{getD-append-add}
 use borrow.Author.Tests.{ne-eqb, eqb-false, lt-ltb, le-ltb}
 use Rattle.cells.specs.Choice.{cond-no}
-use Rattle.part.specs.Area.{longestArea}
 use Rattle.part.specs.Part.{permitted, sectorsIn, Setting, settingOf}
 use Rattle.kinds.specs.Kinds.{knownKind, bodyLength, inRange, roomOf}
 use Rattle.kinds.specs.Body.{numberAt, bodyAt, nextAt}
@@ -308,7 +307,7 @@ one-by-one c m area s at h =
     )
 
 -- and a good event of a script is refused by nothing on a legal state of a permitted length, with an area that is not too long
-pub good-alone : (c : Chip) (n extent : ℕ) (s : List ℕ) (at : ℕ) → permitted n ≡ true → extent ≤ longestArea → legal c n ≡ true → faultAt s at ≡ 0
+pub good-alone : (c : Chip) (n extent : ℕ) (s : List ℕ) (at : ℕ) → permitted n ≡ true → extent ≤ 256 → legal c n ≡ true → faultAt s at ≡ 0
     → Alone.refusal c n extent (getD s at 0) (bodyAt s at) ≡ 0
 good-alone c n extent s at p a l z =
     let g = good-event s at z in

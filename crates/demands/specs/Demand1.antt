@@ -12,7 +12,6 @@ use lib.ListN.{length, getD}
 use borrow.Author.Tests.{eq-eqb, ne-eqb, eqb-true, eqb-false, ltb-true, ltb-false}
 use Rattle.cells.specs.Choice.{cond-yes, cond-no, cond-either}
 use Rattle.part.specs.Part.{permitted}
-use Rattle.part.specs.Area.{longestArea}
 use Rattle.chip.specs.declared.Chip.{Chip}
 use Rattle.chip.specs.declared.Record.the-variants.{Nothing}
 use Rattle.legal.specs.Legal.{legal}
@@ -92,9 +91,9 @@ number-when true false true true true =
     }
 
 pub event-refused-when : (c : Chip) (n extent kind body : ℕ)
-    → RefusedWhen (Alone.refusal c n extent kind body) (permitted n) (ltb longestArea extent) (legal c n) (knownKind kind) (inRange kind body)
+    → RefusedWhen (Alone.refusal c n extent kind body) (permitted n) (ltb 256 extent) (legal c n) (knownKind kind) (inRange kind body)
 unfolding Alone.refusal
-event-refused-when c n extent kind body = number-when (permitted n) (ltb longestArea extent) (legal c n) (knownKind kind) (inRange kind body)
+event-refused-when c n extent kind body = number-when (permitted n) (ltb 256 extent) (legal c n) (knownKind kind) (inRange kind body)
 
 -- A refused event leaves chip and memory as they were, says nothing and works no tick.
 pub event-refused-keeps : (c : Chip) (m area : List ℕ) (kind body : ℕ) → (Alone.refusal c (length m) (length area) kind body ≡ 0 → ⊥)
@@ -115,7 +114,7 @@ pub record RunRefusedWhen (r bad : Refusal) (length-permitted area-too-long stat
   pub none : length-permitted ≡ true → area-too-long ≡ false → state-legal ≡ true → too-long ≡ false → clean ≡ true → too-little-room ≡ false → r ≡ refusalOf 0 0
 
 pub run-refused-when : (c : Chip) (n extent : ℕ) (s : List ℕ) (space : ℕ)
-    → RunRefusedWhen (Run.refusal c n extent s space) (firstBad (events s)) (permitted n) (ltb longestArea extent) (legal c n) (ltb 65536 (length s)) (eqb (firstBad (events s) .number) 0) (ltb space (room (events s)))
+    → RunRefusedWhen (Run.refusal c n extent s space) (firstBad (events s)) (permitted n) (ltb 256 extent) (legal c n) (ltb 65536 (length s)) (eqb (firstBad (events s) .number) 0) (ltb space (room (events s)))
 run-refused-when c n extent s space =
     record {
       one = ScriptLaws.refusal-length c n extent s space;
@@ -129,7 +128,7 @@ run-refused-when c n extent s space =
 
 -- A run is done exactly when nothing refuses it: those six tests all pass.
 pub run-done-when : (c : Chip) (n extent : ℕ) (s : List ℕ) (space : ℕ) → Run.refusal c n extent s space .number ≡ 0
-    → (permitted n ≡ true) × (extent ≤ longestArea) × (legal c n ≡ true) × (length s ≤ 65536) × (firstBad (events s) .number ≡ 0) × (room (events s) ≤ space)
+    → (permitted n ≡ true) × (extent ≤ 256) × (legal c n ≡ true) × (length s ≤ 65536) × (firstBad (events s) .number ≡ 0) × (room (events s) ≤ space)
 run-done-when c n extent s space h =
     let a = ScriptLaws.accepted c n extent s space h in
     (a .length-permitted, a .area-short, a .state-legal, a .script-playable .short, a .script-playable .clean, a .script-playable .roomy)
@@ -172,7 +171,7 @@ pub run-refused-keeps : (c : Chip) (m area s out : List ℕ) → (Run.refusal c 
 run-refused-keeps c m area s out no-done = (ScriptLaws.answer-refused c m area s out no-done, ScriptLaws.memory-refused c m area s out no-done, ScriptLaws.output-refused c m area s out no-done)
 
 -- An empty script is done and changes nothing, on every legal state of a permitted length, with any area that is not too long.
-pub empty-script : (c : Chip) (m area out : List ℕ) → permitted (length m) ≡ true → length area ≤ longestArea → legal c (length m) ≡ true
+pub empty-script : (c : Chip) (m area out : List ℕ) → permitted (length m) ≡ true → length area ≤ 256 → legal c (length m) ≡ true
     → (Run.answerOf c m area [] out ≡ record { chip = c; refusal = 0; offset = 0; written = 0; ticks = 0 })
     × (Run.memoryOf c m area [] out ≡ m)
     × (Run.outputOf c m area [] out ≡ out)
@@ -285,7 +284,7 @@ only-when true false true false true false x k =
     }
 
 pub run-refused-only-when : (c : Chip) (n extent : ℕ) (s : List ℕ) (space : ℕ)
-    → RunOnlyWhen (Run.refusal c n extent s space .number) (permitted n) (ltb longestArea extent) (legal c n) (ltb 65536 (length s)) (eqb (firstBad (events s) .number) 0) (ltb space (room (events s)))
+    → RunOnlyWhen (Run.refusal c n extent s space .number) (permitted n) (ltb 256 extent) (legal c n) (ltb 65536 (length s)) (eqb (firstBad (events s) .number) 0) (ltb space (room (events s)))
 unfolding Run.refusal eventsFrom
 run-refused-only-when c n extent s space =
-    only-when (permitted n) (ltb longestArea extent) (legal c n) (ltb 65536 (length s)) (eqb (firstBad (events s) .number) 0) (ltb space (room (events s))) (firstBad (events s)) (bad-known s (length s) 0)
+    only-when (permitted n) (ltb 256 extent) (legal c n) (ltb 65536 (length s)) (eqb (firstBad (events s) .number) 0) (ltb space (room (events s))) (firstBad (events s)) (bad-known s (length s) 0)

@@ -1,18 +1,19 @@
 -- Demand 2 of 5Ah: what the wire shows of the SFDP area, at every byte of a frame, and that it is what the reader hands back (RULES, The SFDP area).
-use Prim.Native.Nat.{ℕ, zero, suc, _+_, _*_, _/_, _%_, _<_, _≤_}
+use Prim.Native.Nat.{ℕ, zero, suc, _+_, _*_, _/_, _%_, _^_, _<_, _≤_}
 use mathlib.Core.Bool.{Bool, true, false, cond, not, _&&_, _||_, false≢true}
 use mathlib.Core.List.{List, [], _∷_, _++_, append-assoc, append-nil}
 use mathlib.Core.Path.{_≡_, refl, sym, ap, subst, _∙_}
 use native.Mathlib.Nat.{add-zero, mod-eq-of-lt, mod-lt, mod-add-mod}
+use native.Mathlib.Decide.{ℕ-discrete}
 use native.Mathlib.Omega.{arith}
 use lib.Dec.{eqb, ltb, leb}
 use lib.ListN.{length, getD, replicate}
-use borrow.Author.Tests.{eqb-true, eq-eqb, le-leb}
-use Rattle.cells.specs.Choice.{cond-either, and-left, and-right, and-both, and-four}
+use borrow.Author.Tests.{eqb-true, eq-eqb, ne-eqb, le-leb}
+use Rattle.cells.specs.Choice.{cond-yes, cond-no, cond-either, and-left, and-right, and-both, and-four}
 use Rattle.part.specs.Part.{Setting, settingOf}
 use Rattle.part.specs.Area.{areaPlaces, areaByte}
 use Rattle.part.specs.Laws.{areaByte-inside}
-use Rattle.commands.specs.Table.{rowOf, rowIn, isProgram, lowPowerRead, highSpeedRead, wake, readSfdp}
+use Rattle.commands.specs.Table.{rowOf, rowIn, isRead, isProgram, lowPowerRead, highSpeedRead, wake, readSfdp}
 use Rattle.kinds.specs.Kinds.{SELECT, EXCHANGE}
 use Rattle.chip.specs.declared.Chip.{Chip}
 use Rattle.chip.specs.declared.Core.{Core}
@@ -21,11 +22,12 @@ use Rattle.chip.specs.declared.JobKind.{JobKind}
 use Rattle.chip.specs.declared.JobKind.the-variants.{Idle, WriteStatus, Program, SmallErase, SectorErase, ChipErase}
 use Rattle.chip.specs.declared.Record.the-variants.{Driven}
 use Rattle.chip.specs.Job.{isJob, hasCells}
-use Rattle.chip.specs.Chip.{whole, emptyFrame}
+use Rattle.chip.specs.Chip.{whole, emptyFrame, running}
 use Rattle.legal.specs.Legal.{legal, isEmpty, isBlank, tidy}
 use Rattle.legal.specs.Legality.{chip-facts}
 use Rattle.frame.specs.Frame.{judge, nextPlace, reading, exchange, taken, exchanged}
 use Rattle.frame.specs.Laws.{taken-area, exchanged-taken}
+use Rattle.verdict.specs.Verdict.{listed, verdict}
 use Rattle.event.specs.Event.{Outcome, settleExchange, applied}
 use Rattle.script.specs.Script.{Event}
 use Rattle.script.specs.Run.{World, world, after, does, onward, runs}
@@ -45,7 +47,7 @@ sends (b ∷ bs) = event EXCHANGE b ∷ sends bs
 
 -- a select, the opcode, an address of three bytes with the high one first, and a dummy
 abbrev pub opening : ℕ → ℕ → List Event
-opening p dummy = event SELECT 0 ∷ sends (readSfdp ∷ p / 65536 ∷ p / 256 % 256 ∷ p % 256 ∷ dummy ∷ [])
+opening p dummy = event SELECT 0 ∷ sends (0x5A ∷ p / 65536 ∷ p / 256 % 256 ∷ p % 256 ∷ dummy ∷ [])
 
 -- a chip that can take it: idle, awake, unselected
 pub record Resting (c : Chip) : Type 0 where
@@ -56,7 +58,30 @@ pub record Resting (c : Chip) : Type 0 where
 -- what a read of n bytes from place p on drives, as a run writes it (RULES, Records)
 unfoldable pub drivenFrom : List ℕ → ℕ → ℕ → List ℕ
 drivenFrom area p zero = []
-drivenFrom area p (suc n) = 0x81 ∷ areaByte area p ∷ drivenFrom area ((p + 1) % areaPlaces) n
+drivenFrom area p (suc n) = 0x81 ∷ getD area p 0xFF ∷ drivenFrom area ((p + 1) % 2 ^ 24) n
+
+-- ---- when 5Ah is taken
+
+-- Asleep it is judged 5, while a job runs 6, while one is suspended 7, and otherwise not at all.
+pub sfdp-judged : (k : Core) → judge k 0x5A ≡ cond (k .deep) 5 (cond (running k) 6 (cond (k .suspended) 7 0))
+unfolding judge rowOf rowIn
+sfdp-judged k = go (k .deep) (running k) (k .suspended)
+  where
+    go : (d r s : Bool) → _≡_ {A = ℕ} (cond (d && true) 5 (cond (r && true) 6 (cond (s && true) 7 0))) (cond d 5 (cond r 6 (cond s 7 0)))
+    go true r s = refl
+    go false true s = refl
+    go false false true = refl
+    go false false false = refl
+
+-- The verdict of a 5Ah frame that was not judged is what it would be judged at its end: 0, at any length and loose or not, if nothing stops it.
+pub sfdp-verdict : (S : ℕ) (k : Core) (f : Frame) (loose : Bool) → f .opcode ≡ 0x5A → (f .count ≡ 0 → ⊥) → f .judgement ≡ 0 → verdict S k f loose ≡ judge k 0x5A
+unfolding verdict listed isRead
+sfdp-verdict S k f loose is-sfdp some none =
+    cond-no (eqb (f .count) 0) _ _ (ne-eqb _ _ some) ∙ cond-no (not (eqb (f .judgement) 0)) _ _ (ap not (eq-eqb _ _ none)) ∙ go (ℕ-discrete (judge k (f .opcode)) 0) ∙ ap (judge k) is-sfdp
+  where
+    go : Dec (judge k (f .opcode) ≡ 0) → listed S k f loose ≡ judge k (f .opcode)
+    go (yes z) = cond-no (not (eqb (judge k (f .opcode)) 0)) _ _ (ap not (eq-eqb _ _ z)) ∙ cond-yes (isRead (f .opcode)) _ _ (ap isRead is-sfdp) ∙ sym z
+    go (no z) = cond-yes (not (eqb (judge k (f .opcode)) 0)) _ _ (ap not (ne-eqb _ _ z))
 
 -- ---- a chip at rest takes 5Ah
 
@@ -78,14 +103,8 @@ not-suspended c n l idle = go (c .core .suspended) refl
 
 -- so nothing stops 5Ah at its opcode byte
 unstopped : (k : Core) → isJob (k .job .kind) ≡ false → k .deep ≡ false → k .suspended ≡ false → judge k readSfdp ≡ 0
-unfolding judge rowOf rowIn
-unstopped k = go (isJob (k .job .kind)) (k .deep) (k .suspended)
-  where
-    go : (j d s : Bool) → j ≡ false → d ≡ false → s ≡ false → _≡_ {A = ℕ} (cond (d && true) 5 (cond (j && not s && true) 6 (cond (s && true) 7 0))) 0
-    go false false false idle awake none = refl
-    go true d s idle awake none = absurd (false≢true (sym idle))
-    go false true s idle awake none = absurd (false≢true (sym awake))
-    go false false true idle awake none = absurd (false≢true (sym none))
+unstopped k idle awake unsuspended =
+    sfdp-judged k ∙ cond-no (k .deep) _ _ awake ∙ cond-no (running k) _ _ (ap (λ (job : Bool). job && not (k .suspended)) idle) ∙ cond-no (k .suspended) _ _ unsuspended
 
 -- and its frame is the empty one
 unselected-empty : (f : Frame) (load : List ℕ) → tidy f load ≡ true → f .selected ≡ false → isEmpty f ≡ true
@@ -208,7 +227,7 @@ module _ (T : Setting) (k : Core) (load held m : List ℕ) where
 
 -- ---- the theorems
 
-module _ (c : Chip) (m area : List ℕ) (p dummy : ℕ) (bs : List ℕ) (l : legal c (length m) ≡ true) (rests : Resting c) (small : p < areaPlaces) where
+module _ (c : Chip) (m area : List ℕ) (p dummy : ℕ) (bs : List ℕ) (l : legal c (length m) ≡ true) (rests : Resting c) (small : p < 2 ^ 24) where
   abbrev T : Setting
   T = settingOf (length m) area
 
@@ -228,7 +247,7 @@ module _ (c : Chip) (m area : List ℕ) (p dummy : ℕ) (bs : List ℕ) (l : leg
   sfdp-read = ap (λ (w : World). w .written) opened-as ∙ data-written T (c .core) (c .load) (c .held) m bs p (atData p) (replicate 5 0x80) small (first-reads p)
 
   -- The j-th data byte, j bytes having gone before, is what stands at (address + j) mod 2^24.
-  pub sfdp-goes-round : (b : ℕ) → does T (event EXCHANGE b) (runs T (opening p dummy ++ sends bs) (world c m [] 0)) .said ≡ Driven (areaByte area ((p + length bs) % areaPlaces))
+  pub sfdp-goes-round : (b : ℕ) → does T (event EXCHANGE b) (runs T (opening p dummy ++ sends bs) (world c m [] 0)) .said ≡ Driven (getD area ((p + length bs) % 2 ^ 24) 0xFF)
   sfdp-goes-round b = ap (λ (w : World). does T (event EXCHANGE b) w .said) opened-as ∙ data-said T (c .core) (c .load) (c .held) m bs p (atData p) b (replicate 5 0x80) small (first-reads p)
 
 -- What the wire shows is what the reader gives: the j-th data byte of a 5Ah frame at a table's pointer is byte j of the part that the reader hands back.

@@ -1,8 +1,8 @@
 -- What is true of a frame: each way that an exchange goes, and what it leaves alone.
 use Prim.Native.Nat.{ℕ}
-use mathlib.Core.Bool.{Bool, true, false, cond, not, _&&_, false≢true}
+use mathlib.Core.Bool.{Bool, true, false, cond, not, _&&_, _||_, false≢true}
 use mathlib.Core.List.{List}
-use mathlib.Core.Path.{_≡_, refl, sym, ap, _∙_}
+use mathlib.Core.Path.{_≡_, refl, sym, ap, subst, _∙_}
 use native.Mathlib.Omega.{arith}
 use lib.Dec.{eqb, leb}
 use lib.ListN.{getD, set}
@@ -10,12 +10,23 @@ use borrow.Author.Tests.{eq-eqb, ne-eqb, eqb-true}
 use Rattle.cells.specs.Choice.{cond-yes, cond-no}
 use Rattle.part.specs.Part.{Setting, lengthOf, jedecByte, jedecCycle, deviceByte}
 use Rattle.part.specs.Area.{areaPlaces, areaByte}
-use Rattle.commands.specs.Table.{rowOf, readStatus, jedecId, wake}
+use Rattle.commands.specs.Table.{rowOf, readStatus, lowPowerRead, highSpeedRead, jedecId, wake}
 use Rattle.chip.specs.declared.Core.{Core}
 use Rattle.chip.specs.declared.Frame.{Frame}
 use Rattle.chip.specs.declared.Record.the-variants.{Floating, Driven}
 use Rattle.chip.specs.Chip.{running, statusByte}
 use Rattle.frame.specs.Frame.{judge, exchange, opened, counting, reading, loading, addressing, readsCell, takesData, readsArea, taken, exchanged}
+
+-- ---- a read of cells
+
+-- what holds of 03h and of 0Bh holds of the opcode of a read of cells
+pub cell-each : (P : ℕ → Type 0) → P lowPowerRead → P highSpeedRead → (f : Frame) → readsCell f ≡ true → P (f .opcode)
+cell-each P low high f h = go (eqb (f .opcode) lowPowerRead) (eqb (f .opcode) highSpeedRead) refl refl h
+  where
+    go : (a b : Bool) → eqb (f .opcode) lowPowerRead ≡ a → eqb (f .opcode) highSpeedRead ≡ b → (a && leb 4 (f .count) || b && leb 5 (f .count)) ≡ true → P (f .opcode)
+    go true b p q e = subst P (sym (eqb-true (f .opcode) lowPowerRead p)) low
+    go false true p q e = subst P (sym (eqb-true (f .opcode) highSpeedRead q)) high
+    go false false p q e = absurd (false≢true e)
 
 -- ---- byte 2 and up, by what the frame is
 

@@ -11,7 +11,7 @@ use borrow.Author.Tests.{eqb-true, eqb-false, eq-eqb, ne-eqb, not-true, not-fals
 use Rattle.cells.specs.Choice.{cond-either, cond-yes, cond-no, and-left, and-right}
 use Rattle.part.specs.Part.{Setting, lengthOf, reduced, jedecByte, jedecCycle, deviceByte}
 use Rattle.part.specs.Area.{areaPlaces, areaByte}
-use Rattle.commands.specs.Table.{rowOf, lowPowerRead, highSpeedRead, readStatus, jedecId, wake, readSfdp}
+use Rattle.commands.specs.Table.{rowOf, readStatus, jedecId, wake, readSfdp}
 use Rattle.chip.specs.declared.Core.{Core}
 use Rattle.chip.specs.declared.Frame.{Frame}
 use Rattle.chip.specs.declared.Record.the-variants.{Floating, Driven}
@@ -19,6 +19,7 @@ use Rattle.chip.specs.Chip.{running, statusByte}
 use Rattle.legal.specs.Legal.{judgementKnown, readPlaces, isEmpty, isBlank, tidy}
 use Rattle.legal.specs.Legality.{LegalFrame, unbegun-empty}
 use Rattle.frame.specs.Frame.{judge, counted, shifted, nextPlace, opened, counting, reading, loading, firstPlace, addressing, readsCell, takesData, readsArea, Exchange, exchange, taken, exchanged}
+use Rattle.frame.specs.Laws.{cell-each}
 
 -- ---- a judgement is none, 3, 5, 6 or 7
 
@@ -51,12 +52,7 @@ readPlaces-some S opcode h =
 
 -- a read of cells has the cells for its places
 cells-places : (S : ℕ) (f : Frame) → readsCell f ≡ true → readPlaces S (f .opcode) ≡ lengthOf S
-cells-places S f h = go (eqb (f .opcode) lowPowerRead) (eqb (f .opcode) highSpeedRead) refl refl h
-  where
-    go : (a b : Bool) → eqb (f .opcode) lowPowerRead ≡ a → eqb (f .opcode) highSpeedRead ≡ b → (a && leb 4 (f .count) || b && leb 5 (f .count)) ≡ true → readPlaces S (f .opcode) ≡ lengthOf S
-    go true b p q e = ap (λ (opcode : ℕ). readPlaces S opcode) (eqb-true (f .opcode) lowPowerRead p)
-    go false true p q e = ap (λ (opcode : ℕ). readPlaces S opcode) (eqb-true (f .opcode) highSpeedRead q)
-    go false false p q e = absurd (false≢true e)
+cells-places S f h = cell-each (λ (opcode : ℕ). readPlaces S opcode ≡ lengthOf S) refl refl f h
 
 -- a read of the area has the places of 5Ah
 area-places : (S : ℕ) (f : Frame) → readsArea f ≡ true → readPlaces S (f .opcode) ≡ areaPlaces

@@ -2,7 +2,7 @@
 use Prim.Native.Nat.{ℕ}
 use mathlib.Core.Bool.{Bool, true, false, _&&_, _||_, false≢true}
 use mathlib.Core.List.{List}
-use mathlib.Core.Path.{_≡_, refl, sym, ap, subst, _∙_}
+use mathlib.Core.Path.{_≡_, refl, sym, subst, _∙_}
 use lib.Dec.{eqb, leb}
 use lib.ListN.{getD, set}
 use borrow.Author.Tests.{eqb-true}
@@ -13,7 +13,7 @@ use Rattle.chip.specs.declared.Core.{Core}
 use Rattle.chip.specs.declared.Frame.{Frame}
 use Rattle.chip.specs.declared.Record.the-variants.{Floating, Driven}
 use Rattle.frame.specs.Frame.{exchange, reading, loading, readsCell, takesData, taken, exchanged}
-use Rattle.frame.specs.Laws.{taken-cell, taken-data, exchanged-taken}
+use Rattle.frame.specs.Laws.{cell-each, taken-cell, taken-data, exchanged-taken}
 use Rattle.frame.specs.Stream.{isData, streams, streamed}
 
 module _ (S : ℕ) (f : Frame) (load m : List ℕ) (b : ℕ) where
@@ -28,12 +28,7 @@ module _ (S : ℕ) (f : Frame) (load m : List ℕ) (b : ℕ) where
 -- a read of cells is no program
 cell-no-program : (f : Frame) → readsCell f ≡ true → isProgram (f .opcode) ≡ false
 unfolding isProgram
-cell-no-program f h = go (eqb (f .opcode) lowPowerRead) (eqb (f .opcode) highSpeedRead) refl refl h
-  where
-    go : (a b : Bool) → eqb (f .opcode) lowPowerRead ≡ a → eqb (f .opcode) highSpeedRead ≡ b → (a && leb 4 (f .count) || b && leb 5 (f .count)) ≡ true → isProgram (f .opcode) ≡ false
-    go true b p q e = ap isProgram (eqb-true (f .opcode) lowPowerRead p)
-    go false true p q e = ap isProgram (eqb-true (f .opcode) highSpeedRead q)
-    go false false p q e = absurd (false≢true e)
+cell-no-program = cell-each (λ (opcode : ℕ). isProgram opcode ≡ false) refl refl
 
 -- a byte that is no data byte is of neither kind
 neither : (a b : Bool) → (a || b) ≡ false → (a ≡ false) × (b ≡ false)

@@ -156,7 +156,8 @@ fn main() {
     let mut twin = [90u8; 65536];
     let old = [90u8; 256];
     let blank = [255u8; 4096];
-    let area = part::own_area();
+    let own = part::own_area();
+    let area = own.bytes;
     let chip = Chip::fresh(0);
     let fresh = Pair {
         lent: chip,

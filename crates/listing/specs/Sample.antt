@@ -20,6 +20,11 @@ pub sample : reportOf (0x01 ∷ 0x02 ∷ 0x06 ∷ 0x03 ∷ 0x01 ∷ 0x02 ∷ 0x0
 unfolding permitted rowIn rowOf fitsRule isRead isProgram knownIn kindRowIn knownKind kindRow fresh statusByte legalJob legalCore legalFrame isEmpty isBlank legal judge taken exchanged jobOf jobVerdict commandVerdict listed verdict instantly acted settled applied faultAt walk eventsFrom firstBad room runs refusal worldAfter answerOf spelled lineOf partLine doneLine linesOf answerText runText reportOf
 sample = refl
 
+-- 5Ah at 000000h, one byte: the program's area is empty
+pub sfdp-empty : reportOf (0x01 ∷ 0x02 ∷ 0x5A ∷ 0x02 ∷ 0x00 ∷ 0x02 ∷ 0x00 ∷ 0x02 ∷ 0x00 ∷ 0x02 ∷ 0x00 ∷ 0x02 ∷ 0x00 ∷ 0x03 ∷ []) ≡ ascii "part 65536\n1 --\n3 --\n5 --\n7 --\n9 --\n11 FF\n13 V0\nanswer 0 ticks 0\n"
+unfolding permitted rowIn rowOf isRead isProgram knownIn kindRowIn knownKind kindRow fresh legalJob legalCore legalFrame isEmpty isBlank legal judge taken exchanged listed verdict acted settled applied faultAt walk eventsFrom firstBad room runs refusal worldAfter answerOf spelled lineOf partLine doneLine linesOf answerText runText reportOf
+sfdp-empty = refl
+
 -- a tick, and then a kind that there is not
 pub refused : reportOf (0x04 ∷ 0x09 ∷ []) ≡ ascii "part 65536\nanswer 5 at 1\n"
 unfolding permitted knownIn kindRowIn knownKind kindRow fresh legalJob legalCore legalFrame isEmpty isBlank legal faultAt walk eventsFrom firstBad refusal answerOf spelled partLine refusedLine answerText runText reportOf

@@ -8,6 +8,11 @@ ghost use Rattle.part.specs.Protection.{protectedCount, protectedSector}
 
 mod sfdp;
 
+// An SFDP area of the part's own length.
+pub struct OwnArea {
+    pub bytes: [u8; 208],
+}
+
 // The part's own numbers are constants of this type; it holds nothing.
 pub struct Part {}
 
@@ -85,10 +90,10 @@ pub fn area_byte(area: &[u8], place: usize) -> u8
 }
 
 // The part's own SFDP area, for a bench to lend.
-pub fn own_area() -> [u8; 208]
-    ensures { λ r. ⌜ r ≡ ownArea ⌝ }
+pub fn own_area() -> OwnArea
+    ensures { λ r. ⌜ r ≡ record { bytes = ownArea } ⌝ }
 {
-    Part::SFDP
+    OwnArea { bytes: Part::SFDP }
 }
 
 fn smaller(a: u8, b: u8) -> u8
