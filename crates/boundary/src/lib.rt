@@ -410,5 +410,6 @@ pub extern "C" fn sfdp_own_area() -> AreaNumbers
     ensures { λ r. ⌜ r ≡ areaNumbers ownArea ⌝ }
 {
     let own = part::own_area();
-    AreaNumbers { bytes: own.bytes }
+    let bytes = own.bytes;
+    AreaNumbers { bytes: bytes }
 }

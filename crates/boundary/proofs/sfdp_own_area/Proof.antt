@@ -10,7 +10,7 @@ own-area-requires : tie.Need-own-area-requires
 own-area-requires c κs = search needs
 
 returns : tie.Need-returns
-returns c = ap (λ (own : OwnArea). areaNumbers (own .bytes)) (c .own-area .ensures)
+returns c = ap (λ (own : OwnArea). areaNumbers (own .bytes)) (c .before .own-area .ensures)
 
 pub sfdp-own-area-spec : {M : Type 1} → statement M
 sfdp-own-area-spec = tie.close (tie.spec own-area-requires returns)
