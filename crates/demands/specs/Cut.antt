@@ -27,7 +27,7 @@ use Rattle.event.specs.Keeps.{length-applied}
 use Rattle.event.specs.Leftovers.{no-leftovers-applied}
 use Rattle.script.specs.Script.{Event, faultAt, eventAt, eventsFrom, events, Refusal, refusalOf, firstBad, room}
 use Rattle.script.specs.Run.{World, world, does, onward, runs, worldAfter}
-use Rattle.demands.specs.Demand1.{event-refused-when}
+use Rattle.demands.specs.Refusals.{event-refused-when}
 use Rattle.script.specs.Laws.{events-none, events-more, no-fault, good-event, Good, firstBad-later, runs-add}
 
 -- ---- events further on

@@ -32,7 +32,7 @@ use Rattle.script.specs.Run.{World, world, runs}
 use Rattle.script.specs.Laws.{runs-add}
 use Rattle.chip.specs.declared.JobKind.the-variants.{Program, SmallErase}
 use Rattle.demands.specs.JobSteps.{Spares, replaces}
-use Rattle.demands.specs.Demand3.{UnderWay, AllSpare, workedBy, k-steps, end-image}
+use Rattle.demands.specs.Stepwise.{UnderWay, AllSpare, workedBy, k-steps, end-image}
 
 -- ---- how a row is written
 

@@ -1,7 +1,9 @@
-pub mod JobSteps
-pub mod Demand3
+pub mod Model
 pub mod Demand1
-pub mod Demand2
+pub mod JobSteps
+pub mod Stepwise
+pub mod Refusals
+pub mod Datasheet
 pub mod Sfdp
 pub mod Unique
 pub mod Cut

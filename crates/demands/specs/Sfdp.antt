@@ -34,7 +34,7 @@ use Rattle.script.specs.Run.{World, world, after, does, onward, runs}
 use Rattle.script.specs.Laws.{runs-add}
 use Rattle.sfdp.specs.Reader as Reader
 use Rattle.sfdp.specs.Laws as ReaderLaws
-use Rattle.demands.specs.Demand2.{nextPlace-mod}
+use Rattle.demands.specs.Datasheet.{nextPlace-mod}
 
 -- ---- a 5Ah frame, as events
 
