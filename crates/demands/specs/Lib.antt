@@ -3,6 +3,7 @@ pub mod Demand1
 pub mod JobSteps
 pub mod Stepwise
 pub mod Refusals
+pub mod Ours
 pub mod Datasheet
 pub mod Sfdp
 pub mod Unique
