@@ -1,5 +1,6 @@
 pub mod Model
 pub mod Demand1
+pub mod Demand2
 pub mod JobSteps
 pub mod Stepwise
 pub mod Refusals
