@@ -1,6 +1,7 @@
 pub mod Model
 pub mod Demand1
 pub mod Demand2
+pub mod Demand3
 pub mod JobSteps
 pub mod Stepwise
 pub mod Refusals
