@@ -314,7 +314,7 @@ pub record Demand2 (M : Model) : Type 0 where
   -- the opcode byte floats and is judged; the first byte of a frame is the opcode
   pub opcode-byte : (c : Chip) (m area : List ℕ) (b : ℕ) → Fit c m area → b ≤ 255 → c .frame .selected ≡ true → c .frame .count ≡ 0
       → M c m area 0x02 b
-      ≡ reply (whole (c .core) (record { selected = true; opcode = b; address = 0; place = 0; slot = 0; count = 1; judgement = stopOf (c .core) b }) blankLoad (c .held)) m (0x80 ∷ []) 0
+      ≡ reply (whole (c .core) (record { selected = true; opcode = b; address = 0; place = 0; slot = 0; count = 1; judgement = stopOf (c .core) b }) (c .load) (c .held)) m (0x80 ∷ []) 0
   -- reads, the status, frames that are stopped
   pub cell-reads : (c : Chip) (m area : List ℕ) → Quiet c m area → CellReads M c m area
   pub other-reads : (c : Chip) (m area : List ℕ) → Ready c m area → OtherReads M c m area

@@ -6,6 +6,8 @@ pub mod JobSteps
 pub mod Stepwise
 pub mod Refusals
 pub mod Ours
+pub mod Verdicts
+pub mod EventRules
 pub mod Datasheet
 pub mod Sfdp
 pub mod Unique
