@@ -1,0 +1,203 @@
+-- Wrong models of the part: each is ours with one thing changed, so that nothing else can be what refutes it. `Refuted` has the theorems.
+use Prim.Native.Nat.{ℕ, zero, suc, _+_, _*_, _%_, _-_}
+use mathlib.Core.Bool.{Bool, true, false, cond, not, _&&_, _||_}
+use mathlib.Core.List.{List, [], _∷_}
+use lib.Dec.{eqb, ltb}
+use lib.ListN.{length, getD}
+use Rattle.cells.specs.Cells.{Rule, sweep, later}
+use Rattle.part.specs.Part.{sectorsIn}
+use Rattle.chip.specs.declared.Chip.{Chip}
+use Rattle.chip.specs.declared.Core.{Core}
+use Rattle.chip.specs.declared.Job.{Job}
+use Rattle.chip.specs.declared.JobKind.{JobKind}
+use Rattle.chip.specs.declared.JobKind.the-variants.{Idle, WriteStatus, Program, SmallErase, SectorErase, ChipErase}
+use Rattle.chip.specs.Fields.{withWen, withArmed, withJudgement}
+use Rattle.chip.specs.Chip.{whole, running}
+use Rattle.chip.specs.Job.{total}
+use Rattle.demands.specs.Model.{Reply, Model, ours}
+
+-- ---- how a model is changed
+
+-- where ours is done and a test of the chip, the kind and the record holds, the answer is another one; everywhere else it is ours
+abbrev pub except : (Chip → ℕ → List ℕ → Bool) → Model → Model
+except here other c m area kind body =
+    let r : Reply = ours c m area kind body in
+    cond (eqb (r .refusal) 0 && here c kind (r .says)) (other c m area kind body) r
+
+-- an answer with another chip, memory, record or number of ticks
+abbrev pub leaving : Chip → Reply → Reply
+leaving c r = record { chip = c; memory = r .memory; says = r .says; ticks = r .ticks; refusal = r .refusal }
+
+abbrev pub keeping : List ℕ → Reply → Reply
+keeping m r = record { chip = r .chip; memory = m; says = r .says; ticks = r .ticks; refusal = r .refusal }
+
+abbrev pub saying : List ℕ → Reply → Reply
+saying bytes r = record { chip = r .chip; memory = r .memory; says = bytes; ticks = r .ticks; refusal = r .refusal }
+
+abbrev pub counting : ℕ → Reply → Reply
+counting n r = record { chip = r .chip; memory = r .memory; says = r .says; ticks = n; refusal = r .refusal }
+
+-- a chip with another core, another load of its frame, another load of its job
+abbrev pub withCore : Core → Chip → Chip
+withCore k c = whole k (c .frame) (c .load) (c .held)
+
+abbrev pub withLoad : List ℕ → Chip → Chip
+withLoad load c = whole (c .core) (c .frame) load (c .held)
+
+abbrev pub withHeld : List ℕ → Chip → Chip
+withHeld held c = whole (c .core) (c .frame) (c .load) held
+
+-- ---- where
+
+-- ticks that find a job running
+abbrev pub onWork : Chip → ℕ → Bool
+onWork c kind = (eqb kind 0x04 || eqb kind 0x05) && running (c .core)
+
+-- a byte is driven; a frame ends with this verdict
+abbrev pub drives : List ℕ → Bool
+drives says = eqb (getD says 0 0) 0x81
+
+abbrev pub ends : ℕ → Chip → List ℕ → Bool
+ends v c says = c .frame .selected && eqb (getD says 0 0) 0x82 && eqb (getD says 1 0) v
+
+-- programs, erases and reads of cells
+abbrev pub programs : Chip → Bool
+programs c = eqb (c .frame .opcode) 0x02 || eqb (c .frame .opcode) 0x0A
+
+abbrev pub erases : Chip → Bool
+erases c = eqb (c .frame .opcode) 0x20 || eqb (c .frame .opcode) 0xD7 || eqb (c .frame .opcode) 0xD8 || eqb (c .frame .opcode) 0x60 || eqb (c .frame .opcode) 0xC7
+
+abbrev pub readsCells : Chip → Bool
+readsCells c = eqb (c .frame .opcode) 0x03 || eqb (c .frame .opcode) 0x0B
+
+-- a data byte of a page program that is loaded
+abbrev pub onData : Chip → ℕ → Bool
+onData c kind = eqb kind 0x02 && programs c && not (ltb (c .frame .count) 4) && eqb (c .frame .judgement) 0
+
+-- ---- models that are wrong as a whole
+
+-- it answers as if each event had been done, and does nothing
+abbrev pub ignoresAll : Model
+ignoresAll c m area kind body = counting 0 (leaving c (keeping m (ours c m area kind body)))
+
+-- it refuses every event by 5
+abbrev pub refusesEvents : Model
+refusesEvents c m area kind body = record { chip = c; memory = m; says = []; ticks = 0; refusal = 5 }
+
+-- it gives verdict 3 to every command that is done or begun, and does nothing
+abbrev pub refusesCommands : Model
+refusesCommands =
+    except (λ c kind says. ends 1 c says || ends 2 c says)
+    (λ c m area kind body. let r : Reply = ours c m area kind body in saying (0x82 ∷ 3 ∷ []) (leaving (withHeld (c .held) (withCore (withArmed false (c .core)) (r .chip))) r))
+
+-- every byte that it drives is FFh
+abbrev pub readsBlank : Model
+readsBlank = except (λ c kind says. drives says) (λ c m area kind body. saying (0x81 ∷ 0xFF ∷ []) (ours c m area kind body))
+
+-- its ticks change no cell
+abbrev pub ticksIdle : Model
+ticksIdle = except (λ c kind says. onWork c kind) (λ c m area kind body. keeping m (ours c m area kind body))
+
+-- the first tick that finds a job running does all of it
+abbrev pub stepsLeft : Chip → List ℕ → ℕ
+stepsLeft c m = total (c .core .job .kind) (sectorsIn (length m)) - c .core .job .done
+
+abbrev pub wholeJobAtOnce : Model
+wholeJobAtOnce = except (λ c kind says. onWork c kind) (λ c m area kind body. counting 1 (ours c m area 0x05 (stepsLeft c m)))
+
+-- it counts one working tick too many
+abbrev pub inventsTicks : Model
+inventsTicks = except (λ c kind says. onWork c kind) (λ c m area kind body. counting (suc (ours c m area kind body .ticks)) (ours c m area kind body))
+
+-- ---- errors that look right
+
+-- n numbers of a row, from number i on
+abbrev pub row : (ℕ → ℕ) → ℕ → ℕ → List ℕ
+row f i zero = []
+row f i (suc n) = f i ∷ row f (suc i) n
+
+-- a program begins with another load, made of the frame's; the oldest of the last 256 data bytes stands at the frame's load place
+abbrev pub laying : (Chip → ℕ → ℕ) → Model
+laying f =
+    except (λ c kind says. ends 2 c says && programs c) (λ c m area kind body. let r : Reply = ours c m area kind body in leaving (withHeld (row (λ q. getD (c .load) (f c q) 0) 0 256) (r .chip)) r)
+
+-- the last 256 data bytes are kept, and laid down from the page's start; or from the address on
+abbrev pub laysFromPageStart : Model
+laysFromPageStart = laying (λ c q. (c .frame .slot + q) % 256)
+
+abbrev pub laysFromAddress : Model
+laysFromAddress = laying (λ c q. (c .frame .slot + 256 + q - c .frame .address % 256) % 256)
+
+-- a program stores its byte, where a cell can only lose bits
+abbrev pub stored : List ℕ → Rule
+stored load j old = getD load (j % 256) 0
+
+abbrev pub isProgramJob : JobKind → Bool
+isProgramJob Idle = false
+isProgramJob (WriteStatus value) = false
+isProgramJob Program = true
+isProgramJob SmallErase = false
+isProgramJob SectorErase = false
+isProgramJob ChipErase = false
+
+abbrev pub storesBytes : Model
+storesBytes =
+    except (λ c kind says. onWork c kind && isProgramJob (c .core .job .kind))
+    (λ c m area kind body.
+    let r : Reply = ours c m area kind body in
+    let j : Job = c .core .job in
+    keeping (sweep (later (stored (c .held)) (j .done * 16)) m (j .start + j .done * 16) (r .ticks * 16)) r)
+
+-- verdict 9 or 10 costs WEN
+abbrev pub costsWen : (Chip → List ℕ → Bool) → Model
+costsWen here = except (λ c kind says. here c says) (λ c m area kind body. let r : Reply = ours c m area kind body in leaving (withCore (withWen false (r .chip .core)) (r .chip)) r)
+
+abbrev pub nineTenCostWen : Model
+nineTenCostWen = costsWen (λ c says. ends 9 c says || ends 10 c says)
+
+-- a spoiled program frame, sent in suspension, overwrites the suspended job's load
+abbrev pub spoiltLoads : Model
+spoiltLoads =
+    except (λ c kind says. ends 4 c says && programs c && c .core .suspended)
+    (λ c m area kind body. let r : Reply = ours c m area kind body in leaving (withHeld (c .load) (r .chip)) r)
+
+-- a read of cells begun while a job ran is answered once the job has ended
+abbrev pub answersLate : Model
+answersLate =
+    except (λ c kind says. eqb kind 0x02 && eqb (c .frame .judgement) 6 && readsCells c && not (running (c .core)))
+    (λ c m area kind body. ours (whole (c .core) (withJudgement 0 (c .frame)) (c .load) (c .held)) m area kind body)
+
+-- ---- our three earlier versions
+
+-- the first: a read that has passed the memory's end gives FFh
+abbrev pub firstReads : Model
+firstReads c m area kind body =
+    except (λ c′ kind′ says. drives says && readsCells c′ && ltb (c′ .frame .place) (c′ .frame .address % length m)) (λ c′ m′ area′ kind′ body′. saying (0x81 ∷ 0xFF ∷ []) (ours c′ m′ area′ kind′ body′)) c m area kind body
+
+-- the first: a data byte past offset 255 does not fold back into its page
+abbrev pub firstLoads : Model
+firstLoads =
+    except (λ c kind says. onData c kind && ltb (c .frame .slot) (c .frame .address % 256)) (λ c m area kind body. let r : Reply = ours c m area kind body in leaving (withLoad (c .load) (r .chip)) r)
+
+-- the second: the first 256 bytes of a long load are kept
+abbrev pub secondLoads : Model
+secondLoads =
+    except (λ c kind says. onData c kind && eqb (c .frame .count) 6 && eqb (c .frame .slot) (c .frame .address % 256)) (λ c m area kind body. leaving c (ours c m area kind body))
+
+-- the second: a program that is refused costs WEN
+abbrev pub secondWen : Model
+secondWen = costsWen (λ c says. c .frame .selected && programs c && eqb (getD says 0 0) 0x82 && ltb 2 (getD says 1 0))
+
+-- the third: an erase is done in the moment that begins it
+abbrev pub thirdErases : Model
+thirdErases =
+    except (λ c kind says. ends 2 c says && erases c)
+    (λ c m area kind body.
+    let r : Reply = ours c m area kind body in
+    counting 0 (saying (r .says) (ours (r .chip) (r .memory) area 0x05 (stepsLeft (r .chip) m))))
+
+-- the third: a suspend finds nothing
+abbrev pub thirdSuspends : Model
+thirdSuspends =
+    except (λ c kind says. ends 1 c says && eqb (c .frame .opcode) 0xB0)
+    (λ c m area kind body. let r : Reply = ours c m area kind body in saying (0x82 ∷ 11 ∷ []) (leaving (withCore (withArmed false (c .core)) (r .chip)) r))
