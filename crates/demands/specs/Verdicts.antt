@@ -92,18 +92,19 @@ module _ (n : ℕ) (whole-sectors : lengthOf (sectorsIn n) ≡ n) (k : Core) (ad
 
 -- ---- the whole list
 
+-- five tests in a row, written either way
+pub five-tests : (a b c d e : Bool) → (a || b || c || d || e) ≡ (a || (b || (c || (d || (e || false)))))
+five-tests true b c d e = refl
+five-tests false true c d e = refl
+five-tests false false true d e = refl
+five-tests false false false true e = refl
+five-tests false false false false true = refl
+five-tests false false false false false = refl
+
 -- the reads of the definitions are those of the list
 read-among : (opcode : ℕ) → isRead opcode ≡ among (0x05 ∷ 0x03 ∷ 0x0B ∷ 0x9F ∷ 0x5A ∷ []) opcode
 unfolding isRead
-read-among opcode = go (eqb opcode 0x05) (eqb opcode 0x03) (eqb opcode 0x0B) (eqb opcode 0x9F) (eqb opcode 0x5A)
-  where
-    go : (a b c d e : Bool) → (a || b || c || d || e) ≡ (a || (b || (c || (d || (e || false)))))
-    go true b c d e = refl
-    go false true c d e = refl
-    go false false true d e = refl
-    go false false false true e = refl
-    go false false false false true = refl
-    go false false false false false = refl
+read-among opcode = five-tests (eqb opcode 0x05) (eqb opcode 0x03) (eqb opcode 0x0B) (eqb opcode 0x9F) (eqb opcode 0x5A)
 
 -- The verdict is the judgement, or the first of the list that applies.
 pub verdict-as : (n : ℕ) (k : Core) (f : Frame) (loose : Bool) → permitted n ≡ true → verdict (sectorsIn n) k f loose ≡ verdictOf n k f loose
