@@ -1,11 +1,11 @@
 -- Demand 2, of any model: each event does what the datasheet says: the byte driven or the line left floating, the status bits, the verdict, the cells.
 -- Opcodes, kinds and verdicts stand here as numbers; sizes, the table of commands, protection and a job's kinds are the rule book's own words.
-use Prim.Native.Nat.{ℕ, zero, suc, _+_, _*_, _/_, _%_, _^_, _<_, _≤_}
+use Prim.Native.Nat.{ℕ, _+_, _*_, _/_, _%_, _^_, _<_, _≤_, min}
 use mathlib.Core.Bool.{Bool, true, false, cond, not, _&&_, _||_}
 use mathlib.Core.List.{List, [], _∷_, _++_}
 use mathlib.Core.Path.{_≡_}
-use lib.Dec.{eqb}
-use lib.ListN.{length, getD, replicate}
+use lib.Dec.{eqb, leb}
+use lib.ListN.{length, getD, set, replicate}
 use Rattle.part.specs.Part.{sectorsIn, roundedDown}
 use Rattle.part.specs.Protection.{protectedSector}
 use Rattle.commands.specs.Table.{rowOf, fitsRule}
@@ -15,9 +15,9 @@ use Rattle.chip.specs.declared.Frame.{Frame}
 use Rattle.chip.specs.declared.Job.{Job}
 use Rattle.chip.specs.declared.JobKind.{JobKind}
 use Rattle.chip.specs.declared.JobKind.the-variants.{WriteStatus, Program, SmallErase, SectorErase, ChipErase}
-use Rattle.chip.specs.Fields.{withWen, withSuspended, withWp, withDeep, withArmed, withJob, withSelected, withCount}
+use Rattle.chip.specs.Fields.{withWen, withSuspended, withWp, withDeep, withArmed, withJob, withSelected, withAddress, withPlace, withSlot, withCount}
 use Rattle.chip.specs.Job.{isJob, hasCells, noJob}
-use Rattle.chip.specs.Chip.{whole, emptyFrame, blankLoad, running}
+use Rattle.chip.specs.Chip.{whole, emptyFrame, blankLoad, running, statusByte}
 use Rattle.script.specs.Script.{Event}
 use Rattle.script.specs.Run.{World, world}
 use Rattle.demands.specs.Model.{Reply, Model, reply, event, sends, address, Good, AllGood, Fit, doesBy, runsBy}
@@ -187,6 +187,54 @@ unfoldable pub bytesOf : List Event → ℕ
 bytesOf [] = 0
 bytesOf (e ∷ es) = cond (eqb (e .kind) 0x02) 1 0 + bytesOf es
 
+-- what a byte after the opcode byte does: what is said to it, and the frame and the load afterwards
+pub record Byte : Type 0 where
+  pub says : List ℕ
+  pub frame : Frame
+  pub load : List ℕ
+
+abbrev pub byte : List ℕ → Frame → List ℕ → Byte
+byte says frame load = record { says = says; frame = frame; load = load }
+
+pub record ByteRow : Type 0 where
+  pub applies : Bool
+  pub does : Byte
+
+abbrev pub byteRow : Bool → List ℕ → Frame → List ℕ → ByteRow
+byteRow applies says frame load = record { applies = applies; does = byte says frame load }
+
+abbrev pub firstRow : List ByteRow → Byte → Byte
+firstRow [] otherwise = otherwise
+firstRow (r ∷ rs) otherwise = cond (r .applies) (r .does) (firstRow rs otherwise)
+
+-- the frame with one byte more, 6 meaning six or more; and its address with one byte more from below, of 24 bits
+abbrev pub longer : Frame → Frame
+longer f = withCount (min 6 (f .count + 1)) f
+
+abbrev pub shiftedIn : Frame → ℕ → ℕ
+shiftedIn f b = f .address % 65536 * 256 + b
+
+-- the rows, for a frame with so many bytes that has judgement none or floats to its end: cells from byte 5 of 03h and byte 6 of 0Bh; data from byte 5 of a page
+-- program; the status; the cycle of 9Fh; 88h from byte 5 of ABh; the area from byte 6 of 5Ah; bytes 2 to 4 are the address, the last of which sets both places
+abbrev pub byteRows : Core → Frame → List ℕ → List ℕ → List ℕ → ℕ → List ByteRow
+byteRows k f load m area b =
+    byteRow (not (eqb (f .judgement) 0)) (0x80 ∷ []) (longer f) load
+    ∷ byteRow (eqb (f .opcode) 0x03 && leb 4 (f .count)) (0x81 ∷ getD m (f .place) 0 ∷ []) (withPlace ((f .place + 1) % length m) (longer f)) load
+    ∷ byteRow (eqb (f .opcode) 0x0B && leb 5 (f .count)) (0x81 ∷ getD m (f .place) 0 ∷ []) (withPlace ((f .place + 1) % length m) (longer f)) load
+    ∷ byteRow ((eqb (f .opcode) 0x02 || eqb (f .opcode) 0x0A) && leb 4 (f .count)) (0x80 ∷ []) (withSlot ((f .slot + 1) % 256) (longer f)) (set load (f .slot) b)
+    ∷ byteRow (eqb (f .opcode) 0x05) (0x81 ∷ statusByte k ∷ []) (longer f) load
+    ∷ byteRow (eqb (f .opcode) 0x9F) (0x81 ∷ getD (0x62 ∷ 0x16 ∷ 0x15 ∷ 0x00 ∷ []) (f .place) 0 ∷ []) (withPlace ((f .place + 1) % 4) (longer f)) load
+    ∷ byteRow (eqb (f .opcode) 0xAB && leb 4 (f .count)) (0x81 ∷ 0x88 ∷ []) (longer f) load
+    ∷ byteRow (eqb (f .opcode) 0x5A && leb 5 (f .count)) (0x81 ∷ getD area (f .place) 0xFF ∷ []) (withPlace ((f .place + 1) % 2 ^ 24) (longer f)) load
+    ∷ byteRow (leb 4 (f .count)) (0x80 ∷ []) (longer f) load
+    ∷ byteRow (eqb (f .count) 3) (0x80 ∷ [])
+    (withAddress (shiftedIn f b) (withPlace (cond (eqb (f .opcode) 0x5A) (shiftedIn f b) (shiftedIn f b % length m)) (withSlot b (longer f)))) load
+    ∷ []
+
+-- the first row that applies; of bytes 2 and 3 none does, and they go into the address
+abbrev pub byteDone : Core → Frame → List ℕ → List ℕ → List ℕ → ℕ → Byte
+byteDone k f load m area b = firstRow (byteRows k f load m area b) (byte (0x80 ∷ []) (withAddress (shiftedIn f b) (longer f)) load)
+
 -- these are bytes
 unfoldable pub AllBytes : List ℕ → Type 0
 AllBytes [] = Unit {0}
@@ -315,7 +363,11 @@ pub record Demand2 (M : Model) : Type 0 where
   pub opcode-byte : (c : Chip) (m area : List ℕ) (b : ℕ) → Fit c m area → b ≤ 255 → c .frame .selected ≡ true → c .frame .count ≡ 0
       → M c m area 0x02 b
       ≡ reply (whole (c .core) (record { selected = true; opcode = b; address = 0; place = 0; slot = 0; count = 1; judgement = stopOf (c .core) b }) (c .load) (c .held)) m (0x80 ∷ []) 0
-  -- reads, the status, frames that are stopped
+  -- every later byte does what its row says
+  pub later-byte : (c : Chip) (m area : List ℕ) (b : ℕ) → Fit c m area → b ≤ 255 → c .frame .selected ≡ true → (c .frame .count ≡ 0 → ⊥)
+      → let d : Byte = byteDone (c .core) (c .frame) (c .load) m area b in
+      M c m area 0x02 b ≡ reply (whole (c .core) (d .frame) (d .load) (c .held)) m (d .says) 0
+  -- so, from the select on: reads, the status, frames that are stopped
   pub cell-reads : (c : Chip) (m area : List ℕ) → Quiet c m area → CellReads M c m area
   pub other-reads : (c : Chip) (m area : List ℕ) → Ready c m area → OtherReads M c m area
   pub status-read : StatusRead M

@@ -8,6 +8,7 @@ pub mod Refusals
 pub mod Ours
 pub mod Verdicts
 pub mod EventRules
+pub mod ByteRules
 pub mod LegalStates
 pub mod Datasheet
 pub mod Sfdp
