@@ -1,5 +1,5 @@
 -- The part as a machine with a job under way: what spares the job, and that each event then does exactly the steps of its working ticks.
--- `Demand3` draws the conclusions.
+-- This is the argument over the definitions; `Demand3` is the statement, `Stepwise` draws the conclusions and `Meets3` reads them for the model `ours`.
 use Prim.Native.Nat.{ℕ, zero, suc, _+_, _<_, _≤_, max, _-_}
 use mathlib.Core.Bool.{Bool, true, false, not, _&&_, _||_, false≢true}
 use mathlib.Core.List.{List}
@@ -23,7 +23,7 @@ use Rattle.chip.specs.declared.JobKind.{JobKind}
 use Rattle.chip.specs.declared.JobKind.the-variants.{Idle, WriteStatus, Program, SmallErase, SectorErase, ChipErase}
 use Rattle.chip.specs.Fields.{withDone}
 use Rattle.chip.specs.Job.{isJob, total, steps, noJob}
-use Rattle.chip.specs.Chip.{Bits, bitsIn, bitsOf, running, blankLoad}
+use Rattle.chip.specs.Chip.{Bits, bitsOf, running, blankLoad}
 use Rattle.job.specs.Tick.{ticksLeft, ticksCore, worked, endedAs, advanced}
 use Rattle.job.specs.Laws.{steps-none, steps-add, ticks-rest, ticksLoad-rest, ticksMemory-rest, worked-rest, ticks-go, ticksLoad-go, ticksMemory-go, worked-go, ended-none, ticks-over, ticksLoad-over, ticksMemory-over, worked-over}
 use Rattle.verdict.specs.Verdict.{verdict}
@@ -32,17 +32,9 @@ use Rattle.event.specs.Event.{Outcome, closes, deselect, tick, applied}
 use Rattle.event.specs.Laws.{applied-each}
 use Rattle.script.specs.Script.{Event}
 use Rattle.script.specs.Run.{World, does, onward}
+use Rattle.demands.specs.Demand3.{bitsAfter}
 
--- ---- the kept bits
-
--- after a job's last step: a write status sets them, every other job leaves them (RULES, Jobs)
-abbrev pub bitsAfter : JobKind → Bits → Bits
-bitsAfter (WriteStatus value) b = bitsIn value
-bitsAfter Idle b = b
-bitsAfter Program b = b
-bitsAfter SmallErase b = b
-bitsAfter SectorErase b = b
-bitsAfter ChipErase b = b
+-- ---- the kept bits, after a job's last step
 
 ended-bits : (kind : JobKind) (k : Core) → bitsOf (endedAs kind k) ≡ bitsAfter kind (bitsOf k)
 ended-bits (WriteStatus value) k = refl

@@ -10,6 +10,7 @@ pub mod Verdicts
 pub mod EventRules
 pub mod ByteRules
 pub mod LegalStates
+pub mod Life
 pub mod Datasheet
 pub mod Sfdp
 pub mod Unique

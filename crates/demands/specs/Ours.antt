@@ -98,10 +98,12 @@ pub onward-ours : (area : List ℕ) (e : Event) (w : World) → Fit (w .chip) (w
 onward-ours area e w fit good =
     ap (λ (r : Reply). world (r .chip) (r .memory) (w .written ++ r .says) (w .ticks + r .ticks)) (done-as (w .chip) (w .memory) area fit (e .kind) (e .body) (good .0) (good .1))
 
-setting-same : (area : List ℕ) (e : Event) (w : World) → settingOf (length (onward (settingOf (length (w .memory)) area) e w .memory)) area ≡ settingOf (length (w .memory)) area
+-- the setting stays the same from event to event
+pub setting-same : (area : List ℕ) (e : Event) (w : World) → settingOf (length (onward (settingOf (length (w .memory)) area) e w .memory)) area ≡ settingOf (length (w .memory)) area
 setting-same area e w = ap (λ (n : ℕ). settingOf n area) (length-applied (settingOf (length (w .memory)) area) (w .chip) (w .memory) (e .kind) (e .body))
 
-fit-onward : (area : List ℕ) (e : Event) (w : World) → Fit (w .chip) (w .memory) area → Good e
+-- and so does legality
+pub fit-onward : (area : List ℕ) (e : Event) (w : World) → Fit (w .chip) (w .memory) area → Good e
     → Fit (onward (settingOf (length (w .memory)) area) e w .chip) (onward (settingOf (length (w .memory)) area) e w .memory) area
 fit-onward area e w fit good = fit-applied (w .chip) (w .memory) area fit (e .kind) (e .body) (good .0) (good .1)
 

@@ -1,5 +1,5 @@
--- Demand 3. However a job is cut up by suspends, resumes and reads, the memory that it ends with is the one that it found, changed by its whole image and by nothing
--- else. Before that the steps done are the first k, one for each tick that found it running, and those k are what a reset or a power cut leaves (RULES, Jobs).
+-- The argument for Demand 3, over the definitions: however a job is cut up by suspends, resumes and reads, memory is exactly the steps of the ticks that found it
+-- running, and at its end the whole image. `Demand3` is the statement, of any model; `Meets3` draws it for `ours` from what is proved here.
 use Prim.Native.Nat.{ℕ, _+_, _*_, _<_, _≤_}
 use mathlib.Core.List.{List, [], _∷_}
 use mathlib.Core.Path.{_≡_, refl, sym, ap, subst, fun-ext, _∙_}
@@ -22,7 +22,7 @@ use Rattle.script.specs.Script.{Event}
 use Rattle.script.specs.Run.{World, does, onward, runs}
 use Rattle.demands.specs.JobSteps.{Spares, AtStep, JobOver, laid-steps, machine}
 
--- ---- the words
+-- ---- the words, as the definitions have them (`Demand3` has its own, by what a model says)
 
 -- a job stands at step d: its kind, its start, its load, and steps left
 pub record UnderWay (T : Setting) (kind : JobKind) (start : ℕ) (held : List ℕ) (d : ℕ) (w : World) : Type 0 where
@@ -65,7 +65,7 @@ module _ (T : Setting) (kind : JobKind) (start : ℕ) (held : List ℕ) where
     as-spare [] w s = tt
     as-spare (e ∷ es) w s = (s .0, as-spare es (onward T e w) (s .1))
 
-  -- ---- the demand
+  -- ---- the conclusions
 
   -- what has become of the job, k working ticks after step d
   pub record Outlook (d k : ℕ) (w w′ : World) : Type 0 where
