@@ -11,6 +11,7 @@ pub mod EventRules
 pub mod ByteRules
 pub mod LegalStates
 pub mod Life
+pub mod Meets3
 pub mod Datasheet
 pub mod Sfdp
 pub mod Unique

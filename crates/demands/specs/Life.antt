@@ -151,9 +151,12 @@ reset-drops T c m o is by = (
 
 -- ---- an event that spares the job
 
--- what ours says to a good event is the definitions' record of it
+-- what ours does at a good event is what the definitions do, and it says their record
+pub does-ours : (area : List ℕ) (e : Event) (w : World) → Fit (w .chip) (w .memory) area → Good e → doesBy ours area e w ≡ told (does (settingOf (length (w .memory)) area) e w)
+does-ours area e w fit good = done-as (w .chip) (w .memory) area fit (e .kind) (e .body) (good .0) (good .1)
+
 pub says-ours : (area : List ℕ) (e : Event) (w : World) → Fit (w .chip) (w .memory) area → Good e → doesBy ours area e w .says ≡ recordBytes (does (settingOf (length (w .memory)) area) e w .said)
-says-ours area e w fit good = ap (λ (r : Reply). r .says) (done-as (w .chip) (w .memory) area fit (e .kind) (e .body) (good .0) (good .1))
+says-ours area e w fit good = ap (λ (r : Reply). r .says) (does-ours area e w fit good)
 
 either-of : (a b : Bool) → (a || b) ≡ true → (a ≡ true) ⊎ (b ≡ true)
 either-of true b h = inl refl
@@ -192,11 +195,10 @@ pub all-spare-ours : (area : List ℕ) (es : List Event) (w : World) → Fit (w 
 unfolding AllSpare Stepwise.AllSpare AllGood
 all-spare-ours area [] w fit good s = tt
 all-spare-ours area (e ∷ es) w fit good s =
-    let next : World = onward (settingOf (length (w .memory)) area) e w in
-    (
+    let next : World = onward (settingOf (length (w .memory)) area) e w in (
       spares-ours area e w fit (good .0) (s .0),
       subst (λ (T : Setting). Stepwise.AllSpare T es next) (setting-same area e w)
-      (all-spare-ours area es next (fit-onward area e w fit (good .0)) (good .1) (subst (AllSpare ours area es) (onward-ours area e w fit (good .0)) (s .1))),
+          (all-spare-ours area es next (fit-onward area e w fit (good .0)) (good .1) (subst (AllSpare ours area es) (onward-ours area e w fit (good .0)) (s .1))),
     )
 
 -- ---- no working tick, no cell changed

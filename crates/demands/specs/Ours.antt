@@ -107,6 +107,9 @@ pub fit-onward : (area : List ℕ) (e : Event) (w : World) → Fit (w .chip) (w 
     → Fit (onward (settingOf (length (w .memory)) area) e w .chip) (onward (settingOf (length (w .memory)) area) e w .memory) area
 fit-onward area e w fit good = fit-applied (w .chip) (w .memory) area fit (e .kind) (e .body) (good .0) (good .1)
 
+pub fit-next : (area : List ℕ) (e : Event) (w : World) → Fit (w .chip) (w .memory) area → Good e → Fit (onwardBy ours area e w .chip) (onwardBy ours area e w .memory) area
+fit-next area e w fit good = subst (λ (v : World). Fit (v .chip) (v .memory) area) (sym (onward-ours area e w fit good)) (fit-onward area e w fit good)
+
 -- A row of good events comes to what the definitions' run of it comes to.
 pub runs-ours : (area : List ℕ) (es : List Event) (w : World) → Fit (w .chip) (w .memory) area → AllGood es → runsBy ours area es w ≡ runs (settingOf (length (w .memory)) area) es w
 unfolding runsBy runs AllGood
@@ -120,8 +123,7 @@ runs-ours area (e ∷ es) w fit good =
 pub fit-runs : (area : List ℕ) (es : List Event) (w : World) → Fit (w .chip) (w .memory) area → AllGood es → Fit (runsBy ours area es w .chip) (runsBy ours area es w .memory) area
 unfolding runsBy AllGood
 fit-runs area [] w fit good = fit
-fit-runs area (e ∷ es) w fit good =
-    fit-runs area es (onwardBy ours area e w) (subst (λ (v : World). Fit (v .chip) (v .memory) area) (sym (onward-ours area e w fit (good .0))) (fit-onward area e w fit (good .0))) (good .1)
+fit-runs area (e ∷ es) w fit good = fit-runs area es (onwardBy ours area e w) (fit-next area e w fit (good .0)) (good .1)
 
 -- ---- working ticks
 
