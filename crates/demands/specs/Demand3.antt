@@ -112,14 +112,17 @@ pub record Demand3 (M : Model) : Type 0 where
   pub jobs-begun : JobsBegun M
   pub starts : (c : Chip) (m area : List ℕ) (kind body : ℕ) (loose : Bool) → Ending c m area kind body loose → M c m area kind body .says ≡ 0x82 ∷ 2 ∷ []
       → Started c m (M c m area kind body)
+
   -- The count: the working ticks that an event answers are those that found a job running.
   pub counts : (area : List ℕ) (e : Event) (w : World) → Fit (w .chip) (w .memory) area → Good e → doesBy M area e w .ticks ≡ workingTicks w e
+
   -- The life, over any events with no reset, power cut or other job begun.
   pub lives : (area : List ℕ) (kind : JobKind) (start : ℕ) (held : List ℕ) (d : ℕ) (w : World) (es : List Event) → Spared M area kind start held d w es
       → Outlook kind start held d (workedBy M area es w) w (runsBy M area es w)
   -- after its last step WEN is 0, until a write enable is done
   pub wen-off : (area : List ℕ) (kind : JobKind) (start : ℕ) (held : List ℕ) (d : ℕ) (w : World) (es : List Event) → Spared M area kind start held d w es
       → NoneEnables M area es w → d + workedBy M area es w ≡ stepsOf kind w → runsBy M area es w .chip .core .wen ≡ false
+
   -- The cut: a reset, a power cut, another job begun in suspension leave just those steps.
   pub reset-cuts : (area : List ℕ) (kind : JobKind) (start : ℕ) (held : List ℕ) (d : ℕ) (w : World) (es : List Event) (e : Event) → Spared M area kind start held d w es → Good e
       → let w′ : World = runsBy M area es w in
@@ -131,5 +134,6 @@ pub record Demand3 (M : Model) : Type 0 where
       ≡ reply (whole (poweredUp (w′ .chip .core)) emptyFrame blankLoad blankLoad) (steps kind start held d (workedBy M area es w) (w .memory)) [] 0
   pub other-job-cuts : (area : List ℕ) (kind : JobKind) (start : ℕ) (held : List ℕ) (d : ℕ) (w : World) (es : List Event) (e : Event) → Spared M area kind start held d w es → Good e
       → doesBy M area e (runsBy M area es w) .says ≡ 0x82 ∷ 2 ∷ [] → LeavesSteps M area kind start held d w es e
+
   -- No cell changes but by a working tick, so that the next job's life starts from that memory.
   pub cells-rest : (area : List ℕ) (w : World) (es : List Event) → Fit (w .chip) (w .memory) area → AllGood es → workedBy M area es w ≡ 0 → runsBy M area es w .memory ≡ w .memory

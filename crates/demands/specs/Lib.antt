@@ -12,6 +12,7 @@ pub mod ByteRules
 pub mod LegalStates
 pub mod Life
 pub mod Meets3
+pub mod WholeLife
 pub mod Datasheet
 pub mod Sfdp
 pub mod Unique
