@@ -20,3 +20,4 @@ pub mod Cut
 pub mod Examples
 pub mod SfdpExamples
 pub mod Met
+pub mod LifeExample

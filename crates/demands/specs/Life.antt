@@ -47,7 +47,7 @@ use Rattle.demands.specs.Stepwise as Stepwise
 -- ---- a deselect, by what it says
 
 -- a record of these bytes is a verdict
-told-verdict : (r : Record) (v : ℕ) → recordBytes r ≡ 0x82 ∷ v ∷ [] → r ≡ Verdict v
+pub told-verdict : (r : Record) (v : ℕ) → recordBytes r ≡ 0x82 ∷ v ∷ [] → r ≡ Verdict v
 told-verdict Nothing v e = let shorter : _≡_ {A = ℕ} 0 2 = ap length e in absurd (omega arith)
 told-verdict Floating v e = let shorter : _≡_ {A = ℕ} 1 2 = ap length e in absurd (omega arith)
 told-verdict (Driven b) v e = let other : _≡_ {A = ℕ} 0x81 0x82 = ap (λ (bs : List ℕ). getD bs 0 0) e in absurd (omega arith)

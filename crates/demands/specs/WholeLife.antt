@@ -52,13 +52,13 @@ unfolding runsBy
 runs-split M area [] fs w = refl
 runs-split M area (e ∷ es) fs w = runs-split M area es fs (onwardBy M area e w)
 
-good-split : (es fs : List Event) → AllGood (es ++ fs) → AllGood es × AllGood fs
+pub good-split : (es fs : List Event) → AllGood (es ++ fs) → AllGood es × AllGood fs
 unfolding AllGood
 good-split [] fs g = (tt, g)
 good-split (e ∷ es) fs g = let rest = good-split es fs (g .1) in ((g .0, rest .0), rest .1)
 
 -- the sound events of a script are good
-sound-good : (s : List ℕ) (es : List Event) → AllSound s es → AllGood es
+pub sound-good : (s : List ℕ) (es : List Event) → AllSound s es → AllGood es
 unfolding AllSound AllGood
 sound-good s [] h = tt
 sound-good s (e ∷ es) h = ((h .0 .known, h .0 .ranged), sound-good s es (h .1))
@@ -156,3 +156,10 @@ whole-life M R kept D1 D3 c m area s out done before begins life in-order holds 
       job-gone = ap (λ (r : RunReply). r .chip .core .job) answer ∙ ap (λ (v : World). v .chip .core .job) after ∙ life-gone M kept D3 area w fit before begins life good holds;
       ticks-are = ap (λ (r : RunReply). r .ticks) answer ∙ ap (λ (v : World). v .ticks) after ∙ life-ticks M kept D3 area w fit before begins life good holds;
     }
+
+-- The same of ours: what ours has to meet is proved, and what the runner has to meet is that it runs ours.
+pub whole-life-ours : (R : Runner) → Demand1Run ours R → JobsBegun ours
+    → (c : Chip) (m area s out : List ℕ) → R c m area s out .refusal ≡ 0
+    → (before : List Event) (begins : Event) (life : List Event) → events s ≡ before ++ (begins ∷ life) → HoldsLife ours area (world c m [] 0) before begins life
+    → LifeRun (R c m area s out) (runsBy ours area before (world c m [] 0)) (onwardBy ours area begins (runsBy ours area before (world c m [] 0)))
+whole-life-ours R runs-it begun = whole-life ours R fit-next runs-it (meets-3-with begun)
