@@ -12,16 +12,15 @@ use borrow.Author.Tests.{lt-ltb, le-leb}
 use Rattle.cells.specs.Cells.{sweep, later, blanked, anded}
 use Rattle.cells.specs.Laws.{sweep-changes, sweep-outside}
 use Rattle.part.specs.Part.{Setting, setting}
-use Rattle.kinds.specs.Kinds.{SELECT, EXCHANGE, DESELECT, TICK, TICKS, POWER, LOOSE, knownIn, kindRowIn, knownKind, kindRow}
+use Rattle.kinds.specs.Kinds.{SELECT, EXCHANGE, DESELECT, TICK, TICKS, knownIn, kindRowIn, knownKind, kindRow}
 use Rattle.commands.specs.Table.{rowOf, rowIn, fitsRule, isRead, isProgram}
 use Rattle.part.specs.Protection.{protectedCount, protectedSector}
-use Rattle.chip.specs.declared.Chip.{Chip}
 use Rattle.chip.specs.declared.Core.{Core}
 use Rattle.chip.specs.declared.Frame.{Frame}
 use Rattle.chip.specs.declared.JobKind.{JobKind}
-use Rattle.chip.specs.Job.{steps, wholeImage}
+use Rattle.chip.specs.Job.{steps}
 use Rattle.chip.specs.Fields.{withWen, withJob}
-use Rattle.chip.specs.Chip.{whole, fresh, resting, emptyFrame, blankLoad, statusByte}
+use Rattle.chip.specs.Chip.{whole, fresh, resting, emptyFrame, statusByte}
 use Rattle.job.specs.Tick.{tickCore, ticksCore, worked}
 use Rattle.frame.specs.Frame.{judge, taken, exchanged}
 use Rattle.verdict.specs.Verdict.{jobOf, jobVerdict, commandVerdict, listed, verdict}
@@ -31,8 +30,7 @@ use Rattle.script.specs.Script.{Event, faultAt, walk, eventsFrom, events}
 use Rattle.script.specs.Run.{World, world, runs}
 use Rattle.script.specs.Laws.{runs-add}
 use Rattle.chip.specs.declared.JobKind.the-variants.{Program, SmallErase}
-use Rattle.demands.specs.JobSteps.{Spares, replaces}
-use Rattle.demands.specs.Stepwise.{UnderWay, AllSpare, workedBy, k-steps, end-image}
+use Rattle.demands.specs.Stepwise.{UnderWay, AllSpare, workedBy, k-steps}
 
 -- ---- how a row is written
 
@@ -309,69 +307,3 @@ Rows (row ∷ rows) = row × Rows rows
 -- P1 to P10 hold of the definitions.
 pub worked-examples : Rows (P1 ∷ P2 ∷ P3 ∷ P4 ∷ P5 ∷ P6 ∷ P7 ∷ P8 ∷ P9 ∷ P10 ∷ [])
 worked-examples = (p1, (p2, (p3, (p4, (p5, (p6, (p7, (p8, (p9, (p10, tt))))))))))
-
--- ---- a job cut by a suspend, a status read and a resume: Demand 3's hypotheses are met, on any memory
-
--- a small sector erase just begun
-abbrev pub begun : List ℕ → World
-begun m = world (whole (begunCore SmallErase) emptyFrame blankLoad blankLoad) m [] 0
-
--- five ticks; B0h; three ticks that find it suspended; a status read; 30h; eleven ticks
-abbrev pub cutting : List ℕ
-cutting = (TICKS ∷ 0 ∷ 5 ∷ []) ++ (frame (0xB0 ∷ []) ++ ((TICKS ∷ 0 ∷ 3 ∷ []) ++ (frame (0x05 ∷ 0 ∷ []) ++ (frame (0x30 ∷ []) ++ (TICKS ∷ 0 ∷ 11 ∷ [])))))
-
-begun-job : (m : List ℕ) → UnderWay one SmallErase 0 blankLoad 0 (begun m)
-begun-job m = record { job-is = refl; load-is = refl; steps-left = omega arith }
-
--- an event of a kind that spares any job, and a deselect by its verdict
-spares-any : (T : Setting) (c : Chip) (kind : ℕ) → knownKind kind ≡ true → (kind ≡ POWER → ⊥) → (kind ≡ DESELECT → ⊥) → (kind ≡ LOOSE → ⊥) → Spares T c kind
-spares-any T c kind k a b d = record { known = k; no-power-cut = a; clean-spares = λ e. absurd (b e); loose-spares = λ e. absurd (d e) }
-
-spares-clean : (T : Setting) (c : Chip) → replaces T c false ≡ false → Spares T c DESELECT
-unfolding knownKind knownIn
-spares-clean T c r = record { known = refl; no-power-cut = λ e. omega arith; clean-spares = λ _. r; loose-spares = λ e. absurd (omega arith) }
-
-cutting-spares : (m : List ℕ) → AllSpare one (events cutting) (begun m)
-unfolding AllSpare runs eventsFrom walk faultAt knownKind knownIn kindRow kindRowIn applied exchanged taken judge rowOf rowIn isProgram verdict listed isRead commandVerdict jobVerdict jobOf fitsRule settled acted heldAfter instantly ticksCore tickCore worked
-cutting-spares m = (
-  spares-any one _ TICKS refl (λ e. omega arith) (λ e. omega arith) (λ e. omega arith),
-  (
-    spares-any one _ SELECT refl (λ e. omega arith) (λ e. omega arith) (λ e. omega arith),
-    (
-      spares-any one _ EXCHANGE refl (λ e. omega arith) (λ e. omega arith) (λ e. omega arith),
-      (
-        spares-clean one _ refl,
-        (
-          spares-any one _ TICKS refl (λ e. omega arith) (λ e. omega arith) (λ e. omega arith),
-          (
-            spares-any one _ SELECT refl (λ e. omega arith) (λ e. omega arith) (λ e. omega arith),
-            (
-              spares-any one _ EXCHANGE refl (λ e. omega arith) (λ e. omega arith) (λ e. omega arith),
-              (
-                spares-any one _ EXCHANGE refl (λ e. omega arith) (λ e. omega arith) (λ e. omega arith),
-                (
-                  spares-clean one _ refl,
-                  (
-                    spares-any one _ SELECT refl (λ e. omega arith) (λ e. omega arith) (λ e. omega arith),
-                    (
-                      spares-any one _ EXCHANGE refl (λ e. omega arith) (λ e. omega arith) (λ e. omega arith),
-                      (spares-clean one _ refl, (spares-any one _ TICKS refl (λ e. omega arith) (λ e. omega arith) (λ e. omega arith), tt)),
-                    ),
-                  ),
-                ),
-              ),
-            ),
-          ),
-        ),
-      ),
-    ),
-  ),
-)
-
-cutting-works : (m : List ℕ) → workedBy one (events cutting) (begun m) ≡ 16
-unfolding workedBy eventsFrom walk faultAt knownKind knownIn kindRow kindRowIn applied exchanged taken judge rowOf rowIn isProgram verdict listed isRead commandVerdict jobVerdict jobOf fitsRule settled acted heldAfter instantly ticksCore tickCore worked
-cutting-works m = refl
-
--- sixteen of its nineteen ticks work, and the memory is the whole image
-pub cut-and-ended : (m : List ℕ) → runs one (events cutting) (begun m) .memory ≡ wholeImage SmallErase 1 0 blankLoad m
-cut-and-ended m = end-image one SmallErase 0 blankLoad (begun m) (begun-job m) (events cutting) (cutting-spares m) (cutting-works m)

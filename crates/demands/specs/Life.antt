@@ -1,6 +1,6 @@
 -- What a model's words mean for ours: a deselect that says 82h 01h or 82h 02h, an event that spares the job, a row without a working tick, and WEN without a job.
 -- `Meets3` puts them together.
-use Prim.Native.Nat.{ℕ, _+_, _<_}
+use Prim.Native.Nat.{ℕ, _<_}
 use mathlib.Core.Bool.{Bool, true, false, _&&_, _||_, false≢true}
 use mathlib.Core.List.{List, [], _∷_}
 use mathlib.Core.Path.{_≡_, refl, sym, ap, subst, _∙_}
@@ -13,7 +13,7 @@ use borrow.Author.Tests.{eq-eqb, ne-eqb, eqb-true}
 use Rattle.cells.specs.Choice.{cond-yes, cond-no, cond-either, and-left, and-right, not-so}
 use Rattle.part.specs.Part.{Setting, settingOf}
 use Rattle.commands.specs.Table.{writeEnable, resetEnable, reset}
-use Rattle.kinds.specs.Kinds.{DESELECT, TICK, TICKS, LOOSE, Says, KindRow, knownIn, kindRowIn, knownKind, kindRow, saysOf, isSaid}
+use Rattle.kinds.specs.Kinds.{DESELECT, TICK, TICKS, LOOSE, Says, KindRow, kindRowIn, knownKind, kindRow, saysOf, isSaid}
 use Rattle.kinds.specs.Laws.{kind-each}
 use Rattle.chip.specs.declared.Chip.{Chip}
 use Rattle.chip.specs.declared.Core.{Core}
@@ -31,7 +31,7 @@ use Rattle.job.specs.Tick.{ticksCore, ticksMemory, worked, ticksLeft, endedAs}
 use Rattle.job.specs.Laws.{ticks-rest, ticks-go, ticks-over, ticksMemory-rest, worked-go, worked-over}
 use Rattle.verdict.specs.Verdict.{verdict}
 use Rattle.verdict.specs.Effect.{begins, instantly, acted, settled}
-use Rattle.verdict.specs.Laws.{Begins, verdict-two, acted-nothing, instantly-each, held-reset}
+use Rattle.verdict.specs.Laws.{verdict-two, acted-nothing, instantly-each, held-reset}
 use Rattle.event.specs.Event.{Outcome, closes, deselect, tick, applied, sortOf}
 use Rattle.event.specs.Laws.{applied-each, says-its-kind}
 use Rattle.event.specs.Keeps.{cells-stay}

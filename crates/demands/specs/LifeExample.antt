@@ -11,7 +11,7 @@ use borrow.Author.Tests.{eq-eqb, eqb-true, leb-true}
 use Rattle.cells.specs.Choice.{and-left, and-right, and-both, and-four}
 use Rattle.part.specs.Part.{Setting, sectorsIn, settingOf, permitted}
 use Rattle.commands.specs.Table.{rowOf, rowIn, fitsRule, isRead, isProgram, reset}
-use Rattle.kinds.specs.Kinds.{POWER, knownIn, kindRowIn, knownKind, kindRow, bodyLength, inRange}
+use Rattle.kinds.specs.Kinds.{TICKS, POWER, knownIn, kindRowIn, knownKind, kindRow, bodyLength, inRange}
 use Rattle.chip.specs.declared.Record.{Record}
 use Rattle.chip.specs.declared.Record.the-variants.{Nothing, Floating, Driven, Verdict}
 use Rattle.chip.specs.Record.{recordBytes}
@@ -24,18 +24,18 @@ use Rattle.frame.specs.Frame.{judge, taken, exchanged}
 use Rattle.verdict.specs.Verdict.{jobOf, jobVerdict, commandVerdict, listed, verdict}
 use Rattle.verdict.specs.Effect.{instantly, acted, settled, heldAfter}
 use Rattle.legal.specs.Legal.{legal}
-use Rattle.event.specs.Event.{Outcome, applied}
+use Rattle.event.specs.Event.{applied}
 use Rattle.event.specs.Keeps.{length-applied}
 use Rattle.script.specs.Script.{Event, eventAt, faultAt, walk, eventsFrom, events}
 use Rattle.script.specs.Run.{World, world, does, onward, runs}
-use Rattle.demands.specs.Model.{Reply, ours, Good, AllGood, Fit, doesBy, onwardBy, runsBy, workedBy}
-use Rattle.demands.specs.Demand1.{RunReply, Runner, Sound, AllSound, Heard, roomNeeded, Demand1Run}
+use Rattle.demands.specs.Model.{ours, Good, AllGood, Fit, doesBy, onwardBy, runsBy, workedBy}
+use Rattle.demands.specs.Demand1.{RunReply, Runner, AllSound, Heard, roomNeeded, Demand1Run}
 use Rattle.demands.specs.Demand2.{Closing, on-a-byte, JobsBegun}
 use Rattle.demands.specs.Demand3.{Spares, AllSpare, stepsOf}
 use Rattle.demands.specs.Ours.{onward-ours, setting-same, fit-onward, runs-ours, fit-runs, worked-ours}
 use Rattle.demands.specs.Life.{told-verdict, says-ours}
 use Rattle.demands.specs.Cut.{length-runs}
-use Rattle.demands.specs.Examples.{frame, one, cutting}
+use Rattle.demands.specs.Examples.{frame, one}
 use Rattle.demands.specs.Met.{legal-met}
 use Rattle.demands.specs.Stepwise as Stepwise
 use Rattle.demands.specs.WholeLife.{jobIn, HoldsLife, LifeRun, good-split, sound-good, whole-life-ours}
@@ -90,11 +90,10 @@ unfolding AllSpare AllGood allSparing
 all-spare-by-test area [] w fit good t = tt
 all-spare-by-test area (e ∷ es) w fit good t =
     let T : Setting = settingOf (length (w .memory)) area in
-    let next : World = onward T e w in
-    (
+    let next : World = onward T e w in (
       spares-by-test area e w fit (good .0) (and-left (sparing T e w) _ t),
       subst (AllSpare ours area es) (sym (onward-ours area e w fit (good .0)))
-      (all-spare-by-test area es next (fit-onward area e w fit (good .0)) (good .1) (subst (λ (U : Setting). allSparing U es next ≡ true) (sym (setting-same area e w)) (and-right (sparing T e w) _ t))),
+          (all-spare-by-test area es next (fit-onward area e w fit (good .0)) (good .1) (subst (λ (U : Setting). allSparing U es next ≡ true) (sym (setting-same area e w)) (and-right (sparing T e w) _ t))),
     )
 
 -- whether a row holds a whole life, by the definitions
@@ -178,7 +177,11 @@ sound-by-test s (e ∷ es) t =
 
 -- ---- the script
 
--- a write enable; a small sector erase; five ticks; B0h; three ticks that find it suspended; a status read; 30h; eleven ticks
+-- five ticks; B0h; three ticks that find it suspended; a status read; 30h; eleven ticks
+abbrev pub cutting : List ℕ
+cutting = (TICKS ∷ 0 ∷ 5 ∷ []) ++ (frame (0xB0 ∷ []) ++ ((TICKS ∷ 0 ∷ 3 ∷ []) ++ (frame (0x05 ∷ 0 ∷ []) ++ (frame (0x30 ∷ []) ++ (TICKS ∷ 0 ∷ 11 ∷ [])))))
+
+-- a write enable; a small sector erase; and those
 abbrev pub erasesCut : List ℕ
 erasesCut = frame (0x06 ∷ []) ++ (frame (0x20 ∷ 0 ∷ 0 ∷ 0 ∷ []) ++ cutting)
 

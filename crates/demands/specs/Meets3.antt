@@ -3,31 +3,28 @@ use Prim.Native.Nat.{ℕ, _+_, _<_, _≤_}
 use mathlib.Core.Bool.{Bool, true, false, false≢true}
 use mathlib.Core.List.{List, [], _∷_}
 use mathlib.Core.Path.{_≡_, refl, sym, ap, subst, _∙_}
-use mathlib.Core.Logic.{_⊎_, ⊎-elim}
+use mathlib.Core.Logic.{⊎-elim}
 use native.Mathlib.Omega.{arith}
 use lib.Dec.{leb}
 use lib.ListN.{length, getD}
 use borrow.Author.Tests.{le-leb}
 use Rattle.cells.specs.Choice.{and-both}
-use Rattle.part.specs.Part.{Setting, sectorsIn, settingOf}
-use Rattle.commands.specs.Table.{writeEnable}
+use Rattle.part.specs.Part.{Setting, settingOf}
 use Rattle.kinds.specs.Kinds.{knownIn, kindRowIn, knownKind, kindRow, inRange}
 use Rattle.chip.specs.declared.Chip.{Chip}
-use Rattle.chip.specs.declared.Core.{Core}
 use Rattle.chip.specs.declared.Job.{Job}
 use Rattle.chip.specs.declared.JobKind.{JobKind}
-use Rattle.chip.specs.declared.Record.the-variants.{Verdict}
 use Rattle.chip.specs.Record.{recordBytes}
 use Rattle.chip.specs.Job.{isJob, total, steps}
 use Rattle.chip.specs.Chip.{whole, emptyFrame, blankLoad, bitsOf}
 use Rattle.legal.specs.Legality.{chip-facts, LegalCore}
-use Rattle.event.specs.Event.{Outcome, applied}
+use Rattle.event.specs.Event.{applied}
 use Rattle.script.specs.Script.{Event}
-use Rattle.script.specs.Run.{World, world, does, onward, runs}
+use Rattle.script.specs.Run.{World, world, does, runs}
 use Rattle.demands.specs.Model.{Reply, ours, reply, event, Good, AllGood, Fit, doesBy, onwardBy, runsBy, workingTicks, workedBy}
 use Rattle.demands.specs.Demand2.{Ending, Closing, on-a-byte, inside-a-byte, JobsBegun, poweredUp}
-use Rattle.demands.specs.Demand3.{Started, UnderWay, AllSpare, NoneEnables, stepsOf, cellsOf, Outlook, Spared, LeavesSteps, resetCore, Demand3}
-use Rattle.demands.specs.Ours.{told, fit-next, runs-ours, fit-runs, ticks-ours, worked-ours}
+use Rattle.demands.specs.Demand3.{Started, UnderWay, AllSpare, NoneEnables, stepsOf, Outlook, Spared, LeavesSteps, resetCore, Demand3}
+use Rattle.demands.specs.Ours.{fit-next, runs-ours, fit-runs, ticks-ours, worked-ours}
 use Rattle.demands.specs.Life.{ClosedWith, says-closed, closed-memory, two-starts, reset-drops, does-ours, says-ours, all-spare-ours, event-rests-cells, OffWithoutJob, off-event}
 use Rattle.demands.specs.JobSteps.{AtStep, JobOver}
 use Rattle.demands.specs.Stepwise.{k-steps, all-steps, outside-stays}

@@ -2,9 +2,9 @@
 -- running, and at its end the whole image. `Demand3` is the statement, of any model; `Meets3` draws it for `ours` from what is proved here.
 use Prim.Native.Nat.{ℕ, _+_, _*_, _<_, _≤_}
 use mathlib.Core.List.{List, [], _∷_}
-use mathlib.Core.Path.{_≡_, refl, sym, ap, subst, fun-ext, _∙_}
+use mathlib.Core.Path.{_≡_, refl, ap, subst, fun-ext, _∙_}
 use mathlib.Core.Logic.{_⊎_, inl, inr, ⊎-elim}
-use native.Mathlib.Nat.{add-zero, zero-add, add-assoc, zero-mul, add-mul, mul-le-mul-right}
+use native.Mathlib.Nat.{add-zero, zero-add, zero-mul, add-mul, mul-le-mul-right}
 use native.Mathlib.Omega.{arith}
 use lib.ListN.{getD}
 use Rattle.cells.specs.Cells.{Rule, sweep, later}
@@ -12,12 +12,10 @@ use Rattle.cells.specs.Laws.{sweep-image, sweep-outside}
 use Rattle.cells.specs.Stepping.{Stands, stands}
 use Rattle.cells.specs.Stepping as Stepping
 use Rattle.part.specs.Part.{Setting}
-use Rattle.kinds.specs.Kinds.{TICK, TICKS}
 use Rattle.chip.specs.declared.JobKind.{JobKind}
 use Rattle.chip.specs.declared.JobKind.the-variants.{Idle, WriteStatus, Program, SmallErase, SectorErase, ChipErase}
 use Rattle.chip.specs.Chip.{Bits, bitsOf}
 use Rattle.chip.specs.Job.{total, unit, span, rule, steps, wholeImage}
-use Rattle.event.specs.Keeps.{cells-stay}
 use Rattle.script.specs.Script.{Event}
 use Rattle.script.specs.Run.{World, does, onward, runs}
 use Rattle.demands.specs.JobSteps.{Spares, AtStep, JobOver, laid-steps, machine}
@@ -39,12 +37,6 @@ AllSpare T (e ∷ es) w = Spares T (w .chip) (e .kind) × AllSpare T es (onward 
 unfoldable pub workedBy : Setting → List Event → World → ℕ
 workedBy T [] w = 0
 workedBy T (e ∷ es) w = does T e w .ticks + workedBy T es (onward T e w)
-
--- that is the number that the run counts
-pub ticks-counted : (T : Setting) (es : List Event) (w : World) → runs T es w .ticks ≡ w .ticks + workedBy T es w
-unfolding runs workedBy
-ticks-counted T [] w = sym (add-zero (w .ticks))
-ticks-counted T (e ∷ es) w = ticks-counted T es (onward T e w) ∙ add-assoc (w .ticks) _ _
 
 -- ---- what is proved once, for any machine, read for this part
 
@@ -99,11 +91,6 @@ module _ (T : Setting) (kind : JobKind) (start : ℕ) (held : List ℕ) where
               where-it-is = ⊎-elim (λ on. inl (on .0, on .1 .1)) (λ end. inr end) (st .where-it-is);
             }))
 
-    -- A reset, a power cut or a job begun in suspension leaves just those k steps: any event that is no tick leaves the cells.
-    pub k-steps-left : (e : Event) → (e .kind ≡ TICK → ⊥) → (e .kind ≡ TICKS → ⊥)
-        → does T e (runs T es w) .memory ≡ steps kind start held d k (w .memory)
-    k-steps-left e not-tick not-ticks = cells-stay T _ _ (e .kind) (e .body) not-tick not-ticks ∙ k-steps .memory-is
-
   -- the steps together are the size of the job
   span-is : (kind : JobKind) → total kind (T .sectors) * unit kind ≡ span kind (T .sectors)
   span-is Idle = zero-mul 0
@@ -123,11 +110,6 @@ module _ (T : Setting) (kind : JobKind) (start : ℕ) (held : List ℕ) where
       ∙ ap (λ (q : ℕ). sweep g m q (total kind (T .sectors) * u)) (add-zero start)
       ∙ ap (sweep g m start) (span-is kind)
       ∙ sweep-image g m start (span kind (T .sectors))
-
-  -- At the event that ends a job that was begun, memory is its whole image on the memory it began with.
-  pub end-image : (w : World) (job : UnderWay T kind start held 0 w) (es : List Event) (spared : AllSpare T es w) → workedBy T es w ≡ total kind (T .sectors)
-      → runs T es w .memory ≡ wholeImage kind (T .sectors) start held (w .memory)
-  end-image w job es spared e = k-steps 0 w job es spared .memory-is ∙ ap (λ (q : ℕ). steps kind start held 0 q (w .memory)) e ∙ all-steps (w .memory)
 
   -- Nothing outside the job's range differs, at any moment.
   pub outside-stays : (d k : ℕ) (m : List ℕ) (i : ℕ) → d + k ≤ total kind (T .sectors) → (i < start) ⊎ (start + span kind (T .sectors) ≤ i) → getD (steps kind start held d k m) i 0 ≡ getD m i 0

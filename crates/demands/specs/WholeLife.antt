@@ -12,9 +12,9 @@ use Rattle.chip.specs.declared.Job.{Job}
 use Rattle.chip.specs.Job.{total, wholeImage, noJob}
 use Rattle.script.specs.Script.{Event, events}
 use Rattle.script.specs.Run.{World, world}
-use Rattle.demands.specs.Model.{Reply, Model, ours, Good, AllGood, Fit, doesBy, onwardBy, runsBy, workingTicks, workedBy}
-use Rattle.demands.specs.Demand1.{RunReply, Runner, Sound, AllSound, Heard, Demand1Run}
-use Rattle.demands.specs.Demand2.{Ending, Closing, on-a-byte, inside-a-byte, JobsBegun}
+use Rattle.demands.specs.Model.{Model, ours, Good, AllGood, Fit, doesBy, onwardBy, runsBy, workingTicks, workedBy}
+use Rattle.demands.specs.Demand1.{RunReply, Runner, AllSound, Demand1Run}
+use Rattle.demands.specs.Demand2.{Closing, on-a-byte, inside-a-byte, JobsBegun}
 use Rattle.demands.specs.Demand3.{Started, UnderWay, AllSpare, stepsOf, Outlook, Demand3}
 use Rattle.demands.specs.Ours.{fit-next}
 use Rattle.demands.specs.Meets3.{meets-3-with}
