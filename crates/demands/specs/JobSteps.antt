@@ -1,7 +1,7 @@
 -- The part as a machine with a job under way: what spares the job, and that each event then does exactly the steps of its working ticks.
 -- This is the argument over the definitions; `Demand3` is the statement, `Stepwise` draws the conclusions and `Meets3` reads them for the model `ours`.
 use Prim.Native.Nat.{ℕ, zero, suc, _+_, _<_, _≤_, max, _-_}
-use mathlib.Core.Bool.{Bool, true, false, not, _&&_, _||_, false≢true}
+use mathlib.Core.Bool.{Bool, true, false, not, _&&_}
 use mathlib.Core.List.{List}
 use mathlib.Core.Path.{_≡_, refl, sym, ap, subst, _∙_}
 use mathlib.Core.Logic.{_⊎_, inl, inr, ⊎-elim}
@@ -9,9 +9,7 @@ use native.Mathlib.Nat.{add-zero}
 use native.Mathlib.Numerals.{add-one}
 use native.Mathlib.Decide.{decLt}
 use native.Mathlib.Omega.{arith}
-use lib.Dec.{eqb}
-use borrow.Author.Tests.{eq-eqb}
-use Rattle.cells.specs.Choice.{cond-either, and-both}
+use Rattle.cells.specs.Choice.{cond-either}
 use Rattle.cells.specs.Stepping.{Steps, laid, Machine}
 use Rattle.part.specs.Part.{Setting}
 use Rattle.commands.specs.Table.{reset}
@@ -36,6 +34,7 @@ use Rattle.demands.specs.Demand3.{bitsAfter}
 
 -- ---- the kept bits, after a job's last step
 
+-- a write status has set them, every other job has left them
 ended-bits : (kind : JobKind) (k : Core) → bitsOf (endedAs kind k) ≡ bitsAfter kind (bitsOf k)
 ended-bits (WriteStatus value) k = refl
 ended-bits Idle k = refl
@@ -46,26 +45,18 @@ ended-bits ChipErase k = refl
 
 -- ---- what spares a job
 
--- whether a deselect drops the job or begins another: verdict 2, or a reset done at once (RULES, Verdicts)
-abbrev pub replaces : Setting → Chip → Bool → Bool
-replaces T c loose =
-    c .frame .selected
-    && (eqb (verdict (T .sectors) (c .core) (c .frame) loose) 2
-    || eqb (verdict (T .sectors) (c .core) (c .frame) loose) 1 && eqb (c .frame .opcode) reset)
-
--- a test `s && (a || b)` that holds by either of the two
-either-way : (s a b : Bool) → s ≡ true → (a ≡ true) ⊎ (b ≡ true) → (s && (a || b)) ≡ true
-either-way true true b p q = refl
-either-way true false b p (inl q) = absurd (false≢true q)
-either-way true false b p (inr q) = q
-either-way false a b p q = p
+-- a deselect of a frame that neither begins a job nor is a reset done at once: no verdict 2, and no verdict 1 of 99h (RULES, Verdicts)
+abbrev pub LeavesJob : Setting → Chip → Bool → Type 0
+LeavesJob T c loose =
+    c .frame .selected ≡ true
+    → (verdict (T .sectors) (c .core) (c .frame) loose ≡ 2 → ⊥) × (verdict (T .sectors) (c .core) (c .frame) loose ≡ 1 → c .frame .opcode ≡ reset → ⊥)
 
 -- an event that is no power cut, no reset and begins no job; suspends, resumes, reads, ticks, frames turned away and frames left open all spare it
 pub record Spares (T : Setting) (c : Chip) (kind : ℕ) : Type 0 where
   pub known : knownKind kind ≡ true
   pub no-power-cut : kind ≡ POWER → ⊥
-  pub clean-spares : kind ≡ DESELECT → replaces T c false ≡ false
-  pub loose-spares : kind ≡ LOOSE → replaces T c true ≡ false
+  pub clean-spares : kind ≡ DESELECT → LeavesJob T c false
+  pub loose-spares : kind ≡ LOOSE → LeavesJob T c true
 
 -- ---- an event that spares the job, and finds none running if it is ticks, changes neither cells nor job
 
@@ -78,25 +69,16 @@ pub record Unchanged (c : Chip) (m : List ℕ) (o : Outcome) : Type 0 where
   pub bits-same : bitsOf (o .chip .core) ≡ bitsOf (c .core)
 
 module _ (T : Setting) (c : Chip) (m : List ℕ) where
+  -- a frame closed so, a deselect that leaves the job, and ticks that find none running
   closes-unchanged : (v : ℕ) → (v ≡ 2 → ⊥) → (v ≡ 1 → c .frame .opcode ≡ reset → ⊥) → Unchanged c m (closes T c m v)
   closes-unchanged v not-begun not-reset =
       let same = settled-same (T .sectors) (c .core) (c .frame) v not-begun not-reset in
       record { memory-same = refl; works-none = refl; job-same = same .0; held-same = held-stays (c .frame) v (c .load) (c .held) not-begun not-reset; bits-same = same .1 }
 
-  deselect-unchanged : (loose : Bool) → replaces T c loose ≡ false → Unchanged c m (deselect T c m loose)
-  deselect-unchanged loose h =
-      cond-either (Unchanged c m) (c .frame .selected) _ _ (λ s. closes-unchanged v (λ e. begun s e) (λ e r. reset-done s e r))
+  deselect-unchanged : (loose : Bool) → LeavesJob T c loose → Unchanged c m (deselect T c m loose)
+  deselect-unchanged loose leaves =
+      cond-either (Unchanged c m) (c .frame .selected) _ _ (λ s. closes-unchanged (verdict (T .sectors) (c .core) (c .frame) loose) (leaves s .0) (leaves s .1))
       (λ _. record { memory-same = refl; works-none = refl; job-same = refl; held-same = refl; bits-same = refl })
-    where
-      v : ℕ
-      v = verdict (T .sectors) (c .core) (c .frame) loose
-
-      begun : c .frame .selected ≡ true → v ≡ 2 → ⊥
-      begun s e = false≢true (sym h ∙ either-way (c .frame .selected) (eqb v 2) (eqb v 1 && eqb (c .frame .opcode) reset) s (inl (eq-eqb v 2 e)))
-
-      reset-done : c .frame .selected ≡ true → v ≡ 1 → c .frame .opcode ≡ reset → ⊥
-      reset-done s e r =
-          false≢true (sym h ∙ either-way (c .frame .selected) (eqb v 2) (eqb v 1 && eqb (c .frame .opcode) reset) s (inr (and-both (eqb v 1) (eqb (c .frame .opcode) reset) (eq-eqb v 1 e) (eq-eqb _ _ r))))
 
   ticks-unchanged : (n : ℕ) → running (c .core) ≡ false → Unchanged c m (tick T c m n)
   ticks-unchanged n r =

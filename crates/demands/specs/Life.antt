@@ -1,7 +1,7 @@
 -- What a model's words mean for ours: a deselect that says 82h 01h or 82h 02h, an event that spares the job, a row without a working tick, and WEN without a job.
 -- `Meets3` puts them together.
 use Prim.Native.Nat.{ℕ, _<_}
-use mathlib.Core.Bool.{Bool, true, false, _&&_, _||_, false≢true}
+use mathlib.Core.Bool.{Bool, true, false, _&&_, false≢true}
 use mathlib.Core.List.{List, [], _∷_}
 use mathlib.Core.Path.{_≡_, refl, sym, ap, subst, _∙_}
 use mathlib.Core.Logic.{_⊎_, inl, inr, ⊎-elim}
@@ -9,10 +9,10 @@ use native.Mathlib.Decide.{ℕ-discrete, decLt}
 use native.Mathlib.Omega.{arith}
 use lib.Dec.{eqb}
 use lib.ListN.{length, getD}
-use borrow.Author.Tests.{eq-eqb, ne-eqb, eqb-true}
-use Rattle.cells.specs.Choice.{cond-yes, cond-no, cond-either, and-left, and-right, not-so}
+use borrow.Author.Tests.{eq-eqb, ne-eqb}
+use Rattle.cells.specs.Choice.{cond-yes, cond-no, cond-either, and-right, not-so}
 use Rattle.part.specs.Part.{Setting, settingOf}
-use Rattle.commands.specs.Table.{writeEnable, resetEnable, reset}
+use Rattle.commands.specs.Table.{writeEnable, resetEnable}
 use Rattle.kinds.specs.Kinds.{DESELECT, TICK, TICKS, LOOSE, Says, KindRow, kindRowIn, knownKind, kindRow, saysOf, isSaid}
 use Rattle.kinds.specs.Laws.{kind-each}
 use Rattle.chip.specs.declared.Chip.{Chip}
@@ -40,7 +40,7 @@ use Rattle.script.specs.Run.{World, does, onward}
 use Rattle.demands.specs.Model.{Reply, ours, Good, AllGood, Fit, doesBy}
 use Rattle.demands.specs.Demand3.{Started, Spares, AllSpare, resetCore}
 use Rattle.demands.specs.Ours.{told, done-as, onward-ours, setting-same, fit-onward}
-use Rattle.demands.specs.JobSteps.{replaces}
+use Rattle.demands.specs.JobSteps.{LeavesJob}
 use Rattle.demands.specs.JobSteps as JobSteps
 use Rattle.demands.specs.Stepwise as Stepwise
 
@@ -92,6 +92,7 @@ pub record ClosedWith (T : Setting) (c : Chip) (m : List ℕ) (v : ℕ) (o : Out
   pub closed : o ≡ closes T c m v
 
 module _ (T : Setting) (c : Chip) (m : List ℕ) (v : ℕ) (some : v ≡ 0 → ⊥) where
+  -- a deselect that says it does so
   deselect-closed : (loose : Bool) → deselect T c m loose .said ≡ Verdict v → ClosedWith T c m v (deselect T c m loose)
   deselect-closed loose =
       cond-either (λ (o : Outcome). o .said ≡ Verdict v → ClosedWith T c m v o) (c .frame .selected) _ _
@@ -122,6 +123,7 @@ module _ (T : Setting) (c : Chip) (m : List ℕ) (v : ℕ) (o : Outcome) (by : C
       ap (λ (o : Outcome). o .chip .core) (by .closed)
       ∙ cond-no (eqb (c .frame .count) 0) _ _ (not-so (eqb (c .frame .count) 0) (λ e. some (sym (by .verdict-is) ∙ cond-yes (eqb (c .frame .count) 0) _ _ e)))
 
+  -- and no cell changes
   pub closed-memory : o .memory ≡ m
   closed-memory = ap (λ (o : Outcome). o .memory) (by .closed)
 
@@ -158,10 +160,6 @@ does-ours area e w fit good = done-as (w .chip) (w .memory) area fit (e .kind) (
 pub says-ours : (area : List ℕ) (e : Event) (w : World) → Fit (w .chip) (w .memory) area → Good e → doesBy ours area e w .says ≡ recordBytes (does (settingOf (length (w .memory)) area) e w .said)
 says-ours area e w fit good = ap (λ (r : Reply). r .says) (does-ours area e w fit good)
 
-either-of : (a b : Bool) → (a || b) ≡ true → (a ≡ true) ⊎ (b ≡ true)
-either-of true b h = inl refl
-either-of false b h = inr h
-
 -- spared by what ours says to it, the job is spared by the definitions' verdict
 spares-ours : (area : List ℕ) (e : Event) (w : World) → Fit (w .chip) (w .memory) area → Good e → Spares ours area e w → JobSteps.Spares (settingOf (length (w .memory)) area) (w .chip) (e .kind)
 spares-ours area e w fit good s = record { known = good .0; no-power-cut = s .no-power-cut; clean-spares = spares false; loose-spares = spares true }
@@ -172,23 +170,14 @@ spares-ours area e w fit good s = record { known = good .0; no-power-cut = s .no
     c : Chip
     c = w .chip
 
-    v : Bool → ℕ
-    v loose = verdict (T .sectors) (c .core) (c .frame) loose
-
-    says : (loose : Bool) → e .kind ≡ closingKind loose → c .frame .selected ≡ true → doesBy ours area e w .says ≡ 0x82 ∷ v loose ∷ []
-    says loose k selected =
+    says : (loose : Bool) (v : ℕ) → e .kind ≡ closingKind loose → c .frame .selected ≡ true → verdict (T .sectors) (c .core) (c .frame) loose ≡ v → doesBy ours area e w .says ≡ 0x82 ∷ v ∷ []
+    says loose v k selected is =
         says-ours area e w fit good
         ∙ ap (λ (o : Outcome). recordBytes (o .said)) (as-deselect T c (w .memory) (e .kind) (e .body) loose k ∙ cond-yes (c .frame .selected) _ _ selected)
+        ∙ ap (λ (n : ℕ). 0x82 ∷ n ∷ []) is
 
-    spares : (loose : Bool) → e .kind ≡ closingKind loose → replaces T c loose ≡ false
-    spares loose k =
-        not-so (replaces T c loose)
-        (λ h.
-        let says-v = says loose k (and-left (c .frame .selected) _ h) in
-        ⊎-elim
-        (λ two. s .begins-none (says-v ∙ ap (λ (n : ℕ). 0x82 ∷ n ∷ []) (eqb-true (v loose) 2 two)))
-        (λ one. s .no-reset (says-v ∙ ap (λ (n : ℕ). 0x82 ∷ n ∷ []) (eqb-true (v loose) 1 (and-left (eqb (v loose) 1) _ one))) (eqb-true _ _ (and-right (eqb (v loose) 1) (eqb (c .frame .opcode) reset) one)))
-        (either-of (eqb (v loose) 2) (eqb (v loose) 1 && eqb (c .frame .opcode) reset) (and-right (c .frame .selected) _ h)))
+    spares : (loose : Bool) → e .kind ≡ closingKind loose → LeavesJob T c loose
+    spares loose k selected = (λ two. s .begins-none (says loose 2 k selected two), λ one is. s .no-reset (says loose 1 k selected one) is)
 
 -- and so over a row of events
 pub all-spare-ours : (area : List ℕ) (es : List Event) (w : World) → Fit (w .chip) (w .memory) area → AllGood es → AllSpare ours area es w → Stepwise.AllSpare (settingOf (length (w .memory)) area) es w

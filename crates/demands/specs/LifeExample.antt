@@ -62,6 +62,7 @@ refuted : {A : Type 0} (b : Bool) → not b ≡ true → b ≡ true → A
 refuted true h e = absurd (false≢true h)
 refuted false h e = absurd (false≢true e)
 
+-- an event, and a row of them, that pass the test spare the job by what ours says
 spares-by-test : (area : List ℕ) (e : Event) (w : World) → Fit (w .chip) (w .memory) area → Good e → sparing (settingOf (length (w .memory)) area) e w ≡ true → Spares ours area e w
 spares-by-test area e w fit good t =
     record {
@@ -106,6 +107,7 @@ wholeLife T w before begins life =
     && allSparing T life w₁
     && eqb (Stepwise.workedBy T life w₁) (total (jobIn w₁ .kind) (T .sectors))
 
+-- a record that is this verdict has its bytes
 is-verdict : (v : ℕ) (r : Record) → verdictIs v r ≡ true → recordBytes r ≡ 0x82 ∷ v ∷ []
 is-verdict v Nothing h = absurd (false≢true h)
 is-verdict v Floating h = absurd (false≢true h)
@@ -168,6 +170,7 @@ unfoldable pub allSound : List ℕ → List Event → Bool
 allSound s [] = true
 allSound s (e ∷ es) = knownKind (e .kind) && leb (e .offset + 1 + bodyLength (e .kind)) (length s) && inRange (e .kind) (e .body) && allSound s es
 
+-- events that pass it are
 sound-by-test : (s : List ℕ) (es : List Event) → allSound s es ≡ true → AllSound s es
 unfolding allSound AllSound
 sound-by-test s [] t = tt
@@ -195,6 +198,7 @@ begins = eventAt erasesCut 13
 abbrev pub life : List Event
 life = drop 9 (events erasesCut)
 
+-- these are its events, and they are sound
 in-order : events erasesCut ≡ before ++ (begins ∷ life)
 unfolding eventsFrom walk faultAt knownKind knownIn kindRow kindRowIn
 in-order = refl
@@ -215,6 +219,7 @@ module _ (R : Runner) (runner : Demand1Run ours R) (begun : JobsBegun ours) (m o
   abbrev answer : RunReply
   answer = R (fresh 0x00) m [] erasesCut out
 
+  -- what is looked at before the events is in order
   heard : Heard (fresh 0x00) (length m) 0 erasesCut
   unfolding permitted
   heard =
@@ -230,6 +235,7 @@ module _ (R : Runner) (runner : Demand1Run ours R) (begun : JobsBegun ours) (m o
   unfolding roomNeeded eventsFrom walk faultAt knownKind knownIn kindRow kindRowIn
   done = runner .numbers (fresh 0x00) m [] erasesCut out .none .1 (heard, all-sound, roomy)
 
+  -- the hypotheses: a legal chip, good events, a whole life
   fit : Fit (fresh 0x00) m []
   fit = record { state-legal = heard .state-legal; area-short = heard .area-short }
 

@@ -45,6 +45,7 @@ closed-by area e w v fit good some says = says-closed _ (w .chip) (w .memory) v 
 
 -- ---- the start and the count
 
+-- a deselect that says 82h 02h starts a job, and the working ticks of an event are those that found one running
 starts-ours : (c : Chip) (m area : List ℕ) (kind body : ℕ) (loose : Bool) → Ending c m area kind body loose → ours c m area kind body .says ≡ 0x82 ∷ 2 ∷ [] → Started c m (ours c m area kind body)
 starts-ours c m area kind body loose end says =
     let e : Event = event kind body in
@@ -119,6 +120,7 @@ outlook area kind start held d k w w′ a-job fit o =
     over : d + k ≡ stepsOf kind w → JobOver kind (bitsOf (w .chip .core)) (w′ .chip)
     over all = ⊎-elim (λ on. absurd (omega (arith, on .0))) (λ end. end .1) (o .where-it-is)
 
+-- a job under way, and a row of events that spares it
 module _ (area : List ℕ) (kind : JobKind) (start : ℕ) (held : List ℕ) (d : ℕ) (w : World) (es : List Event) (s : Spared ours area kind start held d w es) where
   abbrev T : Setting
   T = settingOf (length (w .memory)) area
@@ -132,6 +134,7 @@ module _ (area : List ℕ) (kind : JobKind) (start : ℕ) (held : List ℕ) (d :
   abbrev fit : Fit (w .chip) (w .memory) area
   fit = s .under-way .fit
 
+  -- the row leaves a legal chip
   fit-after : Fit (w′ .chip) (w′ .memory) area
   fit-after = fit-runs area es w fit (s .good)
 
@@ -146,6 +149,7 @@ module _ (area : List ℕ) (kind : JobKind) (start : ℕ) (held : List ℕ) (d :
         steps-left = subst (λ (j : Job). j .done < total (j .kind) (T .sectors)) is (core .job-unfinished (ap (λ (j : Job). isJob (j .kind)) is ∙ s .under-way .a-job));
       }
 
+  -- what has become of the job after the row
   lives-ours : Outlook kind start held d k w w′
   lives-ours =
       outlook area kind start held d k w w′ (s .under-way .a-job) fit-after
@@ -167,6 +171,7 @@ module _ (area : List ℕ) (kind : JobKind) (start : ℕ) (held : List ℕ) (d :
     closed-leaves : LeavesSteps ours area kind start held d w es e
     closed-leaves = leaves e (ap (λ (r : Reply). r .memory) (does-ours area e w′ fit-after good) ∙ closed-memory _ _ _ v _ closed-after)
 
+  -- a reset, and a power cut
   resets-ours : (e : Event) → Good e → w′ .chip .frame .opcode ≡ 0x99 → doesBy ours area e w′ .says ≡ 0x82 ∷ 1 ∷ []
       → LeavesSteps ours area kind start held d w es e × (doesBy ours area e w′ .chip .core ≡ resetCore (w′ .chip .core)) × (doesBy ours area e w′ .chip .held ≡ blankLoad)
   resets-ours e good is says =
@@ -184,6 +189,7 @@ module _ (area : List ℕ) (kind : JobKind) (start : ℕ) (held : List ℕ) (d :
 
   -- ---- WEN after the last step
 
+  -- with the job gone and no write enable done, WEN is off
   wen-off-ours : NoneEnables ours area es w → d + k ≡ stepsOf kind w → w′ .chip .core .wen ≡ false
   wen-off-ours none all =
       off-runs area es w fit (s .good) (s .spared) none

@@ -46,7 +46,7 @@ LegalityKept M = (area : List ℕ) (e : Event) (w : World) → Fit (w .chip) (w 
 
 -- ---- rows of events
 
--- the events of a row in two parts
+-- a row in two parts: what it comes to, and that both are good
 runs-split : (M : Model) (area : List ℕ) (es fs : List Event) (w : World) → runsBy M area (es ++ fs) w ≡ runsBy M area fs (runsBy M area es w)
 unfolding runsBy
 runs-split M area [] fs w = refl
@@ -84,6 +84,7 @@ module _ (M : Model) (kept : LegalityKept M) (D : Demand3 M) (area : List ℕ) w
 
   module _ (w : World) (fit : Fit (w .chip) (w .memory) area) (before : List Event) (begins : Event) (life : List Event) (good : AllGood (before ++ (begins ∷ life)))
       (h : HoldsLife M area w before begins life) where
+    -- the world that the job found, the world that it began in, and the world after its life
     abbrev w₀ : World
     w₀ = runsBy M area before w
 
@@ -93,6 +94,7 @@ module _ (M : Model) (kept : LegalityKept M) (D : Demand3 M) (area : List ℕ) w
     abbrev w₂ : World
     w₂ = runsBy M area life w₁
 
+    -- each part of the row is good, and those worlds' chips are legal
     good-before : AllGood before
     good-before = good-split before (begins ∷ life) good .0
 
@@ -106,10 +108,10 @@ module _ (M : Model) (kept : LegalityKept M) (D : Demand3 M) (area : List ℕ) w
     fit-begun : Fit (w₁ .chip) (w₁ .memory) area
     fit-begun = kept area begins w₀ fit-found (good-begins .0)
 
+    -- the job starts, stands at its step 0, and lives
     started : Started (w₀ .chip) (w₀ .memory) (doesBy M area begins w₀)
     started = D .starts (w₀ .chip) (w₀ .memory) area (begins .kind) (begins .body) (h .loose) (record { fit = fit-found; selected = h .selected; closing = h .closing }) (h .says-two)
 
-    -- the job stands at its step 0
     under-way : UnderWay area (jobIn w₁ .kind) (jobIn w₁ .start) (w₁ .chip .held) 0 w₁
     under-way =
         record {
