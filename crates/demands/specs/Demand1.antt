@@ -29,7 +29,6 @@ pub record RefusedWhen (number : ℕ) (c : Chip) (n extent kind body : ℕ) : Ty
 
 pub record Demand1 (M : Model) : Type 0 where
   pub numbers : (c : Chip) (m area : List ℕ) (kind body : ℕ) → RefusedWhen (M c m area kind body .refusal) c (length m) (length area) kind body
-
   -- refused, the chip and the memory are as they were, nothing is said and no tick works
   pub refused-keeps : (c : Chip) (m area : List ℕ) (kind body : ℕ) → (M c m area kind body .refusal ≡ 0 → ⊥)
       → M c m area kind body ≡ record { chip = c; memory = m; says = []; ticks = 0; refusal = M c m area kind body .refusal }
@@ -100,11 +99,9 @@ pub record RunRefusedWhen (number offset : ℕ) (c : Chip) (n extent : ℕ) (s :
 -- a runner over a model
 pub record Demand1Run (M : Model) (R : Runner) : Type 0 where
   pub numbers : (c : Chip) (m area s out : List ℕ) → RunRefusedWhen (R c m area s out .refusal) (R c m area s out .offset) c (length m) (length area) s (length out)
-
   -- refused, chip, memory and output are as they were, and both numbers are 0
   pub refused-keeps : (c : Chip) (m area s out : List ℕ) → (R c m area s out .refusal ≡ 0 → ⊥)
       → R c m area s out ≡ record { chip = c; memory = m; output = out; refusal = R c m area s out .refusal; offset = R c m area s out .offset; written = 0; ticks = 0 }
-
   -- done, the events have been applied one after the other; output beyond the written bytes keeps its content
   pub done-runs : (c : Chip) (m area s out : List ℕ) → R c m area s out .refusal ≡ 0
       → let w : World = runsBy M area (events s) (world c m [] 0) in

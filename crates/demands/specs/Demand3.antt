@@ -13,7 +13,7 @@ use Rattle.chip.specs.declared.JobKind.{JobKind}
 use Rattle.chip.specs.declared.JobKind.the-variants.{Idle, WriteStatus, Program, SmallErase, SectorErase, ChipErase}
 use Rattle.chip.specs.Fields.{withWen, withSuspended, withArmed, withJob}
 use Rattle.chip.specs.Job.{isJob, total, span, steps, wholeImage, noJob}
-use Rattle.chip.specs.Chip.{whole, emptyFrame, blankLoad, Bits, bitsIn, bitsOf}
+use Rattle.chip.specs.Chip.{whole, emptyFrame, blankLoad, Bits, bitsIn, bitsOf, running}
 use Rattle.script.specs.Script.{Event}
 use Rattle.script.specs.Run.{World}
 use Rattle.demands.specs.Model.{Reply, Model, reply, Good, AllGood, Fit, doesBy, onwardBy, runsBy, workingTicks, workedBy}
@@ -89,6 +89,23 @@ pub record Outlook (kind : JobKind) (start : ℕ) (held : List ℕ) (d k : ℕ) 
   -- and memory is the whole image on the memory that it began with, which has no steps in its definition
   pub whole-image : d ≡ 0 → k ≡ stepsOf kind w → w′ .memory ≡ wholeImage kind (sectorsIn (length (w .memory))) start held (w .memory)
 
+-- ---- ticks
+
+-- an event of n ticks
+pub data Ticking : ℕ → ℕ → ℕ → Type 0 where
+  one-tick : (body : ℕ) → Ticking 0x04 body 1
+  many-ticks : (n : ℕ) → 1 ≤ n → n ≤ 65535 → Ticking 0x05 n n
+
+-- ticks say nothing, and leave the frame, its load, SUS, the level of WP, sleep and arming as they were
+pub record TicksKeep (c : Chip) (r : Reply) : Type 0 where
+  pub says-nothing : r .says ≡ []
+  pub frame-same : r .chip .frame ≡ c .frame
+  pub load-same : r .chip .load ≡ c .load
+  pub suspended-same : r .chip .core .suspended ≡ c .core .suspended
+  pub wp-same : r .chip .core .wp ≡ c .core .wp
+  pub deep-same : r .chip .core .deep ≡ c .core .deep
+  pub armed-same : r .chip .core .armed ≡ c .core .armed
+
 -- ---- the cut
 
 -- a job that stood at step d in w, and a row of events that spares it
@@ -112,17 +129,17 @@ pub record Demand3 (M : Model) : Type 0 where
   pub jobs-begun : JobsBegun M
   pub starts : (c : Chip) (m area : List ℕ) (kind body : ℕ) (loose : Bool) → Ending c m area kind body loose → M c m area kind body .says ≡ 0x82 ∷ 2 ∷ []
       → Started c m (M c m area kind body)
-
   -- The count: the working ticks that an event answers are those that found a job running.
   pub counts : (area : List ℕ) (e : Event) (w : World) → Fit (w .chip) (w .memory) area → Good e → doesBy M area e w .ticks ≡ workingTicks w e
-
+  -- Ticks that find no job running do nothing, and all of them leave what is not the job's.
+  pub idle-ticks : (c : Chip) (m area : List ℕ) (kind body n : ℕ) → Fit c m area → Ticking kind body n → running (c .core) ≡ false → M c m area kind body ≡ reply c m [] 0
+  pub ticks-keep : (c : Chip) (m area : List ℕ) (kind body n : ℕ) → Fit c m area → Ticking kind body n → TicksKeep c (M c m area kind body)
   -- The life, over any events with no reset, power cut or other job begun.
   pub lives : (area : List ℕ) (kind : JobKind) (start : ℕ) (held : List ℕ) (d : ℕ) (w : World) (es : List Event) → Spared M area kind start held d w es
       → Outlook kind start held d (workedBy M area es w) w (runsBy M area es w)
   -- after its last step WEN is 0, until a write enable is done
   pub wen-off : (area : List ℕ) (kind : JobKind) (start : ℕ) (held : List ℕ) (d : ℕ) (w : World) (es : List Event) → Spared M area kind start held d w es
       → NoneEnables M area es w → d + workedBy M area es w ≡ stepsOf kind w → runsBy M area es w .chip .core .wen ≡ false
-
   -- The cut: a reset, a power cut, another job begun in suspension leave just those steps.
   pub reset-cuts : (area : List ℕ) (kind : JobKind) (start : ℕ) (held : List ℕ) (d : ℕ) (w : World) (es : List Event) (e : Event) → Spared M area kind start held d w es → Good e
       → let w′ : World = runsBy M area es w in
@@ -134,6 +151,5 @@ pub record Demand3 (M : Model) : Type 0 where
       ≡ reply (whole (poweredUp (w′ .chip .core)) emptyFrame blankLoad blankLoad) (steps kind start held d (workedBy M area es w) (w .memory)) [] 0
   pub other-job-cuts : (area : List ℕ) (kind : JobKind) (start : ℕ) (held : List ℕ) (d : ℕ) (w : World) (es : List Event) (e : Event) → Spared M area kind start held d w es → Good e
       → doesBy M area e (runsBy M area es w) .says ≡ 0x82 ∷ 2 ∷ [] → LeavesSteps M area kind start held d w es e
-
   -- No cell changes but by a working tick, so that the next job's life starts from that memory.
   pub cells-rest : (area : List ℕ) (w : World) (es : List Event) → Fit (w .chip) (w .memory) area → AllGood es → workedBy M area es w ≡ 0 → runsBy M area es w .memory ≡ w .memory

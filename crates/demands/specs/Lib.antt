@@ -11,6 +11,7 @@ pub mod EventRules
 pub mod ByteRules
 pub mod LegalStates
 pub mod Life
+pub mod TickRules
 pub mod Meets3
 pub mod WholeLife
 pub mod Datasheet

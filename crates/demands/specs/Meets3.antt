@@ -27,6 +27,7 @@ use Rattle.demands.specs.Demand3.{Started, UnderWay, AllSpare, NoneEnabl
 use Rattle.demands.specs.Ours.{fit-next, runs-ours, fit-runs, ticks-ours, worked-ours}
 use Rattle.demands.specs.Life.{ClosedWith, says-closed, closed-memory, two-starts, reset-drops, does-ours, says-ours, all-spare-ours, event-rests-cells, OffWithoutJob, off-event}
 use Rattle.demands.specs.JobSteps.{AtStep, JobOver}
+use Rattle.demands.specs.TickRules.{ours-idle-ticks, ours-ticks-keep}
 use Rattle.demands.specs.Stepwise.{k-steps, all-steps, outside-stays}
 use Rattle.demands.specs.Stepwise as Stepwise
 
@@ -205,6 +206,8 @@ meets-3-with begun =
       jobs-begun = begun;
       starts = starts-ours;
       counts = counts-ours;
+      idle-ticks = ours-idle-ticks;
+      ticks-keep = ours-ticks-keep;
       lives = lives-ours;
       wen-off = wen-off-ours;
       reset-cuts = λ area kind start held d w es e s good _ is says. resets-ours area kind start held d w es s e good is says;
