@@ -14,6 +14,7 @@ pub mod Life
 pub mod TickRules
 pub mod Meets3
 pub mod WholeLife
+pub mod Decided
 pub mod Datasheet
 pub mod Sfdp
 pub mod Unique
