@@ -15,6 +15,8 @@ pub mod TickRules
 pub mod Meets3
 pub mod WholeLife
 pub mod Decided
+pub mod Inside
+pub mod Opening
 pub mod Datasheet
 pub mod Sfdp
 pub mod Unique

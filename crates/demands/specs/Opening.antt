@@ -1,0 +1,128 @@
+-- The opening of a frame, over the definitions: on a legal unselected chip a select, the opcode byte and, for a command with one, an address of three bytes.
+use Prim.Native.Nat.{ℕ, _+_, _*_, _/_, _%_, _^_, _<_, _≤_}
+use mathlib.Core.Bool.{Bool, true, false, cond, not, _&&_, _||_, false≢true}
+use mathlib.Core.List.{List, [], _∷_, _++_}
+use mathlib.Core.Path.{_≡_, refl, sym, ap, subst, _∙_}
+use native.Mathlib.Nat.{mod-eq-of-lt}
+use native.Mathlib.Omega.{arith}
+use lib.Dec.{eqb, leb}
+use lib.ListN.{length, replicate}
+use borrow.Author.Tests.{eqb-true, lt-leb}
+use Rattle.cells.specs.Choice.{and-left, and-right, and-four}
+use Rattle.part.specs.Part.{Setting, settingOf}
+use Rattle.chip.specs.declared.Chip.{Chip}
+use Rattle.chip.specs.declared.Core.{Core}
+use Rattle.chip.specs.declared.Frame.{Frame}
+use Rattle.chip.specs.declared.Record.the-variants.{Floating}
+use Rattle.chip.specs.Chip.{whole, emptyFrame}
+use Rattle.legal.specs.Legal.{legal, isEmpty, isBlank, tidy}
+use Rattle.legal.specs.Legality.{chip-facts}
+use Rattle.commands.specs.Table.{isProgram, readStatus, lowPowerRead, highSpeedRead, jedecId, wake, readSfdp}
+use Rattle.frame.specs.Frame.{judge, shifted, firstPlace, addressing, exchange, readsCell, taken, exchanged}
+use Rattle.frame.specs.Laws.{taken-address, exchanged-taken}
+use Rattle.event.specs.Event.{settleExchange, applied}
+use Rattle.script.specs.Run.{World, world, after, onward, runs}
+use Rattle.demands.specs.Model.{event, sends}
+
+-- ---- the frame of an unselected chip
+
+-- of a legal chip without a frame the frame is empty and the load blank
+unselected-tidy : (f : Frame) (load : List ℕ) → tidy f load ≡ true → f .selected ≡ false → (isEmpty f && isBlank load) ≡ true
+unselected-tidy f load h u = go (f .selected) u h
+  where
+    go : (s : Bool) → s ≡ false → (s && not (eqb (f .count) 0) || isEmpty f && isBlank load) ≡ true → (isEmpty f && isBlank load) ≡ true
+    go true e q = absurd (false≢true (sym e))
+    go false e q = q
+
+frame-is-empty : (f : Frame) → f .selected ≡ false → isEmpty f ≡ true → f ≡ emptyFrame
+unfolding isEmpty
+frame-is-empty f unselected empty =
+    let four : Bool = eqb (f .opcode) 0 && eqb (f .address) 0 && eqb (f .place) 0 && eqb (f .slot) 0 in
+    let five : (four && eqb (f .count) 0) ≡ true = and-left (four && eqb (f .count) 0) (eqb (f .judgement) 0) empty in
+    let each = and-four (eqb (f .opcode) 0) (eqb (f .address) 0) (eqb (f .place) 0) (eqb (f .slot) 0) (and-left four (eqb (f .count) 0) five) in
+    λ i.
+    record {
+      selected = unselected i;
+      opcode = eqb-true (f .opcode) 0 (each .0) i;
+      address = eqb-true (f .address) 0 (each .1) i;
+      place = eqb-true (f .place) 0 (each .2) i;
+      slot = eqb-true (f .slot) 0 (each .3) i;
+      count = eqb-true (f .count) 0 (and-right four (eqb (f .count) 0) five) i;
+      judgement = eqb-true (f .judgement) 0 (and-right (four && eqb (f .count) 0) (eqb (f .judgement) 0) empty) i;
+    }
+
+module _ (c : Chip) (n : ℕ) (l : legal c n ≡ true) (unselected : c .frame .selected ≡ false) where
+  both : (isEmpty (c .frame) && isBlank (c .load)) ≡ true
+  both = unselected-tidy (c .frame) (c .load) (chip-facts c n l .tidy-part) unselected
+
+  pub frame-empty : c .frame ≡ emptyFrame
+  frame-empty = frame-is-empty (c .frame) unselected (and-left (isEmpty (c .frame)) (isBlank (c .load)) both)
+
+  pub load-blank : isBlank (c .load) ≡ true
+  load-blank = and-right (isEmpty (c .frame)) (isBlank (c .load)) both
+
+-- ---- the frame after the opcode byte, and after an address
+
+abbrev pub opcodeFrame : ℕ → ℕ → Frame
+opcodeFrame opcode v = record { selected = true; opcode = opcode; address = 0; place = 0; slot = 0; count = 1; judgement = v }
+
+abbrev pub addressFrame : ℕ → ℕ → ℕ → Frame
+addressFrame S opcode A = record { selected = true; opcode = opcode; address = A; place = firstPlace S opcode A; slot = A % 256; count = 4; judgement = 0 }
+
+-- ---- the bytes
+
+-- bytes 2 to 4 of a frame float and are its address, unless it is a read of the status or of the cycle
+address-taken : (T : Setting) (k : Core) (f : Frame) (load m : List ℕ) (b : ℕ) → (f .opcode ≡ readStatus → ⊥) → (f .opcode ≡ jedecId → ⊥) → f .count < 4
+    → taken T k f load m b ≡ exchange Floating (addressing (T .sectors) b f) load
+address-taken T k f load m b no-status no-jedec few =
+    let four : leb 4 (f .count) ≡ false = lt-leb 4 (f .count) few in
+    let five : leb 5 (f .count) ≡ false = lt-leb 5 (f .count) (omega arith) in
+    taken-address T k f load m b
+    ((λ i. eqb (f .opcode) lowPowerRead && four i || eqb (f .opcode) highSpeedRead && five i) ∙ neither (eqb (f .opcode) lowPowerRead) (eqb (f .opcode) highSpeedRead))
+    (early (isProgram (f .opcode)) _ four) no-status no-jedec (early (eqb (f .opcode) wake) _ four) (early (eqb (f .opcode) readSfdp) _ five)
+  where
+    early : (a b : Bool) → b ≡ false → (a && b) ≡ false
+    early true b e = e
+    early false b e = refl
+
+    neither : (a b : Bool) → (a && false || b && false) ≡ false
+    neither true b = early b false refl
+    neither false b = early b false refl
+
+module _ (T : Setting) (k : Core) (load held m : List ℕ) where
+  -- a world in the middle of a frame
+  abbrev pub amid : Frame → List ℕ → World
+  amid f written = world (whole k f load held) m written 0
+
+  -- The opcode byte floats and is judged.
+  pub opcode-opens : (opcode : ℕ) (bs : List ℕ) → opcode ≤ 255
+      → runs T (event 0x01 0 ∷ sends (opcode ∷ bs)) (amid emptyFrame []) ≡ runs T (sends bs) (amid (opcodeFrame opcode (judge k opcode)) (0x80 ∷ []))
+  unfolding runs applied exchanged
+  opcode-opens opcode bs small =
+      ap (λ (b : ℕ). runs T (sends bs) (amid (opcodeFrame b (judge k b)) (0x80 ∷ []))) (mod-eq-of-lt (omega arith))
+
+  -- an address byte floats
+  address-byte : (opcode A n b : ℕ) (written : List ℕ) → (opcode ≡ readStatus → ⊥) → (opcode ≡ jedecId → ⊥) → 0 < n → n < 4
+      → let f : Frame = record { selected = true; opcode = opcode; address = A; place = 0; slot = 0; count = n; judgement = 0 } in
+      onward T (event 0x02 b) (amid f written) ≡ amid (addressing (T .sectors) (b % 256) f) (written ++ (0x80 ∷ []))
+  unfolding applied
+  address-byte opcode A n b written no-status no-jedec some few =
+      let f : Frame = record { selected = true; opcode = opcode; address = A; place = 0; slot = 0; count = n; judgement = 0 } in
+      ap (λ e. after (amid f written) (settleExchange (whole k f load held) m e))
+      (exchanged-taken T k f load m (b % 256) refl (λ z. omega arith) refl ∙ address-taken T k f load m (b % 256) no-status no-jedec few)
+
+  -- The opcode byte and three bytes of address float, and then the address stands in the frame.
+  pub address-opens : (opcode A : ℕ) (bs : List ℕ) → opcode ≤ 255 → A < 2 ^ 24 → (opcode ≡ readStatus → ⊥) → (opcode ≡ jedecId → ⊥) → judge k opcode ≡ 0
+      → runs T (event 0x01 0 ∷ sends (opcode ∷ A / 65536 ∷ A / 256 % 256 ∷ A % 256 ∷ bs)) (amid emptyFrame []) ≡ runs T (sends bs) (amid (addressFrame (T .sectors) opcode A) (replicate 4 0x80))
+  unfolding runs
+  address-opens opcode A bs byte small no-status no-jedec free =
+      let high : ℕ = shifted 0 (A / 65536 % 256) in
+      let middle : ℕ = shifted high (A / 256 % 256 % 256) in
+      let all : shifted middle (A % 256 % 256) ≡ A = omega arith in
+      let low : A % 256 % 256 ≡ A % 256 = omega arith in
+      opcode-opens opcode (A / 65536 ∷ A / 256 % 256 ∷ A % 256 ∷ bs) byte
+      ∙ ap (λ (v : ℕ). runs T (sends (A / 65536 ∷ A / 256 % 256 ∷ A % 256 ∷ bs)) (amid (opcodeFrame opcode v) (0x80 ∷ []))) free
+      ∙ ap (runs T (sends (A / 256 % 256 ∷ A % 256 ∷ bs))) (address-byte opcode 0 1 (A / 65536) (replicate 1 0x80) no-status no-jedec (omega arith) (omega arith))
+      ∙ ap (runs T (sends (A % 256 ∷ bs))) (address-byte opcode high 2 (A / 256 % 256) (replicate 2 0x80) no-status no-jedec (omega arith) (omega arith))
+      ∙ ap (runs T (sends bs)) (address-byte opcode middle 3 (A % 256) (replicate 3 0x80) no-status no-jedec (omega arith) (omega arith))
+      ∙ (λ i. runs T (sends bs) (amid (record { selected = true; opcode = opcode; address = all i; place = firstPlace (T .sectors) opcode (all i); slot = low i; count = 4; judgement = 0 }) (replicate 4 0x80)))
