@@ -17,6 +17,8 @@ pub mod WholeLife
 pub mod Decided
 pub mod Inside
 pub mod Opening
+pub mod OursFrames
+pub mod Reads
 pub mod Datasheet
 pub mod Sfdp
 pub mod Unique

@@ -1,0 +1,74 @@
+-- Ours, in a frame: the bytes of its opening and the events inside it are good, so the world that they reach is the definitions' own.
+use Prim.Native.Nat.{ℕ, _/_, _%_, _^_, _<_, _≤_}
+use mathlib.Core.Bool.{Bool, true, false}
+use mathlib.Core.List.{List, [], _∷_, _++_}
+use mathlib.Core.Path.{_≡_, refl, sym, ap, subst, _∙_}
+use native.Mathlib.Omega.{arith}
+use lib.ListN.{length}
+use borrow.Author.Tests.{le-leb}
+use Rattle.part.specs.Part.{Setting, settingOf}
+use Rattle.kinds.specs.Kinds.{knownIn, knownKind, kindRowIn, kindRow, inRange}
+use Rattle.kinds.specs.Laws.{exchange-range}
+use Rattle.chip.specs.declared.Chip.{Chip}
+use Rattle.chip.specs.Record.{recordBytes}
+use Rattle.event.specs.Event.{applied}
+use Rattle.script.specs.Script.{Event}
+use Rattle.script.specs.Run.{World, world, does, runs}
+use Rattle.demands.specs.Model.{Reply, ours, event, sends, Good, AllGood, Fit, doesBy, runsBy}
+use Rattle.demands.specs.Demand2.{AllInside, AllBytes, opened}
+use Rattle.demands.specs.Ours.{told, done-as, runs-ours, fit-runs}
+use Rattle.demands.specs.Cut.{length-runs}
+use Rattle.demands.specs.Inside.{inside-good}
+
+-- ---- bytes
+
+-- the bytes of an address
+pub address-bytes : (A : ℕ) (bs : List ℕ) → A < 2 ^ 24 → AllBytes bs → AllBytes (A / 65536 ∷ A / 256 % 256 ∷ A % 256 ∷ bs)
+unfolding AllBytes
+address-bytes A bs small rest = (omega arith, (omega arith, (omega arith, rest)))
+
+-- nothing is wrong with a byte that is sent
+pub byte-good : (b : ℕ) → b ≤ 255 → Good (event 0x02 b)
+unfolding knownKind knownIn
+byte-good b small = (refl, exchange-range b ∙ le-leb b 255 small)
+
+-- nor with a row of them, and with a select before it
+sends-good : (bs : List ℕ) → AllBytes bs → AllGood (sends bs)
+unfolding AllBytes AllGood
+sends-good [] small = small
+sends-good (b ∷ bs) small = (byte-good b (small .0), sends-good bs (small .1))
+
+opening-good : (bs : List ℕ) → AllBytes bs → AllGood (event 0x01 0 ∷ sends bs)
+unfolding AllGood knownKind knownIn kindRow kindRowIn
+opening-good bs small = ((refl, refl), sends-good bs small)
+
+-- ---- worlds
+
+-- What an event says in a world that fits, with the setting of a memory of that length.
+pub says-as : (n : ℕ) (area : List ℕ) (e : Event) (w : World) → Fit (w .chip) (w .memory) area → length (w .memory) ≡ n → Good e
+    → doesBy ours area e w ≡ told (does (settingOf n area) e w)
+says-as n area e w fit long good =
+    done-as (w .chip) (w .memory) area fit (e .kind) (e .body) (good .0) (good .1) ∙ ap (λ (q : ℕ). told (does (settingOf q area) e w)) long
+
+-- the world after an opening of these bytes and these events: it fits, and it is the definitions' own
+pub record Reached (c : Chip) (m area bs : List ℕ) (es : List Event) : Type 0 where
+  pub fits : Fit (runsBy ours area es (opened ours c m area bs) .chip) (runsBy ours area es (opened ours c m area bs) .memory) area
+  pub long : length (runsBy ours area es (opened ours c m area bs) .memory) ≡ length m
+  pub as-defined : runsBy ours area es (opened ours c m area bs) ≡ runs (settingOf (length m) area) es (runs (settingOf (length m) area) (event 0x01 0 ∷ sends bs) (world c m [] 0))
+
+-- An opening and any good events reach such a world.
+pub reached : (c : Chip) (m area bs : List ℕ) (es : List Event) → Fit c m area → AllBytes bs → AllGood es → Reached c m area bs es
+reached c m area bs es fit small good =
+    let T : Setting = settingOf (length m) area in
+    let first : World = runs T (event 0x01 0 ∷ sends bs) (world c m [] 0) in
+    let opens : opened ours c m area bs ≡ first = runs-ours area (event 0x01 0 ∷ sends bs) (world c m [] 0) fit (opening-good bs small) in
+    let open-fits : Fit (opened ours c m area bs .chip) (opened ours c m area bs .memory) area = fit-runs area (event 0x01 0 ∷ sends bs) (world c m [] 0) fit (opening-good bs small) in
+    let same : settingOf (length (opened ours c m area bs .memory)) area ≡ T =
+        ap (λ (w : World). settingOf (length (w .memory)) area) opens ∙ ap (λ (n : ℕ). settingOf n area) (length-runs T (event 0x01 0 ∷ sends bs) (world c m [] 0)) in
+    let as-defined : runsBy ours area es (opened ours c m area bs) ≡ runs T es first =
+        runs-ours area es (opened ours c m area bs) open-fits good ∙ (λ i. runs (same i) es (opens i)) in
+    record {
+      fits = fit-runs area es (opened ours c m area bs) open-fits good;
+      long = ap (λ (w : World). length (w .memory)) as-defined ∙ length-runs T es first ∙ length-runs T (event 0x01 0 ∷ sends bs) (world c m [] 0);
+      as-defined = as-defined;
+    }
