@@ -19,6 +19,7 @@ pub mod Inside
 pub mod Opening
 pub mod OursFrames
 pub mod Reads
+pub mod Meets2Reads
 pub mod Datasheet
 pub mod Sfdp
 pub mod Unique

@@ -2,27 +2,32 @@
 use Prim.Native.Nat.{ℕ, _+_, _*_, _/_, _%_, _^_, _<_, _≤_}
 use mathlib.Core.Bool.{Bool, true, false, cond, not, _&&_, _||_, false≢true}
 use mathlib.Core.List.{List, [], _∷_, _++_}
-use mathlib.Core.Path.{_≡_, refl, sym, ap, subst, _∙_}
+use mathlib.Core.Path.{_≡_, refl, sym, ap, _∙_}
 use native.Mathlib.Nat.{mod-eq-of-lt}
 use native.Mathlib.Omega.{arith}
 use lib.Dec.{eqb, leb}
 use lib.ListN.{length, replicate}
 use borrow.Author.Tests.{eqb-true, lt-leb}
-use Rattle.cells.specs.Choice.{and-left, and-right, and-four}
-use Rattle.part.specs.Part.{Setting, settingOf}
+use Rattle.cells.specs.Choice.{cond-no, and-left, and-right, and-four, not-so}
+use Rattle.part.specs.Part.{Setting, sectorsIn, settingOf}
 use Rattle.chip.specs.declared.Chip.{Chip}
 use Rattle.chip.specs.declared.Core.{Core}
 use Rattle.chip.specs.declared.Frame.{Frame}
+use Rattle.chip.specs.declared.JobKind.{JobKind}
+use Rattle.chip.specs.declared.JobKind.the-variants.{Idle, WriteStatus, Program, SmallErase, SectorErase, ChipErase}
 use Rattle.chip.specs.declared.Record.the-variants.{Floating}
-use Rattle.chip.specs.Chip.{whole, emptyFrame}
+use Rattle.chip.specs.Job.{isJob, hasCells}
+use Rattle.chip.specs.Chip.{whole, emptyFrame, running}
 use Rattle.legal.specs.Legal.{legal, isEmpty, isBlank, tidy}
 use Rattle.legal.specs.Legality.{chip-facts}
-use Rattle.commands.specs.Table.{isProgram, readStatus, lowPowerRead, highSpeedRead, jedecId, wake, readSfdp}
+use Rattle.commands.specs.Table.{rowOf, isProgram, readStatus, lowPowerRead, highSpeedRead, jedecId, wake, readSfdp}
 use Rattle.frame.specs.Frame.{judge, shifted, firstPlace, addressing, exchange, readsCell, taken, exchanged}
 use Rattle.frame.specs.Laws.{taken-address, exchanged-taken}
 use Rattle.event.specs.Event.{settleExchange, applied}
+use Rattle.script.specs.Script.{Event}
 use Rattle.script.specs.Run.{World, world, after, onward, runs}
-use Rattle.demands.specs.Model.{event, sends}
+use Rattle.demands.specs.Model.{event, sends, address, Fit}
+use Rattle.demands.specs.Demand2.{Quiet, Ready}
 
 -- ---- the frame of an unselected chip
 
@@ -126,3 +131,71 @@ module _ (T : Setting) (k : Core) (load held m : List ℕ) where
       ∙ ap (runs T (sends (A % 256 ∷ bs))) (address-byte opcode high 2 (A / 256 % 256) (replicate 2 0x80) no-status no-jedec (omega arith) (omega arith))
       ∙ ap (runs T (sends bs)) (address-byte opcode middle 3 (A % 256) (replicate 3 0x80) no-status no-jedec (omega arith) (omega arith))
       ∙ (λ i. runs T (sends bs) (amid (record { selected = true; opcode = opcode; address = all i; place = firstPlace (T .sectors) opcode (all i); slot = low i; count = 4; judgement = 0 }) (replicate 4 0x80)))
+
+-- ---- what is taken
+
+-- Nothing stops a known opcode that is allowed where the chip is.
+pub unstopped : (k : Core) (opcode : ℕ) → rowOf opcode .known ≡ true → k .deep ≡ false → (running k && not (rowOf opcode .running)) ≡ false → (k .suspended && not (rowOf opcode .suspended)) ≡ false
+    → judge k opcode ≡ 0
+unfolding judge
+unstopped k opcode known awake while-running while-suspended =
+    cond-no (not (rowOf opcode .known)) _ _ (ap not known)
+    ∙ cond-no (k .deep && not (eqb opcode wake)) _ _ (ap (λ (d : Bool). d && not (eqb opcode wake)) awake)
+    ∙ cond-no (running k && not (rowOf opcode .running)) _ _ while-running
+    ∙ cond-no (k .suspended && not (rowOf opcode .suspended)) _ _ while-suspended
+
+-- an opcode that is allowed there
+pub allowed : (a b : Bool) → b ≡ true → (a && not b) ≡ false
+allowed true b h = ap not h
+allowed false b h = refl
+
+cells-job : (kind : JobKind) → hasCells kind ≡ true → isJob kind ≡ true
+cells-job Idle h = h
+cells-job (WriteStatus value) h = refl
+cells-job Program h = refl
+cells-job SmallErase h = refl
+cells-job SectorErase h = refl
+cells-job ChipErase h = refl
+
+-- a legal chip without a job is not suspended
+not-suspended : (c : Chip) (n : ℕ) → legal c n ≡ true → isJob (c .core .job .kind) ≡ false → c .core .suspended ≡ false
+not-suspended c n l idle = not-so (c .core .suspended) (λ e. false≢true (sym idle ∙ cells-job (c .core .job .kind) (chip-facts c n l .core-part .suspended-cells e)))
+
+-- so it takes every known opcode; a chip at rest, idle or suspended, takes those that are allowed while suspended
+pub quiet-takes : (c : Chip) (m area : List ℕ) → Quiet c m area → (opcode : ℕ) → rowOf opcode .known ≡ true → rowOf opcode .suspended ≡ true → judge (c .core) opcode ≡ 0
+quiet-takes c m area quiet opcode known suspended =
+    unstopped (c .core) opcode known (quiet .awake) (ap (λ (r : Bool). r && not (rowOf opcode .running)) (quiet .resting)) (allowed (c .core .suspended) (rowOf opcode .suspended) suspended)
+
+pub ready-takes : (c : Chip) (m area : List ℕ) → Ready c m area → (opcode : ℕ) → rowOf opcode .known ≡ true → judge (c .core) opcode ≡ 0
+ready-takes c m area ready opcode known =
+    let quiet : Quiet c m area = ready .quiet in
+    unstopped (c .core) opcode known (quiet .awake) (ap (λ (r : Bool). r && not (rowOf opcode .running)) (quiet .resting))
+    (ap (λ (s : Bool). s && not (rowOf opcode .suspended)) (not-suspended c (length m) (quiet .fit .state-legal) (ready .idle)))
+
+-- ---- the openings
+
+-- after these bytes, which float, an unselected chip has this frame
+abbrev pub Opens : Chip → List ℕ → List ℕ → List ℕ → Frame → Type 0
+Opens c m area bs f =
+    runs (settingOf (length m) area) (event 0x01 0 ∷ sends bs) (world c m [] 0) ≡ world (whole (c .core) f (c .load) (c .held)) m (replicate (length bs) 0x80) 0
+
+module _ (c : Chip) (m area : List ℕ) (fit : Fit c m area) (unselected : c .frame .selected ≡ false) where
+  abbrev T : Setting
+  T = settingOf (length m) area
+
+  -- any row of events begins with the empty frame
+  pub from-empty : (es : List Event) → runs T es (world c m [] 0) ≡ runs T es (amid T (c .core) (c .load) (c .held) m emptyFrame [])
+  from-empty es = ap (λ (f : Frame). runs T es (world (whole (c .core) f (c .load) (c .held)) m [] 0)) (frame-empty c (length m) (fit .state-legal) unselected)
+
+  pub opens-opcode : (opcode : ℕ) → opcode ≤ 255 → Opens c m area (opcode ∷ []) (opcodeFrame opcode (judge (c .core) opcode))
+  unfolding runs
+  opens-opcode opcode byte = from-empty (event 0x01 0 ∷ sends (opcode ∷ [])) ∙ opcode-opens T (c .core) (c .load) (c .held) m opcode [] byte
+
+  module _ (opcode A : ℕ) (byte : opcode ≤ 255) (small : A < 2 ^ 24) (no-status : opcode ≡ readStatus → ⊥) (no-jedec : opcode ≡ jedecId → ⊥) (free : judge (c .core) opcode ≡ 0) where
+    pub opens-address-and : (bs : List ℕ)
+        → runs T (event 0x01 0 ∷ sends (opcode ∷ (address A ++ bs))) (world c m [] 0) ≡ runs T (sends bs) (amid T (c .core) (c .load) (c .held) m (addressFrame (sectorsIn (length m)) opcode A) (replicate 4 0x80))
+    opens-address-and bs = from-empty _ ∙ address-opens T (c .core) (c .load) (c .held) m opcode A bs byte small no-status no-jedec free
+
+    pub opens-address : Opens c m area (opcode ∷ address A) (addressFrame (sectorsIn (length m)) opcode A)
+    unfolding runs
+    opens-address = opens-address-and []

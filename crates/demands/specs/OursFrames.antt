@@ -50,7 +50,11 @@ pub says-as : (n : ℕ) (area : List ℕ) (e : Event) (w : World) → Fit (w .ch
 says-as n area e w fit long good =
     done-as (w .chip) (w .memory) area fit (e .kind) (e .body) (good .0) (good .1) ∙ ap (λ (q : ℕ). told (does (settingOf q area) e w)) long
 
--- the world after an opening of these bytes and these events: it fits, and it is the definitions' own
+-- The world after an opening of these bytes is the definitions' own.
+pub opened-as : (c : Chip) (m area bs : List ℕ) → Fit c m area → AllBytes bs → opened ours c m area bs ≡ runs (settingOf (length m) area) (event 0x01 0 ∷ sends bs) (world c m [] 0)
+opened-as c m area bs fit small = runs-ours area (event 0x01 0 ∷ sends bs) (world c m [] 0) fit (opening-good bs small)
+
+-- the world after an opening of these bytes and then these events: it fits, and it is the definitions' own
 pub record Reached (c : Chip) (m area bs : List ℕ) (es : List Event) : Type 0 where
   pub fits : Fit (runsBy ours area es (opened ours c m area bs) .chip) (runsBy ours area es (opened ours c m area bs) .memory) area
   pub long : length (runsBy ours area es (opened ours c m area bs) .memory) ≡ length m
@@ -61,12 +65,11 @@ pub reached : (c : Chip) (m area bs : List ℕ) (es : List Event) → Fit c m ar
 reached c m area bs es fit small good =
     let T : Setting = settingOf (length m) area in
     let first : World = runs T (event 0x01 0 ∷ sends bs) (world c m [] 0) in
-    let opens : opened ours c m area bs ≡ first = runs-ours area (event 0x01 0 ∷ sends bs) (world c m [] 0) fit (opening-good bs small) in
+    let opens : opened ours c m area bs ≡ first = opened-as c m area bs fit small in
     let open-fits : Fit (opened ours c m area bs .chip) (opened ours c m area bs .memory) area = fit-runs area (event 0x01 0 ∷ sends bs) (world c m [] 0) fit (opening-good bs small) in
-    let same : settingOf (length (opened ours c m area bs .memory)) area ≡ T =
-        ap (λ (w : World). settingOf (length (w .memory)) area) opens ∙ ap (λ (n : ℕ). settingOf n area) (length-runs T (event 0x01 0 ∷ sends bs) (world c m [] 0)) in
+    let open-long : length (opened ours c m area bs .memory) ≡ length m = ap (λ (w : World). length (w .memory)) opens ∙ length-runs T (event 0x01 0 ∷ sends bs) (world c m [] 0) in
     let as-defined : runsBy ours area es (opened ours c m area bs) ≡ runs T es first =
-        runs-ours area es (opened ours c m area bs) open-fits good ∙ (λ i. runs (same i) es (opens i)) in
+        runs-ours area es (opened ours c m area bs) open-fits good ∙ (λ i. runs (settingOf (open-long i) area) es (opens i)) in
     record {
       fits = fit-runs area es (opened ours c m area bs) open-fits good;
       long = ap (λ (w : World). length (w .memory)) as-defined ∙ length-runs T es first ∙ length-runs T (event 0x01 0 ∷ sends bs) (world c m [] 0);

@@ -1,0 +1,109 @@
+-- Demand 2 of ours: the reads. Each drives its bytes whatever ticks, WP levels and selects come between them.
+use Prim.Native.Nat.{ℕ, _+_, _*_, _/_, _%_, _^_, _<_, _≤_}
+use mathlib.Core.Bool.{Bool, true, false}
+use mathlib.Core.List.{List, [], _∷_, _++_}
+use mathlib.Core.Path.{_≡_, refl, sym, ap, subst, _∙_}
+use native.Mathlib.Nat.{add-zero, zero-add, mod-eq-of-lt}
+use native.Mathlib.Omega.{arith}
+use lib.ListN.{length, getD, replicate}
+use Rattle.part.specs.Part.{Setting, settingOf, sectorsIn, lengthOf, jedecByte}
+use Rattle.part.specs.Laws.{permitted-whole, permitted-some}
+use Rattle.part.specs.Area.{areaByte}
+use Rattle.commands.specs.Table.{rowOf, rowIn, isProgram}
+use Rattle.chip.specs.declared.Chip.{Chip}
+use Rattle.chip.specs.declared.Core.{Core}
+use Rattle.chip.specs.declared.Frame.{Frame}
+use Rattle.chip.specs.Chip.{whole, running}
+use Rattle.chip.specs.Record.{recordBytes}
+use Rattle.legal.specs.Legality.{chip-facts}
+use Rattle.frame.specs.Frame.{judge, Exchange, taken, exchanged}
+use Rattle.event.specs.Event.{applied}
+use Rattle.script.specs.Script.{Event}
+use Rattle.script.specs.Run.{World, world, runs}
+use Rattle.demands.specs.Model.{Reply, ours, event, sends, address, Fit, runsBy}
+use Rattle.demands.specs.Demand2.{AllInside, AllBytes, bytesOf, Quiet, Ready, opened, saidNext, Drives, CellReads, OtherReads}
+use Rattle.demands.specs.Inside.{inside-good, frame-along, cells-rest}
+use Rattle.demands.specs.Opening.{opcodeFrame, Opens, quiet-takes, ready-takes, opens-opcode, opens-address, opens-address-and}
+use Rattle.demands.specs.OursFrames.{address-bytes, byte-good, opened-as, says-as, Reached, reached}
+use Rattle.demands.specs.Reads.{Read, Serves, Reading, data-byte, read-goes-on, round-follows, lowPower, highSpeed, sfdp, jedec, device, low-power-serves, high-speed-serves, sfdp-serves, jedec-serves, device-serves}
+
+-- ---- a read of ours, any of them
+
+module _ (c : Chip) (m area : List ℕ) (fit : Fit c m area) (opening : List ℕ) (bytes : AllBytes opening) (f : Frame) (opens : Opens c m area opening f) where
+  abbrev T : Setting
+  T = settingOf (length m) area
+
+  -- the bytes of an opening float
+  pub opening-floats : opened ours c m area opening .written ≡ replicate (length opening) 0x80
+  opening-floats = ap (λ (w : World). w .written) (opened-as c m area opening fit bytes ∙ opens)
+
+  module _ (es : List Event) (inside : AllInside es) where
+    abbrev there : World
+    there = runsBy ours area es (opened ours c m area opening)
+
+    abbrev first : World
+    first = world (whole (c .core) f (c .load) (c .held)) m (replicate (length opening) 0x80) 0
+
+    arrived : Reached c m area opening es
+    arrived = reached c m area opening es fit bytes (inside-good es inside)
+
+    pub there-as : there ≡ runs T es first
+    there-as = arrived .as-defined ∙ ap (runs T es) opens
+
+    -- where no job runs the cells are still the same
+    same-cells : running (c .core) ≡ false → there .memory ≡ m
+    same-cells rests = ap (λ (w : World). w .memory) there-as ∙ cells-rest T es inside first rests
+
+    -- a read's next byte is the one at its place, by core and memory as they then are
+    pub read-says : (r : Read) → Serves T r → (place : ℕ → ℕ) → ((j : ℕ) → r .next (place j) ≡ place (j + 1)) → Reading r place 0 f
+        → (b : ℕ) → b ≤ 255 → saidNext ours area there b ≡ 0x81 ∷ r .byte (there .chip .core) (there .memory) (place (bytesOf es)) ∷ []
+    unfolding applied
+    read-says r serves place follow begins b byte =
+        let goes-on : Reading r place (bytesOf es) (there .chip .frame) =
+            subst (λ (w : World). Reading r place (bytesOf es) (w .chip .frame)) (sym there-as) (frame-along T (Reading r place) (read-goes-on T r serves place follow) es inside first begins) in
+        ap (λ (q : Reply). q .says) (says-as (length m) area (event 0x02 b) there (arrived .fits) (arrived .long) (byte-good b byte))
+        ∙ ap (λ (x : Exchange). recordBytes (x .said)) (data-byte T r serves place (bytesOf es) (there .chip .core) (there .chip .frame) (there .chip .load) (there .memory) (b % 256) goes-on)
+
+  -- So, where no job runs, it drives the bytes of its places.
+  read-drives : (r : Read) → Serves T r → (place : ℕ → ℕ) → ((j : ℕ) → r .next (place j) ≡ place (j + 1)) → Reading r place 0 f
+      → running (c .core) ≡ false → (g : ℕ → ℕ) → ((k : Core) (j : ℕ) → r .byte k m (place j) ≡ g j) → Drives ours c m area opening g
+  read-drives r serves place follow begins rests g same =
+      record {
+        opening-floats = opening-floats;
+        byte-driven = λ es inside b byte.
+            read-says es inside r serves place follow begins b byte
+            ∙ ap (λ (q : List ℕ). 0x81 ∷ r .byte (there es inside .chip .core) q (place (bytesOf es)) ∷ []) (same-cells es inside rests)
+            ∙ ap (λ (q : ℕ). 0x81 ∷ q ∷ []) (same (there es inside .chip .core) (bytesOf es));
+      }
+
+-- ---- the reads of cells
+
+module _ (c : Chip) (m area : List ℕ) (quiet : Quiet c m area) where
+  abbrev S : ℕ
+  S = sectorsIn (length m)
+
+  as-long : lengthOf S ≡ length m
+  as-long = permitted-whole (length m) (chip-facts c (length m) (quiet .fit .state-legal) .length-permitted)
+
+  some-cells : 0 < lengthOf S
+  some-cells = omega (arith, permitted-some (length m) (chip-facts c (length m) (quiet .fit .state-legal) .length-permitted))
+
+  abbrev cellPlace : ℕ → ℕ → ℕ
+  cellPlace A j = (A + j) % lengthOf S
+
+  -- the byte at a place of a read of cells
+  cell-there : (A j : ℕ) → getD m (cellPlace A j) 0 ≡ getD m ((A + j) % length m) 0
+  cell-there A j = ap (λ (n : ℕ). getD m ((A + j) % n) 0) as-long
+
+  first-place : (A : ℕ) → A % lengthOf S ≡ cellPlace A 0
+  first-place A = ap (λ (q : ℕ). q % lengthOf S) (sym (add-zero A))
+
+  low-power-drives : (A : ℕ) → A < 2 ^ 24 → Drives ours c m area (0x03 ∷ address A) (λ j. getD m ((A + j) % length m) 0)
+  unfolding AllBytes rowOf rowIn
+  low-power-drives A small =
+      let T : Setting = settingOf (length m) area in
+      read-drives c m area (quiet .fit) (0x03 ∷ address A) (omega arith, address-bytes A [] small _) _
+      (opens-address c m area (quiet .fit) (quiet .unselected) 0x03 A (omega arith) small (λ e. omega arith) (λ e. omega arith) (quiet-takes c m area quiet 0x03 refl refl))
+      (lowPower T) (low-power-serves T) (cellPlace A) (λ j. round-follows (lengthOf S) A j some-cells)
+      (record { is-open = refl; opcode-is = refl; unjudged = refl; begun = omega arith; there = first-place A })
+      (quiet .resting) _ (λ k j. cell-there A j)
