@@ -23,7 +23,7 @@ use Rattle.script.specs.Run.{World, world, runs}
 use Rattle.demands.specs.Model.{Reply, ours, event, sends, address, Fit, runsBy}
 use Rattle.demands.specs.Demand2.{AllInside, AllBytes, bytesOf, Quiet, Ready, opened, saidNext, Drives, CellReads, OtherReads}
 use Rattle.demands.specs.Inside.{inside-good, frame-along, cells-rest}
-use Rattle.demands.specs.Opening.{opcodeFrame, Opens, quiet-takes, ready-takes, opens-opcode, opens-address, opens-address-and}
+use Rattle.demands.specs.Opening.{opcodeFrame, Opens, quiet-takes, ready-takes, opens-opcode, opens-address, opens-dummy}
 use Rattle.demands.specs.OursFrames.{address-bytes, byte-good, opened-as, says-as, Reached, reached}
 use Rattle.demands.specs.Reads.{Read, Serves, Reading, data-byte, read-goes-on, round-follows, lowPower, highSpeed, sfdp, jedec, device, low-power-serves, high-speed-serves, sfdp-serves, jedec-serves, device-serves}
 
@@ -98,12 +98,78 @@ module _ (c : Chip) (m area : List ℕ) (quiet : Quiet c m area) where
   first-place : (A : ℕ) → A % lengthOf S ≡ cellPlace A 0
   first-place A = ap (λ (q : ℕ). q % lengthOf S) (sym (add-zero A))
 
-  low-power-drives : (A : ℕ) → A < 2 ^ 24 → Drives ours c m area (0x03 ∷ address A) (λ j. getD m ((A + j) % length m) 0)
+  -- a frame at the place of its address, with n bytes gone
+  at-cells : (r : Read) (A n : ℕ) → r .before ≤ n → Reading r (cellPlace A) 0 (record { selected = true; opcode = r .opcode; address = A; place = A % lengthOf S; slot = A % 256; count = n; judgement = 0 })
+  at-cells r A n enough = record { is-open = refl; opcode-is = refl; unjudged = refl; begun = enough; there = ap (λ (q : ℕ). q % lengthOf S) (sym (add-zero A)) }
+
+  -- Ours reads cells as the demand says, idle or suspended.
+  pub ours-cell-reads : CellReads ours c m area
   unfolding AllBytes rowOf rowIn
-  low-power-drives A small =
+  ours-cell-reads =
+      record {
+        low-power = λ A small.
+            read-drives c m area (quiet .fit) (0x03 ∷ address A) (omega arith, address-bytes A [] small _) _
+            (opens-address c m area (quiet .fit) (quiet .unselected) 0x03 A (omega arith) small (λ e. omega arith) (λ e. omega arith) (quiet-takes c m area quiet 0x03 refl refl))
+            (lowPower T) (low-power-serves T) (cellPlace A) (λ j. round-follows (lengthOf S) A j some-cells) (at-cells (lowPower T) A 4 (omega arith)) (quiet .resting) _ (λ k j. cell-there A j);
+        high-speed = λ A dummy small byte.
+            read-drives c m area (quiet .fit) (0x0B ∷ (address A ++ (dummy ∷ []))) (omega arith, address-bytes A (dummy ∷ []) small (byte, _)) _
+            (opens-dummy c m area (quiet .fit) (quiet .unselected) 0x0B A (omega arith) small (λ e. omega arith) (λ e. omega arith) (quiet-takes c m area quiet 0x0B refl refl) refl dummy)
+            (highSpeed T) (high-speed-serves T) (cellPlace A) (λ j. round-follows (lengthOf S) A j some-cells) (at-cells (highSpeed T) A 5 (omega arith)) (quiet .resting) _ (λ k j. cell-there A j);
+      }
+    where
+      T : Setting
+      T = settingOf (length m) area
+
+-- ---- the reads of an idle chip
+
+module _ (c : Chip) (m area : List ℕ) (ready : Ready c m area) where
+  abbrev quiet : Quiet c m area
+  quiet = ready .quiet
+
+  sfdp-drives : (A dummy : ℕ) → A < 2 ^ 24 → dummy ≤ 255 → Drives ours c m area (0x5A ∷ (address A ++ (dummy ∷ []))) (λ j. getD area ((A + j) % 2 ^ 24) 0xFF)
+  unfolding AllBytes rowOf rowIn
+  sfdp-drives A dummy small byte =
       let T : Setting = settingOf (length m) area in
-      read-drives c m area (quiet .fit) (0x03 ∷ address A) (omega arith, address-bytes A [] small _) _
-      (opens-address c m area (quiet .fit) (quiet .unselected) 0x03 A (omega arith) small (λ e. omega arith) (λ e. omega arith) (quiet-takes c m area quiet 0x03 refl refl))
-      (lowPower T) (low-power-serves T) (cellPlace A) (λ j. round-follows (lengthOf S) A j some-cells)
-      (record { is-open = refl; opcode-is = refl; unjudged = refl; begun = omega arith; there = first-place A })
-      (quiet .resting) _ (λ k j. cell-there A j)
+      read-drives c m area (quiet .fit) (0x5A ∷ (address A ++ (dummy ∷ []))) (omega arith, address-bytes A (dummy ∷ []) small (byte, _)) _
+      (opens-dummy c m area (quiet .fit) (quiet .unselected) 0x5A A (omega arith) small (λ e. omega arith) (λ e. omega arith) (ready-takes c m area ready 0x5A refl) refl dummy)
+      (sfdp T) (sfdp-serves T) (λ j. (A + j) % 2 ^ 24) (λ j. round-follows (2 ^ 24) A j (omega arith))
+      (record { is-open = refl; opcode-is = refl; unjudged = refl; begun = omega arith; there = sym (mod-eq-of-lt small) ∙ ap (λ (q : ℕ). q % 2 ^ 24) (sym (add-zero A)) })
+      (quiet .resting) _ (λ k j. refl)
+
+  jedec-drives : Drives ours c m area (0x9F ∷ []) (λ j. getD (0x62 ∷ 0x16 ∷ 0x15 ∷ 0x00 ∷ []) (j % 4) 0)
+  unfolding AllBytes rowOf rowIn
+  jedec-drives =
+      let T : Setting = settingOf (length m) area in
+      read-drives c m area (quiet .fit) (0x9F ∷ []) (omega arith, _) _
+      (opens-opcode c m area (quiet .fit) (quiet .unselected) 0x9F (omega arith))
+      (jedec T) (jedec-serves T) (λ j. (0 + j) % 4) (λ j. round-follows 4 0 j (omega arith))
+      (record { is-open = refl; opcode-is = refl; unjudged = ready-takes c m area ready 0x9F refl; begun = omega arith; there = refl })
+      (quiet .resting) _ (λ k j. ap (λ (q : ℕ). jedecByte (q % 4)) (zero-add j))
+
+  device-drives : (A : ℕ) → A < 2 ^ 24 → Drives ours c m area (0xAB ∷ address A) (λ j. 0x88)
+  unfolding AllBytes rowOf rowIn
+  device-drives A small =
+      let T : Setting = settingOf (length m) area in
+      read-drives c m area (quiet .fit) (0xAB ∷ address A) (omega arith, address-bytes A [] small _) _
+      (opens-address c m area (quiet .fit) (quiet .unselected) 0xAB A (omega arith) small (λ e. omega arith) (λ e. omega arith) (ready-takes c m area ready 0xAB refl))
+      (device T) (device-serves T) (λ j. A % lengthOf (sectorsIn (length m))) (λ j. refl)
+      (record { is-open = refl; opcode-is = refl; unjudged = refl; begun = omega arith; there = refl })
+      (quiet .resting) _ (λ k j. refl)
+
+  -- any three bytes are an address
+  three-bytes : (x y z : ℕ) → x ≤ 255 → y ≤ 255 → z ≤ 255 → address (x * 65536 + y * 256 + z) ≡ x ∷ y ∷ z ∷ []
+  three-bytes x y z p q r =
+      let A : ℕ = x * 65536 + y * 256 + z in
+      let high : A / 65536 ≡ x = omega arith in
+      let middle : A / 256 % 256 ≡ y = omega arith in
+      let low : A % 256 ≡ z = omega arith in
+      λ i. high i ∷ middle i ∷ low i ∷ []
+
+  -- An idle chip of ours reads the area, the cycle and the device's byte as the demand says.
+  pub ours-other-reads : OtherReads ours c m area
+  ours-other-reads =
+      record {
+        sfdp = sfdp-drives;
+        jedec = jedec-drives;
+        device = λ x y z p q r. subst (λ (bs : List ℕ). Drives ours c m area (0xAB ∷ bs) (λ j. 0x88)) (three-bytes x y z p q r) (device-drives (x * 65536 + y * 256 + z) (omega arith));
+      }

@@ -2,7 +2,7 @@
 use Prim.Native.Nat.{ℕ, _+_, _*_, _/_, _%_, _^_, _<_, _≤_}
 use mathlib.Core.Bool.{Bool, true, false, cond, not, _&&_, _||_, false≢true}
 use mathlib.Core.List.{List, [], _∷_, _++_}
-use mathlib.Core.Path.{_≡_, refl, sym, ap, _∙_}
+use mathlib.Core.Path.{_≡_, refl, sym, ap, subst, _∙_}
 use native.Mathlib.Nat.{mod-eq-of-lt}
 use native.Mathlib.Omega.{arith}
 use lib.Dec.{eqb, leb}
@@ -16,6 +16,7 @@ use Rattle.chip.specs.declared.Frame.{Frame}
 use Rattle.chip.specs.declared.JobKind.{JobKind}
 use Rattle.chip.specs.declared.JobKind.the-variants.{Idle, WriteStatus, Program, SmallErase, SectorErase, ChipErase}
 use Rattle.chip.specs.declared.Record.the-variants.{Floating}
+use Rattle.chip.specs.Fields.{withCount}
 use Rattle.chip.specs.Job.{isJob, hasCells}
 use Rattle.chip.specs.Chip.{whole, emptyFrame, running}
 use Rattle.legal.specs.Legal.{legal, isEmpty, isBlank, tidy}
@@ -27,7 +28,7 @@ use Rattle.event.specs.Event.{settleExchange, applied}
 use Rattle.script.specs.Script.{Event}
 use Rattle.script.specs.Run.{World, world, after, onward, runs}
 use Rattle.demands.specs.Model.{event, sends, address, Fit}
-use Rattle.demands.specs.Demand2.{Quiet, Ready}
+use Rattle.demands.specs.Demand2.{among, Quiet, Ready}
 
 -- ---- the frame of an unselected chip
 
@@ -174,6 +175,15 @@ ready-takes c m area ready opcode known =
 
 -- ---- the openings
 
+-- what holds of each of two numbers holds of any number among them
+pub among-two : (P : ℕ → Type 0) (a b : ℕ) → P a → P b → (x : ℕ) → among (a ∷ b ∷ []) x ≡ true → P x
+among-two P a b p q x h = go (eqb x a) (eqb x b) refl refl h
+  where
+    go : (t u : Bool) → eqb x a ≡ t → eqb x b ≡ u → (t || (u || false)) ≡ true → P x
+    go true u d e z = subst P (sym (eqb-true x a d)) p
+    go false true d e z = subst P (sym (eqb-true x b e)) q
+    go false false d e z = absurd (false≢true z)
+
 -- after these bytes, which float, an unselected chip has this frame
 abbrev pub Opens : Chip → List ℕ → List ℕ → List ℕ → Frame → Type 0
 Opens c m area bs f =
@@ -199,3 +209,13 @@ module _ (c : Chip) (m area : List ℕ) (fit : Fit c m area) (unselected : c .fr
     pub opens-address : Opens c m area (opcode ∷ address A) (addressFrame (sectorsIn (length m)) opcode A)
     unfolding runs
     opens-address = opens-address-and []
+
+    -- 0Bh and 5Ah have a dummy byte, which floats too
+    pub opens-dummy : among (0x0B ∷ 0x5A ∷ []) opcode ≡ true → (dummy : ℕ) → Opens c m area (opcode ∷ (address A ++ (dummy ∷ []))) (withCount 5 (addressFrame (sectorsIn (length m)) opcode A))
+    unfolding runs applied exchanged taken isProgram
+    opens-dummy has dummy =
+        opens-address-and (dummy ∷ [])
+        ∙ among-two
+        (λ (q : ℕ). runs T (sends (dummy ∷ [])) (amid T (c .core) (c .load) (c .held) m (addressFrame (sectorsIn (length m)) q A) (replicate 4 0x80))
+        ≡ amid T (c .core) (c .load) (c .held) m (withCount 5 (addressFrame (sectorsIn (length m)) q A)) (replicate 5 0x80))
+        0x0B 0x5A refl refl opcode has
