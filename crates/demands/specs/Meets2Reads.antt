@@ -1,9 +1,9 @@
 -- Demand 2 of ours: the reads. Each drives its bytes whatever ticks, WP levels and selects come between them.
 use Prim.Native.Nat.{ℕ, _+_, _*_, _/_, _%_, _^_, _<_, _≤_}
-use mathlib.Core.Bool.{Bool, true, false}
+use mathlib.Core.Bool.{Bool, true, false, cond}
 use mathlib.Core.List.{List, [], _∷_, _++_}
 use mathlib.Core.Path.{_≡_, refl, sym, ap, subst, _∙_}
-use native.Mathlib.Nat.{add-zero, zero-add, mod-eq-of-lt}
+use native.Mathlib.Nat.{add-zero, zero-add, mul-one, mul-zero, mod-eq-of-lt}
 use native.Mathlib.Omega.{arith}
 use lib.ListN.{length, getD, replicate}
 use Rattle.part.specs.Part.{Setting, settingOf, sectorsIn, lengthOf, jedecByte}
@@ -13,7 +13,7 @@ use Rattle.commands.specs.Table.{rowOf, rowIn, isProgram}
 use Rattle.chip.specs.declared.Chip.{Chip}
 use Rattle.chip.specs.declared.Core.{Core}
 use Rattle.chip.specs.declared.Frame.{Frame}
-use Rattle.chip.specs.Chip.{whole, running}
+use Rattle.chip.specs.Chip.{running, statusByte}
 use Rattle.chip.specs.Record.{recordBytes}
 use Rattle.legal.specs.Legality.{chip-facts}
 use Rattle.frame.specs.Frame.{judge, Exchange, taken, exchanged}
@@ -21,11 +21,10 @@ use Rattle.event.specs.Event.{applied}
 use Rattle.script.specs.Script.{Event}
 use Rattle.script.specs.Run.{World, world, runs}
 use Rattle.demands.specs.Model.{Reply, ours, event, sends, address, Fit, runsBy}
-use Rattle.demands.specs.Demand2.{AllInside, AllBytes, bytesOf, Quiet, Ready, opened, saidNext, Drives, CellReads, OtherReads}
-use Rattle.demands.specs.Inside.{inside-good, frame-along, cells-rest}
-use Rattle.demands.specs.Opening.{opcodeFrame, Opens, quiet-takes, ready-takes, opens-opcode, opens-address, opens-dummy}
-use Rattle.demands.specs.OursFrames.{address-bytes, byte-good, opened-as, says-as, Reached, reached}
-use Rattle.demands.specs.Reads.{Read, Serves, Reading, data-byte, read-goes-on, round-follows, lowPower, highSpeed, sfdp, jedec, device, low-power-serves, high-speed-serves, sfdp-serves, jedec-serves, device-serves}
+use Rattle.demands.specs.Demand2.{AllInside, AllBytes, bytesOf, Quiet, Ready, opened, saidNext, Drives, CellReads, OtherReads, StatusByte, SaysStatus, StatusRead}
+use Rattle.demands.specs.Opening.{opcodeFrame, Opens, unstopped, allowed, quiet-takes, ready-takes, opens-opcode, opens-address, opens-dummy}
+use Rattle.demands.specs.OursFrames.{address-bytes, byte-good, opening-floats, still-fits, does-as, frame-there, same-cells}
+use Rattle.demands.specs.Reads.{Read, Serves, Reading, data-byte, read-goes-on, round-follows, lowPower, highSpeed, sfdp, jedec, device, status, low-power-serves, high-speed-serves, sfdp-serves, jedec-serves, device-serves, status-serves}
 
 -- ---- a read of ours, any of them
 
@@ -33,48 +32,30 @@ module _ (c : Chip) (m area : List ℕ) (fit : Fit c m area) (opening : List ℕ
   abbrev T : Setting
   T = settingOf (length m) area
 
-  -- the bytes of an opening float
-  pub opening-floats : opened ours c m area opening .written ≡ replicate (length opening) 0x80
-  opening-floats = ap (λ (w : World). w .written) (opened-as c m area opening fit bytes ∙ opens)
+  abbrev later : List Event → World
+  later es = runsBy ours area es (opened ours c m area opening)
 
-  module _ (es : List Event) (inside : AllInside es) where
-    abbrev there : World
-    there = runsBy ours area es (opened ours c m area opening)
-
-    abbrev first : World
-    first = world (whole (c .core) f (c .load) (c .held)) m (replicate (length opening) 0x80) 0
-
-    arrived : Reached c m area opening es
-    arrived = reached c m area opening es fit bytes (inside-good es inside)
-
-    pub there-as : there ≡ runs T es first
-    there-as = arrived .as-defined ∙ ap (runs T es) opens
-
-    -- where no job runs the cells are still the same
-    same-cells : running (c .core) ≡ false → there .memory ≡ m
-    same-cells rests = ap (λ (w : World). w .memory) there-as ∙ cells-rest T es inside first rests
-
-    -- a read's next byte is the one at its place, by core and memory as they then are
-    pub read-says : (r : Read) → Serves T r → (place : ℕ → ℕ) → ((j : ℕ) → r .next (place j) ≡ place (j + 1)) → Reading r place 0 f
-        → (b : ℕ) → b ≤ 255 → saidNext ours area there b ≡ 0x81 ∷ r .byte (there .chip .core) (there .memory) (place (bytesOf es)) ∷ []
+  module _ (r : Read) (serves : Serves T r) (place : ℕ → ℕ) (follow : (j : ℕ) → r .next (place j) ≡ place (j + 1)) (begins : Reading r place 0 f) where
+    -- its next byte is the one at its place, by core and memory as they then are
+    read-says : (es : List Event) → AllInside es → (b : ℕ) → b ≤ 255 → saidNext ours area (later es) b ≡ 0x81 ∷ r .byte (later es .chip .core) (later es .memory) (place (bytesOf es)) ∷ []
     unfolding applied
-    read-says r serves place follow begins b byte =
-        let goes-on : Reading r place (bytesOf es) (there .chip .frame) =
-            subst (λ (w : World). Reading r place (bytesOf es) (w .chip .frame)) (sym there-as) (frame-along T (Reading r place) (read-goes-on T r serves place follow) es inside first begins) in
-        ap (λ (q : Reply). q .says) (says-as (length m) area (event 0x02 b) there (arrived .fits) (arrived .long) (byte-good b byte))
-        ∙ ap (λ (x : Exchange). recordBytes (x .said)) (data-byte T r serves place (bytesOf es) (there .chip .core) (there .chip .frame) (there .chip .load) (there .memory) (b % 256) goes-on)
+    read-says es inside b byte =
+        let w : World = later es in
+        ap (λ (q : Reply). q .says) (does-as c m area fit opening bytes f opens es inside (event 0x02 b) (byte-good b byte))
+        ∙ ap (λ (x : Exchange). recordBytes (x .said))
+        (data-byte T r serves place (bytesOf es) (w .chip .core) (w .chip .frame) (w .chip .load) (w .memory) (b % 256)
+        (frame-there c m area fit opening bytes f opens es inside (Reading r place) (read-goes-on T r serves place follow) begins))
 
-  -- So, where no job runs, it drives the bytes of its places.
-  read-drives : (r : Read) → Serves T r → (place : ℕ → ℕ) → ((j : ℕ) → r .next (place j) ≡ place (j + 1)) → Reading r place 0 f
-      → running (c .core) ≡ false → (g : ℕ → ℕ) → ((k : Core) (j : ℕ) → r .byte k m (place j) ≡ g j) → Drives ours c m area opening g
-  read-drives r serves place follow begins rests g same =
-      record {
-        opening-floats = opening-floats;
-        byte-driven = λ es inside b byte.
-            read-says es inside r serves place follow begins b byte
-            ∙ ap (λ (q : List ℕ). 0x81 ∷ r .byte (there es inside .chip .core) q (place (bytesOf es)) ∷ []) (same-cells es inside rests)
-            ∙ ap (λ (q : ℕ). 0x81 ∷ q ∷ []) (same (there es inside .chip .core) (bytesOf es));
-      }
+    -- so, where no job runs, it drives the bytes of its places
+    read-drives : running (c .core) ≡ false → (g : ℕ → ℕ) → ((k : Core) (j : ℕ) → r .byte k m (place j) ≡ g j) → Drives ours c m area opening g
+    read-drives rests g same =
+        record {
+          opening-floats = opening-floats c m area fit opening bytes f opens;
+          byte-driven = λ es inside b byte.
+              read-says es inside b byte
+              ∙ ap (λ (q : List ℕ). 0x81 ∷ r .byte (later es .chip .core) q (place (bytesOf es)) ∷ []) (same-cells c m area fit opening bytes f opens es inside rests)
+              ∙ ap (λ (q : ℕ). 0x81 ∷ q ∷ []) (same (later es .chip .core) (bytesOf es));
+        }
 
 -- ---- the reads of cells
 
@@ -173,3 +154,46 @@ module _ (c : Chip) (m area : List ℕ) (ready : Ready c m area) where
         jedec = jedec-drives;
         device = λ x y z p q r. subst (λ (bs : List ℕ). Drives ours c m area (0xAB ∷ bs) (λ j. 0x88)) (three-bytes x y z p q r) (device-drives (x * 65536 + y * 256 + z) (omega arith));
       }
+
+-- ---- the status
+
+-- the status byte has the status bits
+status-bits : (k : Core) → k .level ≤ 7 → StatusByte k (statusByte k)
+unfolding statusByte
+status-bits k h =
+    let r = weight (running k) 1 in
+    let e = weight (k .wen) 2 in
+    let t = weight (k .tb) 32 in
+    let u = weight (k .suspended) 64 in
+    let p = weight (k .srwp) 128 in
+    record {
+      rdy = omega (arith, r .1, e .0, e .1, t .0, t .1, u .0, u .1, p .0, p .1);
+      wen = omega (arith, r .1, e .0, e .1, t .0, t .1, u .0, u .1, p .0, p .1);
+      bp = omega (arith, r .1, e .0, e .1, t .0, t .1, u .0, u .1, p .0, p .1);
+      tb = omega (arith, r .1, e .0, e .1, t .0, t .1, u .0, u .1, p .0, p .1);
+      sus = omega (arith, r .1, e .0, e .1, t .0, t .1, u .0, u .1, p .0, p .1);
+      srwp = omega (arith, r .1, e .0, e .1, t .0, t .1, u .0, u .1, p .0, p .1);
+    }
+  where
+    weight : (b : Bool) (w : ℕ) → (_≡_ {A = ℕ} (cond b w 0) (w * cond b 1 0)) × (_≤_ (cond b 1 0) 1)
+    weight true w = (sym (mul-one w), omega arith)
+    weight false w = (sym (mul-zero w), omega arith)
+
+-- A status read of ours drives the status as it is at each byte.
+pub ours-status-read : StatusRead ours
+unfolding AllBytes rowOf rowIn
+ours-status-read c m area fit awake unselected es inside b byte =
+    let T : Setting = settingOf (length m) area in
+    let w : World = runsBy ours area es (opened ours c m area (0x05 ∷ [])) in
+    let small : AllBytes (0x05 ∷ []) = (omega arith, _) in
+    let f : Frame = opcodeFrame 0x05 (judge (c .core) 0x05) in
+    let opens : Opens c m area (0x05 ∷ []) f = opens-opcode c m area fit unselected 0x05 (omega arith) in
+    let free : judge (c .core) 0x05 ≡ 0 = unstopped (c .core) 0x05 refl awake (allowed (running (c .core)) true refl) (allowed (c .core .suspended) true refl) in
+    (opening-floats c m area fit (0x05 ∷ []) small f opens,
+    record {
+      byte = statusByte (w .chip .core);
+      driven = read-says c m area fit (0x05 ∷ []) small f opens (status T) (status-serves T) (λ j. 0) (λ j. refl)
+          (record { is-open = refl; opcode-is = refl; unjudged = free; begun = omega arith; there = refl }) es inside b byte;
+      bits = status-bits (w .chip .core)
+          (chip-facts (w .chip) (length (w .memory)) (still-fits c m area fit (0x05 ∷ []) small f opens es inside .state-legal) .core-part .level-small);
+    })

@@ -4,21 +4,22 @@ use mathlib.Core.Bool.{Bool, true, false}
 use mathlib.Core.List.{List, [], _∷_, _++_}
 use mathlib.Core.Path.{_≡_, refl, sym, ap, subst, _∙_}
 use native.Mathlib.Omega.{arith}
-use lib.ListN.{length}
+use lib.ListN.{length, replicate}
 use borrow.Author.Tests.{le-leb}
 use Rattle.part.specs.Part.{Setting, settingOf}
 use Rattle.kinds.specs.Kinds.{knownIn, knownKind, kindRowIn, kindRow, inRange}
 use Rattle.kinds.specs.Laws.{exchange-range}
 use Rattle.chip.specs.declared.Chip.{Chip}
-use Rattle.chip.specs.Record.{recordBytes}
-use Rattle.event.specs.Event.{applied}
+use Rattle.chip.specs.declared.Frame.{Frame}
+use Rattle.chip.specs.Chip.{whole, running}
 use Rattle.script.specs.Script.{Event}
 use Rattle.script.specs.Run.{World, world, does, runs}
 use Rattle.demands.specs.Model.{Reply, ours, event, sends, Good, AllGood, Fit, doesBy, runsBy}
-use Rattle.demands.specs.Demand2.{AllInside, AllBytes, opened}
+use Rattle.demands.specs.Demand2.{AllInside, AllBytes, bytesOf, opened}
 use Rattle.demands.specs.Ours.{told, done-as, runs-ours, fit-runs}
 use Rattle.demands.specs.Cut.{length-runs}
-use Rattle.demands.specs.Inside.{inside-good}
+use Rattle.demands.specs.Inside.{GoesOn, inside-good, frame-along, cells-rest}
+use Rattle.demands.specs.Opening.{Opens}
 
 -- ---- bytes
 
@@ -75,3 +76,42 @@ reached c m area bs es fit small good =
       long = ap (λ (w : World). length (w .memory)) as-defined ∙ length-runs T es first ∙ length-runs T (event 0x01 0 ∷ sends bs) (world c m [] 0);
       as-defined = as-defined;
     }
+
+-- ---- inside a frame
+
+module _ (c : Chip) (m area : List ℕ) (fit : Fit c m area) (opening : List ℕ) (bytes : AllBytes opening) (f : Frame) (opens : Opens c m area opening f) where
+  abbrev T : Setting
+  T = settingOf (length m) area
+
+  -- The bytes of an opening float.
+  pub opening-floats : opened ours c m area opening .written ≡ replicate (length opening) 0x80
+  opening-floats = ap (λ (w : World). w .written) (opened-as c m area opening fit bytes ∙ opens)
+
+  module _ (es : List Event) (inside : AllInside es) where
+    abbrev there : World
+    there = runsBy ours area es (opened ours c m area opening)
+
+    abbrev first : World
+    first = world (whole (c .core) f (c .load) (c .held)) m (replicate (length opening) 0x80) 0
+
+    arrived : Reached c m area opening es
+    arrived = reached c m area opening es fit bytes (inside-good es inside)
+
+    there-as : there ≡ runs T es first
+    there-as = arrived .as-defined ∙ ap (runs T es) opens
+
+    -- After any events inside the frame the chip still fits,
+    pub still-fits : Fit (there .chip) (there .memory) area
+    still-fits = arrived .fits
+
+    -- a good event does what the definitions say,
+    pub does-as : (e : Event) → Good e → doesBy ours area e there ≡ told (does T e there)
+    does-as e good = says-as (length m) area e there (arrived .fits) (arrived .long) good
+
+    -- what the bytes carry on holds of the frame,
+    pub frame-there : (F : ℕ → Frame → Type 0) → GoesOn T F → F 0 f → F (bytesOf es) (there .chip .frame)
+    frame-there F goes begins = subst (λ (w : World). F (bytesOf es) (w .chip .frame)) (sym there-as) (frame-along T F goes es inside first begins)
+
+    -- and where no job runs the cells are the same.
+    pub same-cells : running (c .core) ≡ false → there .memory ≡ m
+    same-cells rests = ap (λ (w : World). w .memory) there-as ∙ cells-rest T es inside first rests
