@@ -20,6 +20,7 @@ pub mod Opening
 pub mod OursFrames
 pub mod Reads
 pub mod Meets2Reads
+pub mod Meets2Stopped
 pub mod Datasheet
 pub mod Sfdp
 pub mod Unique
