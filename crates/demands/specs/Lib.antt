@@ -21,6 +21,7 @@ pub mod OursFrames
 pub mod Reads
 pub mod Meets2Reads
 pub mod Meets2Stopped
+pub mod Load
 pub mod Datasheet
 pub mod Sfdp
 pub mod Unique
