@@ -22,6 +22,7 @@ pub mod Reads
 pub mod Meets2Reads
 pub mod Meets2Stopped
 pub mod Load
+pub mod JobFrames
 pub mod Datasheet
 pub mod Sfdp
 pub mod Unique
