@@ -100,34 +100,40 @@ pub record Command (opcode A rule : ℕ) (kind : JobKind) : Type 0 where
   pub asks : jobOf opcode A ≡ kind
   pub a-job : isJob kind ≡ true
 
+-- of these facts
+fact : {opcode A rule : ℕ} {kind : JobKind} → rowOf opcode .known ≡ true → rowOf opcode .rule ≡ rule → isRead opcode ≡ false → ((k : Core) → pointless k opcode ≡ false) → jobOf opcode A ≡ kind
+    → isJob kind ≡ true → Command opcode A rule kind
+fact known rule-is no-read acts asks a-job = record { known = known; rule-is = rule-is; no-read = no-read; acts = acts; asks = asks; a-job = a-job }
+
+-- the programs, the erases and the write status are such commands
 pub programs : (opcode A : ℕ) → among (0x02 ∷ 0x0A ∷ []) opcode ≡ true → Command opcode A 5 Program
 unfolding rowOf rowIn isRead jobOf isProgram
 programs opcode A =
     among-two (λ (q : ℕ). Command q A 5 Program) 0x02 0x0A
-    (record { known = refl; rule-is = refl; no-read = refl; acts = λ k. refl; asks = refl; a-job = refl })
-    (record { known = refl; rule-is = refl; no-read = refl; acts = λ k. refl; asks = refl; a-job = refl }) opcode
+    (fact refl refl refl (λ k. refl) refl refl)
+    (fact refl refl refl (λ k. refl) refl refl) opcode
 
 pub small-erases : (opcode A : ℕ) → among (0x20 ∷ 0xD7 ∷ []) opcode ≡ true → Command opcode A 4 SmallErase
 unfolding rowOf rowIn isRead jobOf isProgram
 small-erases opcode A =
     among-two (λ (q : ℕ). Command q A 4 SmallErase) 0x20 0xD7
-    (record { known = refl; rule-is = refl; no-read = refl; acts = λ k. refl; asks = refl; a-job = refl })
-    (record { known = refl; rule-is = refl; no-read = refl; acts = λ k. refl; asks = refl; a-job = refl }) opcode
+    (fact refl refl refl (λ k. refl) refl refl)
+    (fact refl refl refl (λ k. refl) refl refl) opcode
 
 pub sector-erases : (A : ℕ) → Command 0xD8 A 4 SectorErase
 unfolding rowOf rowIn isRead jobOf isProgram
-sector-erases A = record { known = refl; rule-is = refl; no-read = refl; acts = λ k. refl; asks = refl; a-job = refl }
+sector-erases A = fact refl refl refl (λ k. refl) refl refl
 
 pub chip-erases : (opcode : ℕ) → among (0x60 ∷ 0xC7 ∷ []) opcode ≡ true → Command opcode 0 1 ChipErase
 unfolding rowOf rowIn isRead jobOf isProgram
 chip-erases opcode =
     among-two (λ (q : ℕ). Command q 0 1 ChipErase) 0x60 0xC7
-    (record { known = refl; rule-is = refl; no-read = refl; acts = λ k. refl; asks = refl; a-job = refl })
-    (record { known = refl; rule-is = refl; no-read = refl; acts = λ k. refl; asks = refl; a-job = refl }) opcode
+    (fact refl refl refl (λ k. refl) refl refl)
+    (fact refl refl refl (λ k. refl) refl refl) opcode
 
 pub status-writes : (value : ℕ) → value ≤ 255 → Command 0x01 value 2 (WriteStatus value)
 unfolding rowOf rowIn isRead jobOf isProgram
-status-writes value byte = record { known = refl; rule-is = refl; no-read = refl; acts = λ k. refl; asks = ap WriteStatus (mod-eq-of-lt (omega arith)); a-job = refl }
+status-writes value byte = fact refl refl refl (λ k. refl) (ap WriteStatus (mod-eq-of-lt (omega arith))) refl
 
 -- ---- verdict 2
 

@@ -90,11 +90,11 @@ module _ (c : Chip) (m area : List ℕ) (quiet : Quiet c m area) where
       record {
         low-power = λ A small.
             read-drives c m area (quiet .fit) (0x03 ∷ address A) (omega arith, address-bytes A [] small _) _
-            (opens-address c m area (quiet .fit) (quiet .unselected) 0x03 A (omega arith) small (λ e. omega arith) (λ e. omega arith) (quiet-takes c m area quiet 0x03 refl refl))
+            (opens-address c m area (quiet .fit) (quiet .unselected) 0x03 A small refl (quiet-takes c m area quiet 0x03 refl refl))
             (lowPower T) (low-power-serves T) (cellPlace A) (λ j. round-follows (lengthOf S) A j some-cells) (at-cells (lowPower T) A 4 (omega arith)) (quiet .resting) _ (λ k j. cell-there A j);
         high-speed = λ A dummy small byte.
             read-drives c m area (quiet .fit) (0x0B ∷ (address A ++ (dummy ∷ []))) (omega arith, address-bytes A (dummy ∷ []) small (byte, _)) _
-            (opens-dummy c m area (quiet .fit) (quiet .unselected) 0x0B A (omega arith) small (λ e. omega arith) (λ e. omega arith) (quiet-takes c m area quiet 0x0B refl refl) refl dummy)
+            (opens-dummy c m area (quiet .fit) (quiet .unselected) 0x0B A small refl (quiet-takes c m area quiet 0x0B refl refl) refl dummy)
             (highSpeed T) (high-speed-serves T) (cellPlace A) (λ j. round-follows (lengthOf S) A j some-cells) (at-cells (highSpeed T) A 5 (omega arith)) (quiet .resting) _ (λ k j. cell-there A j);
       }
     where
@@ -112,7 +112,7 @@ module _ (c : Chip) (m area : List ℕ) (ready : Ready c m area) where
   sfdp-drives A dummy small byte =
       let T : Setting = settingOf (length m) area in
       read-drives c m area (quiet .fit) (0x5A ∷ (address A ++ (dummy ∷ []))) (omega arith, address-bytes A (dummy ∷ []) small (byte, _)) _
-      (opens-dummy c m area (quiet .fit) (quiet .unselected) 0x5A A (omega arith) small (λ e. omega arith) (λ e. omega arith) (ready-takes c m area ready 0x5A refl) refl dummy)
+      (opens-dummy c m area (quiet .fit) (quiet .unselected) 0x5A A small refl (ready-takes c m area ready 0x5A refl) refl dummy)
       (sfdp T) (sfdp-serves T) (λ j. (A + j) % 2 ^ 24) (λ j. round-follows (2 ^ 24) A j (omega arith))
       (record { is-open = refl; opcode-is = refl; unjudged = refl; begun = omega arith; there = sym (mod-eq-of-lt small) ∙ ap (λ (q : ℕ). q % 2 ^ 24) (sym (add-zero A)) })
       (quiet .resting) _ (λ k j. refl)
@@ -132,7 +132,7 @@ module _ (c : Chip) (m area : List ℕ) (ready : Ready c m area) where
   device-drives A small =
       let T : Setting = settingOf (length m) area in
       read-drives c m area (quiet .fit) (0xAB ∷ address A) (omega arith, address-bytes A [] small _) _
-      (opens-address c m area (quiet .fit) (quiet .unselected) 0xAB A (omega arith) small (λ e. omega arith) (λ e. omega arith) (ready-takes c m area ready 0xAB refl))
+      (opens-address c m area (quiet .fit) (quiet .unselected) 0xAB A small refl (ready-takes c m area ready 0xAB refl))
       (device T) (device-serves T) (λ j. A % lengthOf (sectorsIn (length m))) (λ j. refl)
       (record { is-open = refl; opcode-is = refl; unjudged = refl; begun = omega arith; there = refl })
       (quiet .resting) _ (λ k j. refl)

@@ -7,7 +7,7 @@ use native.Mathlib.Nat.{mod-eq-of-lt}
 use native.Mathlib.Omega.{arith}
 use lib.Dec.{eqb, leb}
 use lib.ListN.{length, replicate}
-use borrow.Author.Tests.{eqb-true, lt-leb}
+use borrow.Author.Tests.{eqb-true, lt-leb, leb-true}
 use Rattle.cells.specs.Choice.{cond-no, and-left, and-right, and-four, not-so}
 use Rattle.part.specs.Part.{Setting, sectorsIn, settingOf}
 use Rattle.chip.specs.declared.Chip.{Chip}
@@ -21,7 +21,7 @@ use Rattle.chip.specs.Job.{isJob, hasCells}
 use Rattle.chip.specs.Chip.{whole, emptyFrame, running}
 use Rattle.legal.specs.Legal.{legal, isEmpty, isBlank, tidy}
 use Rattle.legal.specs.Legality.{chip-facts}
-use Rattle.commands.specs.Table.{rowOf, isProgram, readStatus, lowPowerRead, highSpeedRead, jedecId, wake, readSfdp}
+use Rattle.commands.specs.Table.{rowOf, isProgram, lowPowerRead, highSpeedRead, wake, readSfdp}
 use Rattle.frame.specs.Frame.{judge, shifted, firstPlace, addressing, exchange, readsCell, taken, exchanged}
 use Rattle.frame.specs.Laws.{taken-address, exchanged-taken}
 use Rattle.event.specs.Event.{settleExchange, applied}
@@ -77,15 +77,19 @@ addressFrame S opcode A = record { selected = true; opcode = opcode; address = A
 
 -- ---- the bytes
 
--- bytes 2 to 4 of a frame float and are its address, unless it is a read of the status or of the cycle
-address-taken : (T : Setting) (k : Core) (f : Frame) (load m : List ℕ) (b : ℕ) → (f .opcode ≡ readStatus → ⊥) → (f .opcode ≡ jedecId → ⊥) → f .count < 4
+-- an opcode byte after which three bytes are an address: any but a read of the status or of the cycle
+abbrev pub hasAddress : ℕ → Bool
+hasAddress opcode = leb opcode 255 && not (among (0x05 ∷ 0x9F ∷ []) opcode)
+
+-- bytes 2 to 4 of such a frame float and are its address
+address-taken : (T : Setting) (k : Core) (f : Frame) (load m : List ℕ) (b : ℕ) → hasAddress (f .opcode) ≡ true → f .count < 4
     → taken T k f load m b ≡ exchange Floating (addressing (T .sectors) b f) load
-address-taken T k f load m b no-status no-jedec few =
+address-taken T k f load m b has few =
     let four : leb 4 (f .count) ≡ false = lt-leb 4 (f .count) few in
     let five : leb 5 (f .count) ≡ false = lt-leb 5 (f .count) (omega arith) in
     taken-address T k f load m b
     ((λ i. eqb (f .opcode) lowPowerRead && four i || eqb (f .opcode) highSpeedRead && five i) ∙ neither (eqb (f .opcode) lowPowerRead) (eqb (f .opcode) highSpeedRead))
-    (early (isProgram (f .opcode)) _ four) no-status no-jedec (early (eqb (f .opcode) wake) _ four) (early (eqb (f .opcode) readSfdp) _ five)
+    (early (isProgram (f .opcode)) _ four) (λ e. false≢true (sym (ap hasAddress e) ∙ has)) (λ e. false≢true (sym (ap hasAddress e) ∙ has)) (early (eqb (f .opcode) wake) _ four) (early (eqb (f .opcode) readSfdp) _ five)
   where
     early : (a b : Bool) → b ≡ false → (a && b) ≡ false
     early true b e = e
@@ -108,29 +112,29 @@ module _ (T : Setting) (k : Core) (load held m : List ℕ) where
       ap (λ (b : ℕ). runs T (sends bs) (amid (opcodeFrame b (judge k b)) (0x80 ∷ []))) (mod-eq-of-lt (omega arith))
 
   -- an address byte floats
-  address-byte : (opcode A n b : ℕ) (written : List ℕ) → (opcode ≡ readStatus → ⊥) → (opcode ≡ jedecId → ⊥) → 0 < n → n < 4
+  address-byte : (opcode A n b : ℕ) (written : List ℕ) → hasAddress opcode ≡ true → 0 < n → n < 4
       → let f : Frame = record { selected = true; opcode = opcode; address = A; place = 0; slot = 0; count = n; judgement = 0 } in
       onward T (event 0x02 b) (amid f written) ≡ amid (addressing (T .sectors) (b % 256) f) (written ++ (0x80 ∷ []))
   unfolding applied
-  address-byte opcode A n b written no-status no-jedec some few =
+  address-byte opcode A n b written has some few =
       let f : Frame = record { selected = true; opcode = opcode; address = A; place = 0; slot = 0; count = n; judgement = 0 } in
       ap (λ e. after (amid f written) (settleExchange (whole k f load held) m e))
-      (exchanged-taken T k f load m (b % 256) refl (λ z. omega arith) refl ∙ address-taken T k f load m (b % 256) no-status no-jedec few)
+      (exchanged-taken T k f load m (b % 256) refl (λ z. omega arith) refl ∙ address-taken T k f load m (b % 256) has few)
 
   -- The opcode byte and three bytes of address float, and then the address stands in the frame.
-  pub address-opens : (opcode A : ℕ) (bs : List ℕ) → opcode ≤ 255 → A < 2 ^ 24 → (opcode ≡ readStatus → ⊥) → (opcode ≡ jedecId → ⊥) → judge k opcode ≡ 0
+  pub address-opens : (opcode A : ℕ) (bs : List ℕ) → A < 2 ^ 24 → hasAddress opcode ≡ true → judge k opcode ≡ 0
       → runs T (event 0x01 0 ∷ sends (opcode ∷ A / 65536 ∷ A / 256 % 256 ∷ A % 256 ∷ bs)) (amid emptyFrame []) ≡ runs T (sends bs) (amid (addressFrame (T .sectors) opcode A) (replicate 4 0x80))
   unfolding runs
-  address-opens opcode A bs byte small no-status no-jedec free =
+  address-opens opcode A bs small has free =
       let high : ℕ = shifted 0 (A / 65536 % 256) in
       let middle : ℕ = shifted high (A / 256 % 256 % 256) in
       let all : shifted middle (A % 256 % 256) ≡ A = omega arith in
       let low : A % 256 % 256 ≡ A % 256 = omega arith in
-      opcode-opens opcode (A / 65536 ∷ A / 256 % 256 ∷ A % 256 ∷ bs) byte
+      opcode-opens opcode (A / 65536 ∷ A / 256 % 256 ∷ A % 256 ∷ bs) (leb-true opcode 255 (and-left (leb opcode 255) _ has))
       ∙ ap (λ (v : ℕ). runs T (sends (A / 65536 ∷ A / 256 % 256 ∷ A % 256 ∷ bs)) (amid (opcodeFrame opcode v) (0x80 ∷ []))) free
-      ∙ ap (runs T (sends (A / 256 % 256 ∷ A % 256 ∷ bs))) (address-byte opcode 0 1 (A / 65536) (replicate 1 0x80) no-status no-jedec (omega arith) (omega arith))
-      ∙ ap (runs T (sends (A % 256 ∷ bs))) (address-byte opcode high 2 (A / 256 % 256) (replicate 2 0x80) no-status no-jedec (omega arith) (omega arith))
-      ∙ ap (runs T (sends bs)) (address-byte opcode middle 3 (A % 256) (replicate 3 0x80) no-status no-jedec (omega arith) (omega arith))
+      ∙ ap (runs T (sends (A / 256 % 256 ∷ A % 256 ∷ bs))) (address-byte opcode 0 1 (A / 65536) (replicate 1 0x80) has (omega arith) (omega arith))
+      ∙ ap (runs T (sends (A % 256 ∷ bs))) (address-byte opcode high 2 (A / 256 % 256) (replicate 2 0x80) has (omega arith) (omega arith))
+      ∙ ap (runs T (sends bs)) (address-byte opcode middle 3 (A % 256) (replicate 3 0x80) has (omega arith) (omega arith))
       ∙ (λ i. runs T (sends bs) (amid (record { selected = true; opcode = opcode; address = all i; place = firstPlace (T .sectors) opcode (all i); slot = low i; count = 4; judgement = 0 }) (replicate 4 0x80)))
 
 -- ---- what is taken
@@ -184,10 +188,14 @@ among-two P a b p q x h = go (eqb x a) (eqb x b) refl refl h
     go false true d e z = subst P (sym (eqb-true x b e)) q
     go false false d e z = absurd (false≢true z)
 
--- after these bytes, which float, an unselected chip has this frame
+-- after a select and these bytes, which float, there are this frame and this load, and the rest is as it was
+abbrev pub Leaves : Chip → List ℕ → List ℕ → List ℕ → Frame → List ℕ → Type 0
+Leaves c m area bs f load =
+    runs (settingOf (length m) area) (event 0x01 0 ∷ sends bs) (world c m [] 0) ≡ world (whole (c .core) f load (c .held)) m (replicate (length bs) 0x80) 0
+
+-- and if the load too is as it was
 abbrev pub Opens : Chip → List ℕ → List ℕ → List ℕ → Frame → Type 0
-Opens c m area bs f =
-    runs (settingOf (length m) area) (event 0x01 0 ∷ sends bs) (world c m [] 0) ≡ world (whole (c .core) f (c .load) (c .held)) m (replicate (length bs) 0x80) 0
+Opens c m area bs f = Leaves c m area bs f (c .load)
 
 module _ (c : Chip) (m area : List ℕ) (fit : Fit c m area) (unselected : c .frame .selected ≡ false) where
   abbrev T : Setting
@@ -201,10 +209,10 @@ module _ (c : Chip) (m area : List ℕ) (fit : Fit c m area) (unselected : c .fr
   unfolding runs
   opens-opcode opcode byte = from-empty (event 0x01 0 ∷ sends (opcode ∷ [])) ∙ opcode-opens T (c .core) (c .load) (c .held) m opcode [] byte
 
-  module _ (opcode A : ℕ) (byte : opcode ≤ 255) (small : A < 2 ^ 24) (no-status : opcode ≡ readStatus → ⊥) (no-jedec : opcode ≡ jedecId → ⊥) (free : judge (c .core) opcode ≡ 0) where
+  module _ (opcode A : ℕ) (small : A < 2 ^ 24) (has : hasAddress opcode ≡ true) (free : judge (c .core) opcode ≡ 0) where
     pub opens-address-and : (bs : List ℕ)
         → runs T (event 0x01 0 ∷ sends (opcode ∷ (address A ++ bs))) (world c m [] 0) ≡ runs T (sends bs) (amid T (c .core) (c .load) (c .held) m (addressFrame (sectorsIn (length m)) opcode A) (replicate 4 0x80))
-    opens-address-and bs = from-empty _ ∙ address-opens T (c .core) (c .load) (c .held) m opcode A bs byte small no-status no-jedec free
+    opens-address-and bs = from-empty _ ∙ address-opens T (c .core) (c .load) (c .held) m opcode A bs small has free
 
     pub opens-address : Opens c m area (opcode ∷ address A) (addressFrame (sectorsIn (length m)) opcode A)
     unfolding runs
@@ -213,9 +221,9 @@ module _ (c : Chip) (m area : List ℕ) (fit : Fit c m area) (unselected : c .fr
     -- 0Bh and 5Ah have a dummy byte, which floats too
     pub opens-dummy : among (0x0B ∷ 0x5A ∷ []) opcode ≡ true → (dummy : ℕ) → Opens c m area (opcode ∷ (address A ++ (dummy ∷ []))) (withCount 5 (addressFrame (sectorsIn (length m)) opcode A))
     unfolding runs applied exchanged taken isProgram
-    opens-dummy has dummy =
+    opens-dummy dummied dummy =
         opens-address-and (dummy ∷ [])
         ∙ among-two
         (λ (q : ℕ). runs T (sends (dummy ∷ [])) (amid T (c .core) (c .load) (c .held) m (addressFrame (sectorsIn (length m)) q A) (replicate 4 0x80))
         ≡ amid T (c .core) (c .load) (c .held) m (withCount 5 (addressFrame (sectorsIn (length m)) q A)) (replicate 5 0x80))
-        0x0B 0x5A refl refl opcode has
+        0x0B 0x5A refl refl opcode dummied

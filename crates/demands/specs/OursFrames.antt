@@ -14,7 +14,7 @@ use Rattle.chip.specs.declared.Frame.{Frame}
 use Rattle.chip.specs.Chip.{whole, running}
 use Rattle.script.specs.Script.{Event}
 use Rattle.script.specs.Run.{World, world, does, runs}
-use Rattle.demands.specs.Model.{Reply, ours, event, sends, Good, AllGood, Fit, doesBy, runsBy}
+use Rattle.demands.specs.Model.{Model, ours, event, sends, Good, AllGood, Fit, doesBy, onwardBy, runsBy}
 use Rattle.demands.specs.Demand2.{AllInside, AllBytes, bytesOf, opened}
 use Rattle.demands.specs.Ours.{told, done-as, runs-ours, fit-runs}
 use Rattle.demands.specs.Cut.{length-runs}
@@ -54,6 +54,12 @@ says-as n area e w fit long good =
 -- The world after an opening of these bytes is the definitions' own.
 pub opened-as : (c : Chip) (m area bs : List ℕ) → Fit c m area → AllBytes bs → opened ours c m area bs ≡ runs (settingOf (length m) area) (event 0x01 0 ∷ sends bs) (world c m [] 0)
 opened-as c m area bs fit small = runs-ours area (event 0x01 0 ∷ sends bs) (world c m [] 0) fit (opening-good bs small)
+
+-- a row in two parts
+pub runsBy-add : (M : Model) (area : List ℕ) (es fs : List Event) (w : World) → runsBy M area (es ++ fs) w ≡ runsBy M area fs (runsBy M area es w)
+unfolding runsBy
+runsBy-add M area [] fs w = refl
+runsBy-add M area (e ∷ es) fs w = runsBy-add M area es fs (onwardBy M area e w)
 
 -- the world after an opening of these bytes and then these events: it fits, and it is the definitions' own
 pub record Reached (c : Chip) (m area bs : List ℕ) (es : List Event) : Type 0 where
