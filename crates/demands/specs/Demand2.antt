@@ -327,9 +327,9 @@ pub record Begins (M : Model) (c : Chip) (m area bs : List ℕ) (kind : JobKind)
 abbrev pub FreeAt : Chip → List ℕ → ℕ → Type 0
 FreeAt c m A = protectedSector (c .core .level) (c .core .tb) (sectorsIn (length m)) (A % length m / 65536) ≡ false
 
--- the jobs that a ready chip with WEN begins, from their bytes, at every address below 2^24
+-- the jobs that a ready chip with WEN begins, from their bytes, at every address below 2^24; that a load has 256 bytes is what the state's type says
 pub record JobsFromBytes (M : Model) (c : Chip) (m area : List ℕ) : Type 0 where
-  pub program : (opcode A first : ℕ) (more : List ℕ) → among (0x02 ∷ 0x0A ∷ []) opcode ≡ true → A < 2 ^ 24 → AllBytes (first ∷ more) → FreeAt c m A
+  pub program : (opcode A first : ℕ) (more : List ℕ) → length (c .load) ≡ 256 → among (0x02 ∷ 0x0A ∷ []) opcode ≡ true → A < 2 ^ 24 → AllBytes (first ∷ more) → FreeAt c m A
       → Begins M c m area (opcode ∷ (address A ++ (first ∷ more))) Program (roundedDown 256 (A % length m))
       × LoadOf A (first ∷ more) (framed M c m area (opcode ∷ (address A ++ (first ∷ more))) .chip .held)
   pub small-erase : (opcode A : ℕ) → among (0x20 ∷ 0xD7 ∷ []) opcode ≡ true → A < 2 ^ 24 → FreeAt c m A

@@ -23,6 +23,7 @@ pub mod Meets2Reads
 pub mod Meets2Stopped
 pub mod Load
 pub mod JobFrames
+pub mod Meets2Jobs
 pub mod Datasheet
 pub mod Sfdp
 pub mod Unique

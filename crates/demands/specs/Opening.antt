@@ -209,6 +209,17 @@ module _ (c : Chip) (m area : List ℕ) (fit : Fit c m area) (unselected : c .fr
   unfolding runs
   opens-opcode opcode byte = from-empty (event 0x01 0 ∷ sends (opcode ∷ [])) ∙ opcode-opens T (c .core) (c .load) (c .held) m opcode [] byte
 
+  -- a write status has a value, which goes into the address
+  pub opens-value : (value : ℕ) → value ≤ 255 → judge (c .core) 0x01 ≡ 0
+      → Opens c m area (0x01 ∷ value ∷ []) (record { selected = true; opcode = 0x01; address = value; place = 0; slot = 0; count = 2; judgement = 0 })
+  unfolding runs applied exchanged taken isProgram
+  opens-value value byte free =
+      let all : shifted 0 (value % 256) ≡ value = omega arith in
+      from-empty (event 0x01 0 ∷ sends (0x01 ∷ value ∷ []))
+      ∙ opcode-opens T (c .core) (c .load) (c .held) m 0x01 (value ∷ []) (omega arith)
+      ∙ ap (λ (v : ℕ). runs T (sends (value ∷ [])) (amid T (c .core) (c .load) (c .held) m (opcodeFrame 0x01 v) (0x80 ∷ []))) free
+      ∙ (λ i. amid T (c .core) (c .load) (c .held) m (record { selected = true; opcode = 0x01; address = all i; place = 0; slot = 0; count = 2; judgement = 0 }) (replicate 2 0x80))
+
   module _ (opcode A : ℕ) (small : A < 2 ^ 24) (has : hasAddress opcode ≡ true) (free : judge (c .core) opcode ≡ 0) where
     pub opens-address-and : (bs : List ℕ)
         → runs T (event 0x01 0 ∷ sends (opcode ∷ (address A ++ bs))) (world c m [] 0) ≡ runs T (sends bs) (amid T (c .core) (c .load) (c .held) m (addressFrame (sectorsIn (length m)) opcode A) (replicate 4 0x80))
