@@ -24,8 +24,8 @@ pub mod Meets2Stopped
 pub mod Load
 pub mod JobFrames
 pub mod Meets2Jobs
-pub mod Datasheet
 pub mod Sfdp
+pub mod Datasheet
 pub mod Unique
 pub mod Cut
 pub mod Examples

@@ -10,7 +10,6 @@ use lib.ListN.{length, replicate}
 use borrow.Author.Tests.{le-leb, leb-true, eq-eqb}
 use Rattle.cells.specs.Choice.{cond-yes, and-left}
 use Rattle.part.specs.Part.{Setting, settingOf, sectorsIn, lengthOf, roundedDown}
-use Rattle.part.specs.Laws.{permitted-whole}
 use Rattle.part.specs.Protection.{protectedSector}
 use Rattle.kinds.specs.Kinds.{knownIn, knownKind, kindRowIn, kindRow}
 use Rattle.commands.specs.Table.{rowOf, rowIn, fitsRule, isProgram}
@@ -21,7 +20,6 @@ use Rattle.chip.specs.declared.JobKind.{JobKind}
 use Rattle.chip.specs.declared.JobKind.the-variants.{WriteStatus, Program, SmallErase, SectorErase, ChipErase}
 use Rattle.chip.specs.Job.{hasCells}
 use Rattle.chip.specs.Chip.{whole, blankLoad}
-use Rattle.legal.specs.Legality.{chip-facts}
 use Rattle.frame.specs.Frame.{judge, loading, taken, exchanged}
 use Rattle.verdict.specs.Verdict.{startOf, targetProtected, startProtected, verdict}
 use Rattle.verdict.specs.Effect.{heldAfter}
@@ -31,7 +29,7 @@ use Rattle.script.specs.Run.{World, world, after, runs}
 use Rattle.demands.specs.Model.{ours, event, sends, address, AllGood, Fit}
 use Rattle.demands.specs.Demand2.{among, AllBytes, Quiet, Ready, LoadOf, framed, Begins, FreeAt, JobsFromBytes}
 use Rattle.demands.specs.Opening.{opcodeFrame, addressFrame, hasAddress, among-two, Leaves, load-blank, ready-takes, opens-opcode, opens-value, opens-address, opens-address-and}
-use Rattle.demands.specs.OursFrames.{address-bytes, runsBy-add, reached}
+use Rattle.demands.specs.OursFrames.{as-long, address-bytes, runsBy-add, reached}
 use Rattle.demands.specs.Load.{loadAfter, load-of}
 use Rattle.demands.specs.JobFrames.{Holds, dataFrame, data-keeps, data-runs, Command, programs, small-erases, sector-erases, chip-erases, status-writes, verdict-begins, settled-job}
 
@@ -85,16 +83,13 @@ module _ (c : Chip) (m area : List ℕ) (ready : Ready c m area) (enabled : c .c
 
   -- ---- the places
 
-  as-long : lengthOf S ≡ length m
-  as-long = permitted-whole (length m) (chip-facts c (length m) (fit .state-legal) .length-permitted)
-
   -- an address rounded down, on a part as long as the memory
   rounds : (size A : ℕ) → roundedDown size (A % lengthOf S) ≡ roundedDown size (A % length m)
-  rounds size A = ap (λ (n : ℕ). roundedDown size (A % n)) as-long
+  rounds size A = ap (λ (n : ℕ). roundedDown size (A % n)) (as-long c m area fit)
 
-  -- a start in the sector of an address is as free as the address
-  free-start : (A start : ℕ) → FreeAt c m A → start / 65536 ≡ A % lengthOf S / 65536 → startProtected S (c .core) start ≡ false
-  free-start A start free same = ap (protectedSector (c .core .level) (c .core .tb) S) (same ∙ ap (λ (n : ℕ). A % n / 65536) as-long) ∙ free
+  -- rounded down inside its sector, an address is as free as it was
+  free-start : (size A : ℕ) → ((x : ℕ) → roundedDown size x / 65536 ≡ x / 65536) → FreeAt c m A → startProtected S (c .core) (roundedDown size (A % lengthOf S)) ≡ false
+  free-start size A same free = ap (protectedSector (c .core .level) (c .core .tb) S) (same (A % lengthOf S) ∙ ap (λ (n : ℕ). A % n / 65536) (as-long c m area fit)) ∙ free
 
   -- ---- command by command
 
@@ -136,10 +131,7 @@ module _ (c : Chip) (m area : List ℕ) (ready : Ready c m area) (enabled : c .c
       long = le-leb 5 (f .count) (at .so-many)
 
       sector-free : startProtected S (c .core) (roundedDown 256 (A % lengthOf S)) ≡ false
-      sector-free = free-start A _ free (same (A % lengthOf S))
-        where
-          same : (x : ℕ) → (x - x % 256) / 65536 ≡ x / 65536
-          same x = omega arith
+      sector-free = free-start 256 A (λ x. omega arith) free
 
   -- an erase at an address, which has four bytes
   erase-begins : (opcode A : ℕ) (kind : JobKind) → Command opcode A 4 kind → hasAddress opcode ≡ true → hasCells kind ≡ true → A < 2 ^ 24 → targetProtected S (c .core) kind (startOf S kind A) ≡ false
@@ -174,16 +166,10 @@ module _ (c : Chip) (m area : List ℕ) (ready : Ready c m area) (enabled : c .c
         program = program-begins;
         small-erase = λ opcode A is small free.
             erase-begins opcode A SmallErase (small-erases opcode A is) (among-two (λ (q : ℕ). hasAddress q ≡ true) 0x20 0xD7 refl refl opcode is) refl small
-            (free-start A _ free (same (A % lengthOf S))) (roundedDown 4096 (A % length m)) (rounds 4096 A);
+            (free-start 4096 A (λ x. omega arith) free) (roundedDown 4096 (A % length m)) (rounds 4096 A);
         sector-erase = λ A small free.
             erase-begins 0xD8 A SectorErase (sector-erases A) refl refl small
-            (free-start A _ free (same-sector (A % lengthOf S))) (roundedDown 65536 (A % length m)) (rounds 65536 A);
+            (free-start 65536 A (λ x. omega arith) free) (roundedDown 65536 (A % length m)) (rounds 65536 A);
         chip-erase = chip-erase-begins;
         write-status = write-status-begins;
       }
-    where
-      same : (x : ℕ) → (x - x % 4096) / 65536 ≡ x / 65536
-      same x = omega arith
-
-      same-sector : (x : ℕ) → (x - x % 65536) / 65536 ≡ x / 65536
-      same-sector x = omega arith

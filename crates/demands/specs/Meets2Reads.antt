@@ -7,7 +7,7 @@ use native.Mathlib.Nat.{add-zero, zero-add, mul-one, mul-zero, mod-eq-of-lt}
 use native.Mathlib.Omega.{arith}
 use lib.ListN.{length, getD, replicate}
 use Rattle.part.specs.Part.{Setting, settingOf, sectorsIn, lengthOf, jedecByte}
-use Rattle.part.specs.Laws.{permitted-whole, permitted-some}
+use Rattle.part.specs.Laws.{permitted-some}
 use Rattle.part.specs.Area.{areaByte}
 use Rattle.commands.specs.Table.{rowOf, rowIn, isProgram}
 use Rattle.chip.specs.declared.Chip.{Chip}
@@ -23,7 +23,7 @@ use Rattle.script.specs.Run.{World, world, runs}
 use Rattle.demands.specs.Model.{Reply, ours, event, sends, address, Fit, runsBy}
 use Rattle.demands.specs.Demand2.{AllInside, AllBytes, bytesOf, Quiet, Ready, opened, saidNext, Drives, CellReads, OtherReads, StatusByte, SaysStatus, StatusRead}
 use Rattle.demands.specs.Opening.{opcodeFrame, Opens, unstopped, allowed, quiet-takes, ready-takes, opens-opcode, opens-address, opens-dummy}
-use Rattle.demands.specs.OursFrames.{address-bytes, byte-good, opening-floats, still-fits, does-as, frame-there, same-cells}
+use Rattle.demands.specs.OursFrames.{as-long, address-bytes, byte-good, opening-floats, still-fits, does-as, frame-there, same-cells}
 use Rattle.demands.specs.Reads.{Read, Serves, Reading, data-byte, read-goes-on, round-follows, lowPower, highSpeed, sfdp, jedec, device, status, low-power-serves, high-speed-serves, sfdp-serves, jedec-serves, device-serves, status-serves}
 
 -- ---- a read of ours, any of them
@@ -63,9 +63,6 @@ module _ (c : Chip) (m area : List ℕ) (quiet : Quiet c m area) where
   abbrev S : ℕ
   S = sectorsIn (length m)
 
-  as-long : lengthOf S ≡ length m
-  as-long = permitted-whole (length m) (chip-facts c (length m) (quiet .fit .state-legal) .length-permitted)
-
   some-cells : 0 < lengthOf S
   some-cells = omega (arith, permitted-some (length m) (chip-facts c (length m) (quiet .fit .state-legal) .length-permitted))
 
@@ -74,7 +71,7 @@ module _ (c : Chip) (m area : List ℕ) (quiet : Quiet c m area) where
 
   -- the byte at a place of a read of cells
   cell-there : (A j : ℕ) → getD m (cellPlace A j) 0 ≡ getD m ((A + j) % length m) 0
-  cell-there A j = ap (λ (n : ℕ). getD m ((A + j) % n) 0) as-long
+  cell-there A j = ap (λ (n : ℕ). getD m ((A + j) % n) 0) (as-long c m area (quiet .fit))
 
   first-place : (A : ℕ) → A % lengthOf S ≡ cellPlace A 0
   first-place A = ap (λ (q : ℕ). q % lengthOf S) (sym (add-zero A))

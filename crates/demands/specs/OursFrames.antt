@@ -6,20 +6,28 @@ use mathlib.Core.Path.{_≡_, refl, sym, ap, subst, _∙_}
 use native.Mathlib.Omega.{arith}
 use lib.ListN.{length, replicate}
 use borrow.Author.Tests.{le-leb}
-use Rattle.part.specs.Part.{Setting, settingOf}
+use Rattle.part.specs.Part.{Setting, settingOf, sectorsIn, lengthOf}
 use Rattle.kinds.specs.Kinds.{knownIn, knownKind, kindRowIn, kindRow, inRange}
 use Rattle.kinds.specs.Laws.{exchange-range}
 use Rattle.chip.specs.declared.Chip.{Chip}
 use Rattle.chip.specs.declared.Frame.{Frame}
 use Rattle.chip.specs.Chip.{whole, running}
+use Rattle.legal.specs.Legality.{chip-facts}
 use Rattle.script.specs.Script.{Event}
 use Rattle.script.specs.Run.{World, world, does, runs}
 use Rattle.demands.specs.Model.{Model, ours, event, sends, Good, AllGood, Fit, doesBy, onwardBy, runsBy}
 use Rattle.demands.specs.Demand2.{AllInside, AllBytes, bytesOf, opened}
 use Rattle.demands.specs.Ours.{told, done-as, runs-ours, fit-runs}
+use Rattle.demands.specs.Datasheet.{part-is-memory}
 use Rattle.demands.specs.Cut.{length-runs}
 use Rattle.demands.specs.Inside.{GoesOn, inside-good, frame-along, cells-rest}
 use Rattle.demands.specs.Opening.{Opens}
+
+-- ---- the part
+
+-- The part is as long as the memory that fits.
+pub as-long : (c : Chip) (m area : List ℕ) → Fit c m area → lengthOf (sectorsIn (length m)) ≡ length m
+as-long c m area fit = part-is-memory m area (chip-facts c (length m) (fit .state-legal) .length-permitted)
 
 -- ---- bytes
 
