@@ -1,29 +1,24 @@
 -- Demand 2. Each event does what the part does, as the rule book has it. The engine equals the definitions by its contracts (`event::event`, `script::run`);
 -- here stands what a reader of the datasheet looks for in them.
-use Prim.Native.Nat.{ℕ, zero, suc, _+_, _*_, _/_, _%_, _<_, _≤_, _-_}
-use mathlib.Core.Bool.{Bool, true, false, cond, not, _&&_, _||_, false≢true}
+use Prim.Native.Nat.{ℕ, _*_, _/_, _<_, _≤_, _-_}
+use mathlib.Core.Bool.{Bool, true, false, cond, not, _&&_, _||_}
 use mathlib.Core.List.{List, [], _∷_}
-use mathlib.Core.Path.{_≡_, refl, sym, ap, _∙_}
-use native.Mathlib.Nat.{add-zero, mul-one, mul-zero, mod-lt, mod-self, mod-eq-of-lt, mod-add-mod}
-use native.Mathlib.Decide.{decLt}
+use mathlib.Core.Path.{_≡_, refl, ap, _∙_}
 use native.Mathlib.Omega.{arith}
-use lib.Dec.{eqb, ltb, leb}
-use lib.ListN.{length, getD, set, length-set}
-use lib.Seq.{getD-set-same, getD-set-other}
-use borrow.Author.Tests.{lt-ltb, le-ltb, le-leb, lt-leb, leb-true, eqb-true, eq-eqb, ne-eqb}
-use Rattle.cells.specs.Choice.{cond-yes, cond-no, cond-either, and-left, and-right, and-both}
-use Rattle.part.specs.Part.{permitted, Setting, settingOf, lengthOf, sector, jedecByte, deviceByte}
+use lib.Dec.{eqb}
+use lib.ListN.{length}
+use borrow.Author.Tests.{lt-ltb, le-ltb, le-leb, lt-leb, ne-eqb}
+use Rattle.cells.specs.Choice.{cond-yes, cond-no}
+use Rattle.part.specs.Part.{permitted, settingOf, lengthOf, sector}
 use Rattle.part.specs.Laws.{permitted-whole}
-use Rattle.commands.specs.Table.{rowOf, fitsRule, isRead, isProgram, pageProgram, pageProgram′, lowPowerRead, highSpeedRead, jedecId, wake}
+use Rattle.commands.specs.Table.{rowOf, fitsRule, isRead, wake}
 use Rattle.part.specs.Protection.{protectedCount, protectedSector}
 use Rattle.chip.specs.declared.Core.{Core}
 use Rattle.chip.specs.declared.Frame.{Frame}
 use Rattle.chip.specs.declared.JobKind.{JobKind}
-use Rattle.chip.specs.declared.Record.the-variants.{Floating, Driven}
 use Rattle.chip.specs.Job.{isJob, hasCells}
-use Rattle.chip.specs.Chip.{running, statusByte}
-use Rattle.frame.specs.Frame.{judge, counted, nextPlace, counting, reading, loading, readsCell, takesData, taken, Exchange, exchange}
-use Rattle.frame.specs.Laws.{taken-cell, taken-data, taken-jedec, taken-device}
+use Rattle.chip.specs.Chip.{running}
+use Rattle.frame.specs.Frame.{judge}
 use Rattle.verdict.specs.Verdict.{jobOf, jobAsked, targetProtected, pointless, jobVerdict, commandVerdict, listed, verdict}
 
 -- ---- verdicts: the list from its top down (RULES, Verdicts)

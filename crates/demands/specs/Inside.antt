@@ -17,7 +17,7 @@ use Rattle.frame.specs.Frame.{exchanged}
 use Rattle.event.specs.Event.{Outcome, select, exchangeByte, tick, setWp, applied}
 use Rattle.event.specs.Laws.{applied-each}
 use Rattle.script.specs.Script.{Event}
-use Rattle.script.specs.Run.{World, does, onward, runs}
+use Rattle.script.specs.Run.{World, onward, runs}
 use Rattle.demands.specs.Model.{AllGood}
 use Rattle.demands.specs.Demand2.{among, Inside, AllInside, bytesOf}
 

@@ -1,8 +1,8 @@
 -- Frames that begin a job, over the definitions: what such a frame holds, its data bytes, its verdict 2 and what that leaves.
 use Prim.Native.Nat.{ℕ, _+_, _%_, _≤_}
-use mathlib.Core.Bool.{Bool, true, false, cond, not, _&&_, _||_}
+use mathlib.Core.Bool.{Bool, true, false, not, _&&_}
 use mathlib.Core.List.{List, [], _∷_, _++_, append-assoc, append-nil}
-use mathlib.Core.Path.{_≡_, refl, sym, ap, subst, _∙_}
+use mathlib.Core.Path.{_≡_, refl, sym, ap, _∙_}
 use native.Mathlib.Nat.{mod-eq-of-lt}
 use native.Mathlib.Omega.{arith}
 use lib.Dec.{eqb, ltb}
@@ -21,11 +21,11 @@ use Rattle.chip.specs.Job.{isJob, hasCells}
 use Rattle.chip.specs.Chip.{whole}
 use Rattle.frame.specs.Frame.{judge, loading, Exchange, exchange, taken}
 use Rattle.frame.specs.Laws.{exchanged-taken}
-use Rattle.verdict.specs.Verdict.{jobOf, startOf, jobAsked, targetProtected, pointless, jobVerdict, commandVerdict, listed, verdict}
+use Rattle.verdict.specs.Verdict.{jobOf, startOf, jobAsked, targetProtected, pointless, jobVerdict, listed, verdict}
 use Rattle.verdict.specs.Laws.{command-as}
 use Rattle.verdict.specs.Effect.{acted, settled}
 use Rattle.event.specs.Event.{settleExchange, applied}
-use Rattle.script.specs.Run.{World, world, after, onward, runs}
+use Rattle.script.specs.Run.{world, after, onward, runs}
 use Rattle.demands.specs.Model.{event, sends}
 use Rattle.demands.specs.Demand2.{among, AllBytes}
 use Rattle.demands.specs.Opening.{among-two}

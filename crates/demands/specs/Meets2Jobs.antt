@@ -1,33 +1,31 @@
 -- Demand 2 of ours: from the bytes of a frame to the job that it begins.
-use Prim.Native.Nat.{ℕ, _+_, _*_, _/_, _%_, _^_, _<_, _≤_, _-_}
-use mathlib.Core.Bool.{Bool, true, false, cond, not, _&&_}
+use Prim.Native.Nat.{ℕ, _/_, _%_, _^_, _<_, _≤_}
+use mathlib.Core.Bool.{Bool, true, false, not, _&&_}
 use mathlib.Core.List.{List, [], _∷_, _++_}
 use mathlib.Core.Path.{_≡_, refl, sym, ap, subst, _∙_}
-use native.Mathlib.Nat.{mod-eq-of-lt}
 use native.Mathlib.Omega.{arith}
-use lib.Dec.{eqb, leb}
+use lib.Dec.{leb}
 use lib.ListN.{length, replicate}
 use borrow.Author.Tests.{le-leb, leb-true, eq-eqb}
 use Rattle.cells.specs.Choice.{cond-yes, and-left}
 use Rattle.part.specs.Part.{Setting, settingOf, sectorsIn, lengthOf, roundedDown}
 use Rattle.part.specs.Protection.{protectedSector}
 use Rattle.kinds.specs.Kinds.{knownIn, knownKind, kindRowIn, kindRow}
-use Rattle.commands.specs.Table.{rowOf, rowIn, fitsRule, isProgram}
+use Rattle.commands.specs.Table.{fitsRule, isProgram}
 use Rattle.chip.specs.declared.Chip.{Chip}
-use Rattle.chip.specs.declared.Core.{Core}
 use Rattle.chip.specs.declared.Frame.{Frame}
 use Rattle.chip.specs.declared.JobKind.{JobKind}
 use Rattle.chip.specs.declared.JobKind.the-variants.{WriteStatus, Program, SmallErase, SectorErase, ChipErase}
 use Rattle.chip.specs.Job.{hasCells}
 use Rattle.chip.specs.Chip.{whole, blankLoad}
-use Rattle.frame.specs.Frame.{judge, loading, taken, exchanged}
+use Rattle.frame.specs.Frame.{judge, loading}
 use Rattle.verdict.specs.Verdict.{startOf, targetProtected, startProtected, verdict}
 use Rattle.verdict.specs.Effect.{heldAfter}
-use Rattle.event.specs.Event.{Outcome, closes, applied}
+use Rattle.event.specs.Event.{closes, applied}
 use Rattle.event.specs.Laws.{deselect-selected}
 use Rattle.script.specs.Run.{World, world, after, runs}
 use Rattle.demands.specs.Model.{ours, event, sends, address, AllGood, Fit}
-use Rattle.demands.specs.Demand2.{among, AllBytes, Quiet, Ready, LoadOf, framed, Begins, FreeAt, JobsFromBytes}
+use Rattle.demands.specs.Demand2.{among, AllBytes, Ready, LoadOf, framed, Begins, FreeAt, JobsFromBytes}
 use Rattle.demands.specs.Opening.{opcodeFrame, addressFrame, hasAddress, among-two, Leaves, load-blank, ready-takes, opens-opcode, opens-value, opens-address, opens-address-and}
 use Rattle.demands.specs.OursFrames.{as-long, address-bytes, runsBy-add, reached}
 use Rattle.demands.specs.Load.{loadAfter, load-of}
@@ -97,11 +95,12 @@ module _ (c : Chip) (m area : List ℕ) (ready : Ready c m area) (enabled : c .c
       → Begins ours c m area (opcode ∷ (address A ++ (first ∷ more))) Program (roundedDown 256 (A % length m))
       × LoadOf A (first ∷ more) (framed ours c m area (opcode ∷ (address A ++ (first ∷ more))) .chip .held)
   unfolding AllBytes dataFrame fitsRule isProgram
-  program-begins opcode A first more page program small bytes free =
-      (begins-at bs load f all leaves opcode A 5 5 Program command at (omega arith) long refl sector-free (roundedDown 256 (A % length m)) (rounds 256 A),
-      subst (LoadOf A (first ∷ more))
-      (sym (holds-load bs load f all leaves opcode A 5 5 Program command at (omega arith) long refl sector-free (among-two (λ (q : ℕ). isProgram q ≡ true) 0x02 0x0A refl refl opcode program)))
-      (load-of A (first ∷ more) (c .load) page (load-blank c (length m) (fit .state-legal) (ready .quiet .unselected))))
+  program-begins opcode A first more page program small bytes free = (
+    begins-at bs load f all leaves opcode A 5 5 Program command at (omega arith) long refl sector-free (roundedDown 256 (A % length m)) (rounds 256 A),
+    subst (LoadOf A (first ∷ more))
+        (sym (holds-load bs load f all leaves opcode A 5 5 Program command at (omega arith) long refl sector-free (among-two (λ (q : ℕ). isProgram q ≡ true) 0x02 0x0A refl refl opcode program)))
+        (load-of A (first ∷ more) (c .load) page (load-blank c (length m) (fit .state-legal) (ready .quiet .unselected))),
+  )
     where
       bs : List ℕ
       bs = opcode ∷ (address A ++ (first ∷ more))

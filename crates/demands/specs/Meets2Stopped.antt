@@ -9,8 +9,7 @@ use lib.ListN.{length}
 use borrow.Author.Tests.{le-leb}
 use Rattle.cells.specs.Choice.{cond-either, and-both}
 use Rattle.part.specs.Part.{Setting, settingOf}
-use Rattle.kinds.specs.Kinds.{knownIn, knownKind, kindRowIn, kindRow, inRange}
-use Rattle.chip.specs.declared.Chip.{Chip}
+use Rattle.kinds.specs.Kinds.{knownIn, knownKind, kindRowIn, kindRow}
 use Rattle.chip.specs.declared.Core.{Core}
 use Rattle.chip.specs.declared.Frame.{Frame}
 use Rattle.chip.specs.declared.Record.the-variants.{Floating}
@@ -20,10 +19,9 @@ use Rattle.frame.specs.Laws.{exchanged-judged}
 use Rattle.verdict.specs.Verdict.{verdict}
 use Rattle.event.specs.Event.{Outcome, applied}
 use Rattle.event.specs.Laws.{deselect-selected}
-use Rattle.script.specs.Script.{Event}
 use Rattle.script.specs.Run.{World, does}
-use Rattle.demands.specs.Model.{Reply, ours, event, Good, Fit, runsBy}
-use Rattle.demands.specs.Demand2.{AllInside, AllBytes, bytesOf, Closing, on-a-byte, inside-a-byte, opened, saidNext, stopOf, StoppedFrame}
+use Rattle.demands.specs.Model.{Reply, ours, event, Good, runsBy}
+use Rattle.demands.specs.Demand2.{AllBytes, bytesOf, Closing, on-a-byte, inside-a-byte, opened, stopOf, StoppedFrame}
 use Rattle.demands.specs.Datasheet.{verdict-judged}
 use Rattle.demands.specs.Inside.{GoesOn}
 use Rattle.demands.specs.Opening.{opcodeFrame, Opens, opens-opcode}
@@ -80,11 +78,12 @@ ours-stopped-frame c m area opcode fit unselected byte stops es inside =
     let f : Frame = opcodeFrame opcode (judge (c .core) opcode) in
     let opens : Opens c m area (opcode ∷ []) f = opens-opcode c m area fit unselected opcode byte in
     let at : Judged v (bytesOf es) (w .chip .frame) =
-        frame-there c m area fit (opcode ∷ []) small f opens es inside (Judged v) (judged-goes-on T v stops) (record { is-open = refl; begun = omega arith; judged = refl }) in
-    ((λ b small-byte.
-        ap (λ (q : Reply). q .says) (does-as c m area fit (opcode ∷ []) small f opens es inside (event 0x02 b) (byte-good b small-byte))
-        ∙ ap (λ (x : Exchange). recordBytes (x .said)) (floats-on T v stops (bytesOf es) (w .chip .core) (w .chip .frame) (w .chip .load) (w .memory) (b % 256) at)),
-    (λ kind body loose closing.
-        ap (λ (q : Reply). q .says) (does-as c m area fit (opcode ∷ []) small f opens es inside (event kind body) (closing-good kind body loose closing))
-        ∙ closing-says T w kind body loose closing (at .is-open)
-        ∙ ap (λ (q : ℕ). 0x82 ∷ q ∷ []) (judged-verdict (T .sectors) (w .chip .core) v (bytesOf es) (w .chip .frame) loose stops at)))
+    frame-there c m area fit (opcode ∷ []) small f opens es inside (Judged v) (judged-goes-on T v stops) (record { is-open = refl; begun = omega arith; judged = refl }) in (
+      (λ b small-byte.
+          ap (λ (q : Reply). q .says) (does-as c m area fit (opcode ∷ []) small f opens es inside (event 0x02 b) (byte-good b small-byte))
+          ∙ ap (λ (x : Exchange). recordBytes (x .said)) (floats-on T v stops (bytesOf es) (w .chip .core) (w .chip .frame) (w .chip .load) (w .memory) (b % 256) at)),
+      (λ kind body loose closing.
+          ap (λ (q : Reply). q .says) (does-as c m area fit (opcode ∷ []) small f opens es inside (event kind body) (closing-good kind body loose closing))
+          ∙ closing-says T w kind body loose closing (at .is-open)
+          ∙ ap (λ (q : ℕ). 0x82 ∷ q ∷ []) (judged-verdict (T .sectors) (w .chip .core) v (bytesOf es) (w .chip .frame) loose stops at)),
+    )

@@ -1,6 +1,6 @@
 -- The opening of a frame, over the definitions: on a legal unselected chip a select, the opcode byte and, for a command with one, an address of three bytes.
-use Prim.Native.Nat.{ℕ, _+_, _*_, _/_, _%_, _^_, _<_, _≤_}
-use mathlib.Core.Bool.{Bool, true, false, cond, not, _&&_, _||_, false≢true}
+use Prim.Native.Nat.{ℕ, _/_, _%_, _^_, _<_, _≤_}
+use mathlib.Core.Bool.{Bool, true, false, not, _&&_, _||_, false≢true}
 use mathlib.Core.List.{List, [], _∷_, _++_}
 use mathlib.Core.Path.{_≡_, refl, sym, ap, subst, _∙_}
 use native.Mathlib.Nat.{mod-eq-of-lt}
@@ -22,7 +22,7 @@ use Rattle.chip.specs.Chip.{whole, emptyFrame, running}
 use Rattle.legal.specs.Legal.{legal, isEmpty, isBlank, tidy}
 use Rattle.legal.specs.Legality.{chip-facts}
 use Rattle.commands.specs.Table.{rowOf, isProgram, lowPowerRead, highSpeedRead, wake, readSfdp}
-use Rattle.frame.specs.Frame.{judge, shifted, firstPlace, addressing, exchange, readsCell, taken, exchanged}
+use Rattle.frame.specs.Frame.{judge, shifted, firstPlace, addressing, exchange, taken, exchanged}
 use Rattle.frame.specs.Laws.{taken-address, exchanged-taken}
 use Rattle.event.specs.Event.{settleExchange, applied}
 use Rattle.script.specs.Script.{Event}

@@ -1,13 +1,13 @@
 -- Ours, in a frame: the bytes of its opening and the events inside it are good, so the world that they reach is the definitions' own.
 use Prim.Native.Nat.{ℕ, _/_, _%_, _^_, _<_, _≤_}
-use mathlib.Core.Bool.{Bool, true, false}
+use mathlib.Core.Bool.{false}
 use mathlib.Core.List.{List, [], _∷_, _++_}
 use mathlib.Core.Path.{_≡_, refl, sym, ap, subst, _∙_}
 use native.Mathlib.Omega.{arith}
 use lib.ListN.{length, replicate}
 use borrow.Author.Tests.{le-leb}
 use Rattle.part.specs.Part.{Setting, settingOf, sectorsIn, lengthOf}
-use Rattle.kinds.specs.Kinds.{knownIn, knownKind, kindRowIn, kindRow, inRange}
+use Rattle.kinds.specs.Kinds.{knownIn, knownKind, kindRowIn, kindRow}
 use Rattle.kinds.specs.Laws.{exchange-range}
 use Rattle.chip.specs.declared.Chip.{Chip}
 use Rattle.chip.specs.declared.Frame.{Frame}
@@ -84,7 +84,7 @@ reached c m area bs es fit small good =
     let open-fits : Fit (opened ours c m area bs .chip) (opened ours c m area bs .memory) area = fit-runs area (event 0x01 0 ∷ sends bs) (world c m [] 0) fit (opening-good bs small) in
     let open-long : length (opened ours c m area bs .memory) ≡ length m = ap (λ (w : World). length (w .memory)) opens ∙ length-runs T (event 0x01 0 ∷ sends bs) (world c m [] 0) in
     let as-defined : runsBy ours area es (opened ours c m area bs) ≡ runs T es first =
-        runs-ours area es (opened ours c m area bs) open-fits good ∙ (λ i. runs (settingOf (open-long i) area) es (opens i)) in
+    runs-ours area es (opened ours c m area bs) open-fits good ∙ (λ i. runs (settingOf (open-long i) area) es (opens i)) in
     record {
       fits = fit-runs area es (opened ours c m area bs) open-fits good;
       long = ap (λ (w : World). length (w .memory)) as-defined ∙ length-runs T es first ∙ length-runs T (event 0x01 0 ∷ sends bs) (world c m [] 0);

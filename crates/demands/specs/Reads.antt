@@ -1,13 +1,13 @@
 -- Reads, over any of them: what each byte of an open read drives, by its opcode and its place (RULES, Commands).
-use Prim.Native.Nat.{ℕ, _+_, _%_, _^_, _<_, _≤_}
-use mathlib.Core.Bool.{Bool, true, false, cond, not, _&&_, _||_}
-use mathlib.Core.List.{List, [], _∷_}
+use Prim.Native.Nat.{ℕ, _+_, _%_, _<_, _≤_}
+use mathlib.Core.Bool.{Bool, true, cond, _&&_, _||_}
+use mathlib.Core.List.{List}
 use mathlib.Core.Path.{_≡_, refl, sym, ap, subst, _∙_}
 use native.Mathlib.Nat.{mod-lt, mod-add-mod, mod-self, mod-eq-of-lt}
 use native.Mathlib.Decide.{decLt}
 use native.Mathlib.Omega.{arith}
 use lib.Dec.{eqb, ltb, leb}
-use lib.ListN.{length, getD, set}
+use lib.ListN.{getD, set}
 use borrow.Author.Tests.{le-leb, lt-ltb, le-ltb}
 use Rattle.cells.specs.Choice.{cond-yes, cond-no, cond-either}
 use Rattle.part.specs.Part.{Setting, lengthOf, jedecByte, jedecCycle, deviceByte}
@@ -18,7 +18,7 @@ use Rattle.chip.specs.declared.Frame.{Frame}
 use Rattle.chip.specs.declared.Record.the-variants.{Floating, Driven}
 use Rattle.chip.specs.Fields.{withPlace}
 use Rattle.chip.specs.Chip.{statusByte}
-use Rattle.frame.specs.Frame.{counted, nextPlace, counting, reading, loading, addressing, Exchange, exchange, taken, exchanged}
+use Rattle.frame.specs.Frame.{nextPlace, counting, reading, loading, addressing, Exchange, exchange, taken, exchanged}
 use Rattle.frame.specs.Laws.{exchanged-taken}
 use Rattle.demands.specs.Inside.{GoesOn}
 
@@ -60,11 +60,14 @@ pub record Serves (T : Setting) (r : Read) : Type 0 where
 
 module _ (T : Setting) where
   -- the six reads: cells by 03h and 0Bh, the area, the cycle, the device's byte, the status
+  abbrev pub cellRead : ℕ → ℕ → Read
+  cellRead opcode before = read opcode before (λ k m p. getD m p 0) (nextPlace (lengthOf (T .sectors)))
+
   abbrev pub lowPower : Read
-  lowPower = read 0x03 4 (λ k m p. getD m p 0) (nextPlace (lengthOf (T .sectors)))
+  lowPower = cellRead 0x03 4
 
   abbrev pub highSpeed : Read
-  highSpeed = read 0x0B 5 (λ k m p. getD m p 0) (nextPlace (lengthOf (T .sectors)))
+  highSpeed = cellRead 0x0B 5
 
   abbrev pub sfdp : Read
   sfdp = read 0x5A 5 (λ k m p. areaByte (T .area) p) (nextPlace areaPlaces)
