@@ -1,21 +1,25 @@
 -- The hypotheses of the theorems are met: for each kind of them a closed example. Demand 3's are met in `Examples` (P5, P9) and `LifeExample` (`cut-and-ended`).
-use Prim.Native.Nat.{ℕ}
+use Prim.Native.Nat.{ℕ, _/_, _%_}
 use mathlib.Core.Bool.{true, false}
 use mathlib.Core.List.{List, [], _∷_}
-use mathlib.Core.Path.{_≡_, refl}
-use lib.ListN.{replicate}
-use Rattle.part.specs.Part.{permitted}
-use Rattle.commands.specs.Table.{isProgram}
+use mathlib.Core.Path.{_≡_, refl, ap, _∙_}
+use native.Mathlib.Omega.{arith}
+use lib.ListN.{length, replicate}
+use borrow.Author.Tests.{lt-leb}
+use Rattle.part.specs.Part.{permitted, sectorsIn}
+use Rattle.part.specs.Protection.{protectedCount, protectedSector}
+use Rattle.commands.specs.Table.{rowOf, rowIn}
 use Rattle.chip.specs.declared.Chip.{Chip}
 use Rattle.chip.specs.declared.Frame.{Frame}
-use Rattle.chip.specs.Fields.{withSelected, withOpcode, withPlace, withCount}
+use Rattle.chip.specs.declared.JobKind.the-variants.{Program}
+use Rattle.chip.specs.Fields.{withWen, withSuspended, withJob, withSelected, withOpcode, withPlace, withCount}
 use Rattle.chip.specs.Chip.{whole, emptyFrame, blankLoad, fresh}
 use Rattle.legal.specs.Legal.{legalJob, legalCore, legalFrame, isEmpty, isBlank, legal}
-use Rattle.frame.specs.Frame.{readsCell, takesData}
 use Rattle.kinds.specs.Kinds.{SELECT, EXCHANGE, DESELECT, TICK, WP, knownIn, kindRowIn, knownKind, kindRow}
 use Rattle.event.specs.Alone.{refusal}
 use Rattle.script.specs.Run as Run
 use Rattle.script.specs.Script.{faultAt, eventAt, walk, eventsFrom, events, firstBad, room}
+use Rattle.demands.specs.Demand2.{stopOf, Quiet, Ready, FreeAt}
 
 -- a frame of that opcode with so many bytes, selected and not judged
 abbrev framed : ℕ → ℕ → Frame
@@ -29,10 +33,29 @@ pub legal-met : (legal (fresh 0x00) 65536 ≡ true) × (legal (fresh 0xFF) 20971
 unfolding legal legalCore legalJob legalFrame isEmpty isBlank permitted fresh
 legal-met = (refl, refl)
 
--- `reads-go-round`, `load-after-data`: a 03h frame and a 0Bh frame that read, a 02h frame that loads
-pub frames-met : (readsCell (framed 0x03 4) ≡ true) × (readsCell (framed 0x0B 5) ≡ true) × (takesData (framed 0x02 4) ≡ true)
-unfolding isProgram
-frames-met = (refl, refl, refl)
+-- `ours-other-reads`, `ours-jobs-from-bytes`: a chip with WEN and nothing protected is ready and free at every address; `ours-stopped-frame`: FFh is stopped by 3
+abbrev enabled : Chip
+enabled = whole (withWen true (fresh 0x00 .core)) emptyFrame blankLoad blankLoad
+
+pub ready-met : (m : List ℕ) → length m ≡ 65536 → Ready enabled m []
+unfolding legal legalCore legalJob legalFrame isEmpty isBlank permitted fresh
+ready-met m long = record { quiet = record { fit = record { state-legal = ap (legal enabled) long; area-short = omega arith }; resting = refl; awake = refl; unselected = refl }; idle = refl }
+
+pub free-met : (m : List ℕ) (A : ℕ) → length m ≡ 65536 → FreeAt enabled m A
+unfolding fresh protectedSector protectedCount
+free-met m A long = ap (λ (n : ℕ). protectedSector 0 false (sectorsIn n) (A % n / 65536)) long ∙ lt-leb 1 (A % 65536 / 65536) (omega arith)
+
+pub stopped-met : (length (enabled .load) ≡ 256) × (enabled .core .wen ≡ true) × (stopOf (enabled .core) 0xFF ≡ 3)
+unfolding rowOf rowIn
+stopped-met = (refl, refl, refl)
+
+-- `ours-cell-reads`: so reads a chip whose program is suspended
+abbrev waiting : Chip
+waiting = whole (withSuspended true (withJob (record { kind = Program; start = 0; done = 0 }) (enabled .core))) emptyFrame blankLoad blankLoad
+
+pub quiet-met : (m : List ℕ) → length m ≡ 65536 → Quiet waiting m []
+unfolding legal legalCore legalJob legalFrame isEmpty isBlank permitted fresh
+quiet-met m long = record { fit = record { state-legal = ap (legal waiting) long; area-short = omega arith }; resting = refl; awake = refl; unselected = refl }
 
 -- a state with a selected frame of that opcode and that read place
 abbrev reading-at : ℕ → ℕ → Chip
