@@ -64,6 +64,7 @@ pub record Keeps (T : Setting) (P : ℕ → Chip → List ℕ → Type 0) : Type
   pub at-level : (j : ℕ) (c : Chip) (m : List ℕ) (b : ℕ) → P j c m → P j (setWp c m b .chip) m
 
 module _ (T : Setting) (P : ℕ → Chip → List ℕ → Type 0) (keeps : Keeps T P) where
+  -- one event keeps it, with the byte that it may exchange
   keeps-once : (e : Event) → Inside e → (j : ℕ) (w : World) → P j (w .chip) (w .memory) → P (j + cond (eqb (e .kind) 0x02) 1 0) (onward T e w .chip) (onward T e w .memory)
   keeps-once e ok j w p =
       inside-each T (w .chip) (w .memory) e ok (λ (n : ℕ) (o : Outcome). P (j + n) (o .chip) (o .memory))
@@ -72,6 +73,7 @@ module _ (T : Setting) (P : ℕ → Chip → List ℕ → Type 0) (keeps : Keeps
       none : {c : Chip} {m : List ℕ} → P j c m → P (j + 0) c m
       none {c} {m} = subst (λ (n : ℕ). P n c m) (sym (add-zero j))
 
+  -- a row does, from any number of bytes on
   keeps-on : (es : List Event) → AllInside es → (j : ℕ) (w : World) → P j (w .chip) (w .memory) → P (j + bytesOf es) (runs T es w .chip) (runs T es w .memory)
   unfolding runs bytesOf AllInside
   keeps-on [] ok j w p = subst (λ (n : ℕ). P n (w .chip) (w .memory)) (sym (add-zero j)) p

@@ -32,6 +32,7 @@ use Rattle.demands.specs.Load.{loadAfter, load-of}
 use Rattle.demands.specs.JobFrames.{Holds, dataFrame, data-keeps, data-runs, Command, programs, small-erases, sector-erases, chip-erases, status-writes, verdict-begins, settled-job}
 
 module _ (c : Chip) (m area : List ℕ) (ready : Ready c m area) (enabled : c .core .wen ≡ true) where
+  -- the part's sectors, and its setting
   abbrev S : ℕ
   S = sectorsIn (length m)
 
@@ -60,24 +61,23 @@ module _ (c : Chip) (m area : List ℕ) (ready : Ready c m area) (enabled : c .c
 
   module _ (bs load : List ℕ) (f : Frame) (bytes : AllBytes bs) (leaves : Leaves c m area bs f load) (opcode A rule n : ℕ) (kind : JobKind) (command : Command opcode A rule kind) (at : Holds opcode A n f) (some : 1 ≤ n)
       (right : fitsRule rule (f .count) ≡ true) (unlocked : (not (hasCells kind) && c .core .srwp && not (c .core .wp)) ≡ false) (free : targetProtected S (c .core) kind (startOf S kind A) ≡ false) where
+    -- a frame with nothing in its way is closed with verdict 2
     closed : framed ours c m area bs ≡ after (world (whole (c .core) f load (c .held)) m (replicate (length bs) 0x80) 0) (closes T (whole (c .core) f load (c .held)) m 2)
     closed =
         closed-as bs load f bytes leaves (at .is-open)
         (verdict-begins S (c .core) f opcode A rule n kind command at (ready-takes c m area ready opcode (command .known)) some right enabled unlocked free)
 
-    -- it begins its job
-    begins-at : (start : ℕ) → startOf S kind A ≡ start → Begins ours c m area bs kind start
-    begins-at start there =
-        record {
-          verdict-two = ap (λ (w : World). w .written) closed;
-          job-is = ap (λ (w : World). w .chip .core .job) closed ∙ settled-job S (c .core) f opcode A rule n kind command at some ∙ ap (λ (q : ℕ). record { kind = kind; start = q; done = 0 }) there;
-          cells-same = ap (λ (w : World). w .memory) closed;
-        }
-
-    -- and if that is a program, with this load
-    holds-load : isProgram opcode ≡ true → framed ours c m area bs .chip .held ≡ load
+    -- it begins its job, and if that is a program, with this load
+    begins-at : (start : ℕ) → startOf S kind A ≡ start → Begins ours c m area bs kind start × (isProgram opcode ≡ true → framed ours c m area bs .chip .held ≡ load)
     unfolding heldAfter
-    holds-load program = ap (λ (w : World). w .chip .held) closed ∙ cond-yes (isProgram (f .opcode)) load blankLoad (ap isProgram (at .opcode-is) ∙ program)
+    begins-at start there = (
+      record {
+        verdict-two = ap (λ (w : World). w .written) closed;
+        job-is = ap (λ (w : World). w .chip .core .job) closed ∙ settled-job S (c .core) f opcode A rule n kind command at some ∙ ap (λ (q : ℕ). record { kind = kind; start = q; done = 0 }) there;
+        cells-same = ap (λ (w : World). w .memory) closed;
+      },
+      λ program. ap (λ (w : World). w .chip .held) closed ∙ cond-yes (isProgram (f .opcode)) load blankLoad (ap isProgram (at .opcode-is) ∙ program),
+    )
 
   -- ---- the places
 
@@ -91,16 +91,18 @@ module _ (c : Chip) (m area : List ℕ) (ready : Ready c m area) (enabled : c .c
 
   -- ---- command by command
 
+  -- a program, with its data bytes in its load
   program-begins : (opcode A first : ℕ) (more : List ℕ) → length (c .load) ≡ 256 → among (0x02 ∷ 0x0A ∷ []) opcode ≡ true → A < 2 ^ 24 → AllBytes (first ∷ more) → FreeAt c m A
       → Begins ours c m area (opcode ∷ (address A ++ (first ∷ more))) Program (roundedDown 256 (A % length m))
       × LoadOf A (first ∷ more) (framed ours c m area (opcode ∷ (address A ++ (first ∷ more))) .chip .held)
   unfolding AllBytes dataFrame fitsRule isProgram
-  program-begins opcode A first more page program small bytes free = (
-    begins-at bs load f all leaves opcode A 5 5 Program command at (omega arith) long refl sector-free (roundedDown 256 (A % length m)) (rounds 256 A),
-    subst (LoadOf A (first ∷ more))
-        (sym (holds-load bs load f all leaves opcode A 5 5 Program command at (omega arith) long refl sector-free (among-two (λ (q : ℕ). isProgram q ≡ true) 0x02 0x0A refl refl opcode program)))
-        (load-of A (first ∷ more) (c .load) page (load-blank c (length m) (fit .state-legal) (ready .quiet .unselected))),
-  )
+  program-begins opcode A first more page program small bytes free =
+      let begun =
+      begins-at bs load f all leaves opcode A 5 5 Program command at (omega arith) (le-leb 5 (f .count) (at .so-many)) refl (free-start 256 A (λ x. omega arith) free) (roundedDown 256 (A % length m)) (rounds 256 A) in (
+        begun .0,
+        subst (LoadOf A (first ∷ more)) (sym (begun .1 (among-two (λ (q : ℕ). isProgram q ≡ true) 0x02 0x0A refl refl opcode program)))
+            (load-of A (first ∷ more) (c .load) page (load-blank c (length m) (fit .state-legal) (ready .quiet .unselected))),
+      )
     where
       bs : List ℕ
       bs = opcode ∷ (address A ++ (first ∷ more))
@@ -126,37 +128,32 @@ module _ (c : Chip) (m area : List ℕ) (ready : Ready c m area) (enabled : c .c
       at : Holds opcode A 5 f
       at = data-keeps opcode A 5 more (loading (addressFrame S opcode A)) (omega arith) (record { is-open = refl; opcode-is = refl; address-is = refl; unjudged = refl; so-many = omega arith })
 
-      long : fitsRule 5 (f .count) ≡ true
-      long = le-leb 5 (f .count) (at .so-many)
-
-      sector-free : startProtected S (c .core) (roundedDown 256 (A % lengthOf S)) ≡ false
-      sector-free = free-start 256 A (λ x. omega arith) free
-
   -- an erase at an address, which has four bytes
   erase-begins : (opcode A : ℕ) (kind : JobKind) → Command opcode A 4 kind → hasAddress opcode ≡ true → hasCells kind ≡ true → A < 2 ^ 24 → targetProtected S (c .core) kind (startOf S kind A) ≡ false
       → (start : ℕ) → startOf S kind A ≡ start → Begins ours c m area (opcode ∷ address A) kind start
   unfolding AllBytes fitsRule
-  erase-begins opcode A kind command has cells small free =
+  erase-begins opcode A kind command has cells small free start there =
       begins-at (opcode ∷ address A) (c .load) (addressFrame S opcode A) (leb-true opcode 255 (and-left (leb opcode 255) _ has), address-bytes A [] small _)
       (opens-address c m area fit (ready .quiet .unselected) opcode A small has (ready-takes c m area ready opcode (command .known)))
       opcode A 4 4 kind command (record { is-open = refl; opcode-is = refl; address-is = refl; unjudged = refl; so-many = omega arith }) (omega arith) refl
-      (ap (λ (h : Bool). not h && c .core .srwp && not (c .core .wp)) cells) free
+      (ap (λ (h : Bool). not h && c .core .srwp && not (c .core .wp)) cells) free start there .0
 
-  -- the opcode alone, or the opcode and a value
+  -- a chip erase, which has its opcode alone
   chip-erase-begins : (opcode : ℕ) → among (0x60 ∷ 0xC7 ∷ []) opcode ≡ true → c .core .level ≡ 0 → Begins ours c m area (opcode ∷ []) ChipErase 0
   unfolding AllBytes fitsRule
   chip-erase-begins opcode is level-none =
       let small : opcode ≤ 255 = among-two (λ (q : ℕ). q ≤ 255) 0x60 0xC7 (omega arith) (omega arith) opcode is in
       let command : Command opcode 0 1 ChipErase = chip-erases opcode is in
       begins-at (opcode ∷ []) (c .load) (opcodeFrame opcode (judge (c .core) opcode)) (small, _) (opens-opcode c m area fit (ready .quiet .unselected) opcode small) opcode 0 1 1 ChipErase command
-      (record { is-open = refl; opcode-is = refl; address-is = refl; unjudged = ready-takes c m area ready opcode (command .known); so-many = omega arith }) (omega arith) refl refl (ap not (eq-eqb _ _ level-none)) 0 refl
+      (record { is-open = refl; opcode-is = refl; address-is = refl; unjudged = ready-takes c m area ready opcode (command .known); so-many = omega arith }) (omega arith) refl refl (ap not (eq-eqb _ _ level-none)) 0 refl .0
 
+  -- a write status, with its value
   write-status-begins : (value : ℕ) → value ≤ 255 → (c .core .srwp && not (c .core .wp)) ≡ false → Begins ours c m area (0x01 ∷ value ∷ []) (WriteStatus value) 0
   unfolding AllBytes fitsRule
   write-status-begins value byte unlocked =
       let command : Command 0x01 value 2 (WriteStatus value) = status-writes value byte in
       begins-at (0x01 ∷ value ∷ []) (c .load) _ (omega arith, (byte, _)) (opens-value c m area fit (ready .quiet .unselected) value byte (ready-takes c m area ready 0x01 (command .known)))
-      0x01 value 2 2 (WriteStatus value) command (record { is-open = refl; opcode-is = refl; address-is = refl; unjudged = refl; so-many = omega arith }) (omega arith) refl unlocked refl 0 refl
+      0x01 value 2 2 (WriteStatus value) command (record { is-open = refl; opcode-is = refl; address-is = refl; unjudged = refl; so-many = omega arith }) (omega arith) refl unlocked refl 0 refl .0
 
   -- Ours begins its jobs from their bytes, as the demand says.
   pub ours-jobs-from-bytes : JobsFromBytes ours c m area

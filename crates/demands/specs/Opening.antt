@@ -40,6 +40,7 @@ unselected-tidy f load h u = go (f .selected) u h
     go true e q = absurd (false≢true (sym e))
     go false e q = q
 
+-- an unselected frame of nothing but zeros is the empty one
 frame-is-empty : (f : Frame) → f .selected ≡ false → isEmpty f ≡ true → f ≡ emptyFrame
 unfolding isEmpty
 frame-is-empty f unselected empty =
@@ -58,6 +59,7 @@ frame-is-empty f unselected empty =
     }
 
 module _ (c : Chip) (n : ℕ) (l : legal c n ≡ true) (unselected : c .frame .selected ≡ false) where
+  -- so an unselected legal chip has the empty frame, and a blank load
   both : (isEmpty (c .frame) && isBlank (c .load)) ≡ true
   both = unselected-tidy (c .frame) (c .load) (chip-facts c n l .tidy-part) unselected
 
@@ -67,11 +69,13 @@ module _ (c : Chip) (n : ℕ) (l : legal c n ≡ true) (unselected : c .frame .s
   pub load-blank : isBlank (c .load) ≡ true
   load-blank = and-right (isEmpty (c .frame)) (isBlank (c .load)) both
 
--- ---- the frame after the opcode byte, and after an address
+-- ---- the frames of an opening
 
+-- after the opcode byte, with its judgement
 abbrev pub opcodeFrame : ℕ → ℕ → Frame
 opcodeFrame opcode v = record { selected = true; opcode = opcode; address = 0; place = 0; slot = 0; count = 1; judgement = v }
 
+-- after three bytes of address, on a part of S sectors
 abbrev pub addressFrame : ℕ → ℕ → ℕ → Frame
 addressFrame S opcode A = record { selected = true; opcode = opcode; address = A; place = firstPlace S opcode A; slot = A % 256; count = 4; judgement = 0 }
 
@@ -154,6 +158,7 @@ pub allowed : (a b : Bool) → b ≡ true → (a && not b) ≡ false
 allowed true b h = ap not h
 allowed false b h = refl
 
+-- what has cells is a job
 cells-job : (kind : JobKind) → hasCells kind ≡ true → isJob kind ≡ true
 cells-job Idle h = h
 cells-job (WriteStatus value) h = refl
@@ -166,11 +171,12 @@ cells-job ChipErase h = refl
 not-suspended : (c : Chip) (n : ℕ) → legal c n ≡ true → isJob (c .core .job .kind) ≡ false → c .core .suspended ≡ false
 not-suspended c n l idle = not-so (c .core .suspended) (λ e. false≢true (sym idle ∙ cells-job (c .core .job .kind) (chip-facts c n l .core-part .suspended-cells e)))
 
--- so it takes every known opcode; a chip at rest, idle or suspended, takes those that are allowed while suspended
+-- A chip at rest, idle or suspended, takes the opcodes that are allowed while suspended.
 pub quiet-takes : (c : Chip) (m area : List ℕ) → Quiet c m area → (opcode : ℕ) → rowOf opcode .known ≡ true → rowOf opcode .suspended ≡ true → judge (c .core) opcode ≡ 0
 quiet-takes c m area quiet opcode known suspended =
     unstopped (c .core) opcode known (quiet .awake) (ap (λ (r : Bool). r && not (rowOf opcode .running)) (quiet .resting)) (allowed (c .core .suspended) (rowOf opcode .suspended) suspended)
 
+-- An idle one takes every known opcode.
 pub ready-takes : (c : Chip) (m area : List ℕ) → Ready c m area → (opcode : ℕ) → rowOf opcode .known ≡ true → judge (c .core) opcode ≡ 0
 ready-takes c m area ready opcode known =
     let quiet : Quiet c m area = ready .quiet in
@@ -205,6 +211,7 @@ module _ (c : Chip) (m area : List ℕ) (fit : Fit c m area) (unselected : c .fr
   pub from-empty : (es : List Event) → runs T es (world c m [] 0) ≡ runs T es (amid T (c .core) (c .load) (c .held) m emptyFrame [])
   from-empty es = ap (λ (f : Frame). runs T es (world (whole (c .core) f (c .load) (c .held)) m [] 0)) (frame-empty c (length m) (fit .state-legal) unselected)
 
+  -- an opcode alone
   pub opens-opcode : (opcode : ℕ) → opcode ≤ 255 → Opens c m area (opcode ∷ []) (opcodeFrame opcode (judge (c .core) opcode))
   unfolding runs
   opens-opcode opcode byte = from-empty (event 0x01 0 ∷ sends (opcode ∷ [])) ∙ opcode-opens T (c .core) (c .load) (c .held) m opcode [] byte
@@ -221,10 +228,12 @@ module _ (c : Chip) (m area : List ℕ) (fit : Fit c m area) (unselected : c .fr
       ∙ (λ i. amid T (c .core) (c .load) (c .held) m (record { selected = true; opcode = 0x01; address = all i; place = 0; slot = 0; count = 2; judgement = 0 }) (replicate 2 0x80))
 
   module _ (opcode A : ℕ) (small : A < 2 ^ 24) (has : hasAddress opcode ≡ true) (free : judge (c .core) opcode ≡ 0) where
+    -- an opcode and an address, whatever bytes follow
     pub opens-address-and : (bs : List ℕ)
         → runs T (event 0x01 0 ∷ sends (opcode ∷ (address A ++ bs))) (world c m [] 0) ≡ runs T (sends bs) (amid T (c .core) (c .load) (c .held) m (addressFrame (sectorsIn (length m)) opcode A) (replicate 4 0x80))
     opens-address-and bs = from-empty _ ∙ address-opens T (c .core) (c .load) (c .held) m opcode A bs small has free
 
+    -- and if none do
     pub opens-address : Opens c m area (opcode ∷ address A) (addressFrame (sectorsIn (length m)) opcode A)
     unfolding runs
     opens-address = opens-address-and []

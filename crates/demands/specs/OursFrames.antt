@@ -41,12 +41,13 @@ pub byte-good : (b : ℕ) → b ≤ 255 → Good (event 0x02 b)
 unfolding knownKind knownIn
 byte-good b small = (refl, exchange-range b ∙ le-leb b 255 small)
 
--- nor with a row of them, and with a select before it
+-- nor with a row of them
 sends-good : (bs : List ℕ) → AllBytes bs → AllGood (sends bs)
 unfolding AllBytes AllGood
 sends-good [] small = small
 sends-good (b ∷ bs) small = (byte-good b (small .0), sends-good bs (small .1))
 
+-- nor with a select before it
 opening-good : (bs : List ℕ) → AllBytes bs → AllGood (event 0x01 0 ∷ sends bs)
 unfolding AllGood knownKind knownIn kindRow kindRowIn
 opening-good bs small = ((refl, refl), sends-good bs small)
@@ -102,12 +103,14 @@ module _ (c : Chip) (m area : List ℕ) (fit : Fit c m area) (opening : List ℕ
   opening-floats = ap (λ (w : World). w .written) (opened-as c m area opening fit bytes ∙ opens)
 
   module _ (es : List Event) (inside : AllInside es) where
+    -- the world after these events, and the one at the frame's opening
     abbrev there : World
     there = runsBy ours area es (opened ours c m area opening)
 
     abbrev first : World
     first = world (whole (c .core) f (c .load) (c .held)) m (replicate (length opening) 0x80) 0
 
+    -- the definitions reach it from there
     arrived : Reached c m area opening es
     arrived = reached c m area opening es fit bytes (inside-good es inside)
 
