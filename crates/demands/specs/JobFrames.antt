@@ -49,6 +49,7 @@ unfoldable pub dataFrame : List ℕ → Frame → Frame
 dataFrame [] f = f
 dataFrame (b ∷ bs) f = dataFrame bs (loading f)
 
+-- one of them leaves it such a frame
 data-holds : (opcode A n : ℕ) (f : Frame) → n ≤ 6 → Holds opcode A n f → Holds opcode A n (loading f)
 data-holds opcode A n f few at =
     record {
@@ -59,7 +60,7 @@ data-holds opcode A n f few at =
       so-many = cond-either (λ (q : ℕ). n ≤ q) (ltb (f .count) 6) (f .count + 1) 6 (λ _. omega (arith, at .so-many)) (λ _. few);
     }
 
--- It still is such a frame.
+-- So do any number of them.
 pub data-keeps : (opcode A n : ℕ) (bs : List ℕ) (f : Frame) → n ≤ 6 → Holds opcode A n f → Holds opcode A n (dataFrame bs f)
 unfolding dataFrame
 data-keeps opcode A n [] f few at = at
@@ -105,7 +106,7 @@ fact : {opcode A rule : ℕ} {kind : JobKind} → rowOf opcode .known ≡ true �
     → isJob kind ≡ true → Command opcode A rule kind
 fact known rule-is no-read acts asks a-job = record { known = known; rule-is = rule-is; no-read = no-read; acts = acts; asks = asks; a-job = a-job }
 
--- the programs, the erases and the write status are such commands
+-- The programs, the erases and the write status are such commands.
 pub programs : (opcode A : ℕ) → among (0x02 ∷ 0x0A ∷ []) opcode ≡ true → Command opcode A 5 Program
 unfolding rowOf rowIn isRead jobOf isProgram
 programs opcode A =
@@ -138,6 +139,7 @@ status-writes value byte = fact refl refl refl (λ k. refl) (ap WriteStatus (mod
 -- ---- verdict 2
 
 module _ (S : ℕ) (k : Core) (f : Frame) (opcode A rule n : ℕ) (kind : JobKind) (command : Command opcode A rule kind) (at : Holds opcode A n f) where
+  -- the job of that kind, at its place
   abbrev job : Job
   job = record { kind = kind; start = startOf S kind A; done = 0 }
 

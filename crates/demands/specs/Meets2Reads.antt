@@ -32,6 +32,7 @@ T m area = settingOf (length m) area
 -- ---- a read of ours, any of them
 
 module _ (c : Chip) (m area : List ℕ) (fit : Fit c m area) (opening : List ℕ) (bytes : AllBytes opening) (f : Frame) (opens : Opens c m area opening f) where
+  -- the world after the opening and these events
   abbrev later : List Event → World
   later es = runsBy ours area es (opened ours c m area opening)
 
@@ -60,6 +61,7 @@ module _ (c : Chip) (m area : List ℕ) (fit : Fit c m area) (opening : List ℕ
 -- ---- the reads of cells
 
 module _ (c : Chip) (m area : List ℕ) (quiet : Quiet c m area) where
+  -- the part's sectors, of which there are some
   abbrev S : ℕ
   S = sectorsIn (length m)
 
@@ -94,6 +96,7 @@ module _ (c : Chip) (m area : List ℕ) (ready : Ready c m area) where
   abbrev quiet : Quiet c m area
   quiet = ready .quiet
 
+  -- the area, from an address on
   sfdp-drives : (A dummy : ℕ) → A < 2 ^ 24 → dummy ≤ 255 → Drives ours c m area (0x5A ∷ (address A ++ (dummy ∷ []))) (λ j. getD area ((A + j) % 2 ^ 24) 0xFF)
   unfolding AllBytes rowOf rowIn
   sfdp-drives A dummy small byte =
@@ -103,6 +106,7 @@ module _ (c : Chip) (m area : List ℕ) (ready : Ready c m area) where
       (record { is-open = refl; opcode-is = refl; unjudged = refl; begun = omega arith; there = sym (mod-eq-of-lt small) ∙ ap (λ (q : ℕ). q % 2 ^ 24) (sym (add-zero A)) })
       (quiet .resting) _ (λ k j. refl)
 
+  -- the cycle, from byte 2
   jedec-drives : Drives ours c m area (0x9F ∷ []) (λ j. getD (0x62 ∷ 0x16 ∷ 0x15 ∷ 0x00 ∷ []) (j % 4) 0)
   unfolding AllBytes rowOf rowIn
   jedec-drives =
@@ -112,6 +116,7 @@ module _ (c : Chip) (m area : List ℕ) (ready : Ready c m area) where
       (record { is-open = refl; opcode-is = refl; unjudged = ready-takes c m area ready 0x9F refl; begun = omega arith; there = refl })
       (quiet .resting) _ (λ k j. ap (λ (q : ℕ). jedecByte (q % 4)) (zero-add j))
 
+  -- the device's byte, after any address
   device-drives : (A : ℕ) → A < 2 ^ 24 → Drives ours c m area (0xAB ∷ address A) (λ j. 0x88)
   unfolding AllBytes rowOf rowIn
   device-drives A small =

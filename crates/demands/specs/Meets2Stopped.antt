@@ -38,6 +38,7 @@ module _ (T : Setting) (v : ℕ) (stops : v ≡ 0 → ⊥) where
   floats-on : (j : ℕ) (k : Core) (f : Frame) (load m : List ℕ) (b : ℕ) → Judged v j f → exchanged T k f load m b ≡ exchange Floating (counting f) load
   floats-on j k f load m b at = exchanged-judged T k f load m b (at .is-open) (λ z. omega (arith, at .begun, z)) (λ z. stops (sym (at .judged) ∙ z))
 
+  -- and it goes on so
   judged-goes-on : GoesOn T (Judged v)
   judged-goes-on =
       record {

@@ -22,10 +22,11 @@ use Rattle.frame.specs.Frame.{nextPlace, counting, reading, loading, addressing
 use Rattle.frame.specs.Laws.{exchanged-taken}
 use Rattle.demands.specs.Inside.{GoesOn}
 
--- ---- a byte of a frame that is not judged, by its opcode and whether four and five bytes have gone before
+-- ---- a byte of a frame that is not judged
 
 module _ (T : Setting) (k : Core) (f : Frame) (load m : List ℕ) (b : ℕ) where
-  abbrev pub takenBy : ℕ → Bool → Bool → Exchange
+  -- `taken` with what it asks the frame taken out of it: the opcode, and whether four and five bytes have gone before
+  abbrev takenBy : ℕ → Bool → Bool → Exchange
   takenBy opcode four five =
       cond (eqb opcode lowPowerRead && four || eqb opcode highSpeedRead && five) (exchange (Driven (getD m (f .place) 0)) (reading (lengthOf (T .sectors)) f) load)
       (cond ((eqb opcode 0x02 || eqb opcode 0x0A) && four) (exchange Floating (loading f) (set load (f .slot) b))
@@ -35,6 +36,7 @@ module _ (T : Setting) (k : Core) (f : Frame) (load m : List ℕ) (b : ℕ) wher
       (cond (eqb opcode readSfdp && five) (exchange (Driven (areaByte (T .area) (f .place))) (reading areaPlaces f) load)
       (exchange Floating (addressing (T .sectors) b f) load))))))
 
+  -- Where these are known, it computes.
   pub taken-by : {opcode : ℕ} {four five : Bool} → f .opcode ≡ opcode → leb 4 (f .count) ≡ four → leb 5 (f .count) ≡ five → taken T k f load m b ≡ takenBy opcode four five
   unfolding taken isProgram
   taken-by o p q = λ i. takenBy (o i) (p i) (q i)
@@ -48,6 +50,7 @@ pub record Read : Type 0 where
   pub byte : Core → List ℕ → ℕ → ℕ
   pub next : ℕ → ℕ
 
+-- a read of these four
 abbrev pub read : ℕ → ℕ → (Core → List ℕ → ℕ → ℕ) → (ℕ → ℕ) → Read
 read opcode before byte next = record { opcode = opcode; before = before; byte = byte; next = next }
 
@@ -59,7 +62,7 @@ pub record Serves (T : Setting) (r : Read) : Type 0 where
       → taken T k f load m b ≡ exchange (Driven (r .byte k m (f .place))) (withPlace (r .next (f .place)) (counting f)) load
 
 module _ (T : Setting) where
-  -- the six reads: cells by 03h and 0Bh, the area, the cycle, the device's byte, the status
+  -- the reads of cells, 03h and 0Bh
   abbrev pub cellRead : ℕ → ℕ → Read
   cellRead opcode before = read opcode before (λ k m p. getD m p 0) (nextPlace (lengthOf (T .sectors)))
 
@@ -69,6 +72,7 @@ module _ (T : Setting) where
   abbrev pub highSpeed : Read
   highSpeed = cellRead 0x0B 5
 
+  -- the area, the cycle of 9Fh, the device's byte, the status
   abbrev pub sfdp : Read
   sfdp = read 0x5A 5 (λ k m p. areaByte (T .area) p) (nextPlace areaPlaces)
 
@@ -81,6 +85,7 @@ module _ (T : Setting) where
   abbrev pub status : Read
   status = read 0x05 1 (λ k m p. statusByte k) (λ p. p)
 
+  -- Each of the six drives what it says.
   pub low-power-serves : Serves T lowPower
   low-power-serves = record { some = omega arith; few = omega arith; drives = λ k f load m b o n. taken-by T k f load m b o (le-leb 4 _ n) refl }
 
@@ -135,6 +140,7 @@ module _ (T : Setting) (r : Read) (serves : Serves T r) (place : ℕ → ℕ) wh
 
 -- ---- places: up by one, and round at the top
 
+-- the place after p
 nextPlace-mod : (n p : ℕ) → p < n → nextPlace n p ≡ (p + 1) % n
 nextPlace-mod n p h = go (decLt (p + 1) n)
   where
