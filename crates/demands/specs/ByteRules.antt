@@ -26,7 +26,7 @@ use Rattle.event.specs.Event.{settleExchange}
 use Rattle.demands.specs.Model.{Reply, reply, ours, Fit}
 use Rattle.demands.specs.Demand2.{Byte, byte, longer, shiftedIn, byteDone}
 use Rattle.demands.specs.Ours.{told}
-use Rattle.demands.specs.Datasheet.{nextPlace-mod}
+use Rattle.demands.specs.Reads.{nextPlace-mod}
 use Rattle.demands.specs.EventRules.{exchange-as}
 
 -- ---- choices

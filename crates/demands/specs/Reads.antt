@@ -141,7 +141,7 @@ module _ (T : Setting) (r : Read) (serves : Serves T r) (place : ℕ → ℕ) wh
 -- ---- places: up by one, and round at the top
 
 -- the place after p
-nextPlace-mod : (n p : ℕ) → p < n → nextPlace n p ≡ (p + 1) % n
+pub nextPlace-mod : (n p : ℕ) → p < n → nextPlace n p ≡ (p + 1) % n
 nextPlace-mod n p h = go (decLt (p + 1) n)
   where
     go : Dec (p + 1 < n) → nextPlace n p ≡ (p + 1) % n
