@@ -24,6 +24,7 @@ pub mod Meets2Stopped
 pub mod Load
 pub mod JobFrames
 pub mod Meets2Jobs
+pub mod Meets2
 pub mod Sfdp
 pub mod Datasheet
 pub mod Unique
