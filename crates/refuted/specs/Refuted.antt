@@ -189,11 +189,11 @@ all-bytes j (suc n) = (omega arith, all-bytes (suc j) n)
 -- Laying the last 256 bytes from the page's start, or from the address: Demand 2's load, byte 4 of 260, which stands at offset 254.
 pub lays-from-page-start-refuted : Demand2 laysFromPageStart → ⊥
 unfolding answerOf memoryOf happens refusal bodyUsed legal legalCore legalJob legalFrame isEmpty isBlank permitted knownKind knownIn kindRow kindRowIn applied exchanged taken judge rowOf rowIn isProgram verdict listed isRead commandVerdict jobVerdict jobOf fitsRule settled acted heldAfter instantly protectedSector protectedCount ticksCore tickCore tickLoad ticksLoad tickMemory ticksMemory worked sweep runsBy workedBy AllGood AllSpare AllInside AllBytes bytesOf statusByte
-lays-from-page-start-refuted d = absurd (omega (arith, d .jobs-from-bytes (unselected enabled) (cells 0) [] ready refl .program 0x02 250 0 (counted 1 259) refl (omega arith) (all-bytes 0 260) refl .1 .last-stay 4 (omega arith) (omega arith)))
+lays-from-page-start-refuted d = absurd (omega (arith, d .jobs-from-bytes (unselected enabled) (cells 0) [] ready refl .program 0x02 250 0 (counted 1 259) refl refl (omega arith) (all-bytes 0 260) refl .1 .last-stay 4 (omega arith) (omega arith)))
 
 pub lays-from-address-refuted : Demand2 laysFromAddress → ⊥
 unfolding answerOf memoryOf happens refusal bodyUsed legal legalCore legalJob legalFrame isEmpty isBlank permitted knownKind knownIn kindRow kindRowIn applied exchanged taken judge rowOf rowIn isProgram verdict listed isRead commandVerdict jobVerdict jobOf fitsRule settled acted heldAfter instantly protectedSector protectedCount ticksCore tickCore tickLoad ticksLoad tickMemory ticksMemory worked sweep runsBy workedBy AllGood AllSpare AllInside AllBytes bytesOf statusByte
-lays-from-address-refuted d = absurd (omega (arith, d .jobs-from-bytes (unselected enabled) (cells 0) [] ready refl .program 0x02 250 0 (counted 1 259) refl (omega arith) (all-bytes 0 260) refl .1 .last-stay 4 (omega arith) (omega arith)))
+lays-from-address-refuted d = absurd (omega (arith, d .jobs-from-bytes (unselected enabled) (cells 0) [] ready refl .program 0x02 250 0 (counted 1 259) refl refl (omega arith) (all-bytes 0 260) refl .1 .last-stay 4 (omega arith) (omega arith)))
 
 -- Storing the byte: Demand 3's k steps, at k = 1: 0Fh programmed over F0h.
 pub stores-bytes-refuted : Demand3 storesBytes → ⊥
@@ -272,12 +272,12 @@ first-reads-refuted d = absurd (omega (arith, second-byte (d .cell-reads (unsele
 -- The first, loads: Demand 2's load, two bytes at offset 255: the second stands at offset 0.
 pub first-loads-refuted : Demand2 firstLoads → ⊥
 unfolding answerOf memoryOf happens refusal bodyUsed legal legalCore legalJob legalFrame isEmpty isBlank permitted knownKind knownIn kindRow kindRowIn applied exchanged taken judge rowOf rowIn isProgram verdict listed isRead commandVerdict jobVerdict jobOf fitsRule settled acted heldAfter instantly protectedSector protectedCount ticksCore tickCore tickLoad ticksLoad tickMemory ticksMemory worked sweep runsBy workedBy AllGood AllSpare AllInside AllBytes bytesOf statusByte
-first-loads-refuted d = absurd (omega (arith, d .jobs-from-bytes (unselected enabled) (cells 0) [] ready refl .program 0x02 255 1 (2 ∷ []) refl (omega arith) (omega arith, (omega arith, tt)) refl .1 .last-stay 1 (omega arith) (omega arith)))
+first-loads-refuted d = absurd (omega (arith, d .jobs-from-bytes (unselected enabled) (cells 0) [] ready refl .program 0x02 255 1 (2 ∷ []) refl refl (omega arith) (omega arith, (omega arith, tt)) refl .1 .last-stay 1 (omega arith) (omega arith)))
 
 -- The second, loads: Demand 2's load, byte 256 of 260, which stands over byte 0.
 pub second-loads-refuted : Demand2 secondLoads → ⊥
 unfolding answerOf memoryOf happens refusal bodyUsed legal legalCore legalJob legalFrame isEmpty isBlank permitted knownKind knownIn kindRow kindRowIn applied exchanged taken judge rowOf rowIn isProgram verdict listed isRead commandVerdict jobVerdict jobOf fitsRule settled acted heldAfter instantly protectedSector protectedCount ticksCore tickCore tickLoad ticksLoad tickMemory ticksMemory worked sweep runsBy workedBy AllGood AllSpare AllInside AllBytes bytesOf statusByte
-second-loads-refuted d = absurd (omega (arith, d .jobs-from-bytes (unselected enabled) (cells 0) [] ready refl .program 0x02 250 0 (counted 1 259) refl (omega arith) (all-bytes 0 260) refl .1 .last-stay 256 (omega arith) (omega arith)))
+second-loads-refuted d = absurd (omega (arith, d .jobs-from-bytes (unselected enabled) (cells 0) [] ready refl .program 0x02 250 0 (counted 1 259) refl refl (omega arith) (all-bytes 0 260) refl .1 .last-stay 256 (omega arith) (omega arith)))
 
 -- The second, WEN: Demand 2's other verdicts, a protected program.
 abbrev protected-program : Chip
