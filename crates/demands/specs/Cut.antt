@@ -311,4 +311,4 @@ pub good-alone : (c : Chip) (n extent : ℕ) (s : List ℕ) (at : ℕ) → permi
     → Alone.refusal c n extent (getD s at 0) (bodyAt s at) ≡ 0
 good-alone c n extent s at p a l z =
     let g = good-event s at z in
-    event-refused-when c n extent (getD s at 0) (bodyAt s at) .none .1 (p, le-ltb _ _ a, l, g .known, g .ranged)
+    event-refused-when c n extent (getD s at 0) (bodyAt s at) .none .1 (p, a, l, g .known, g .ranged)

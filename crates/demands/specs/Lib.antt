@@ -25,8 +25,9 @@ pub mod Load
 pub mod JobFrames
 pub mod Meets2Jobs
 pub mod Meets2
-pub mod Sfdp
+pub mod Meets1
 pub mod Datasheet
+pub mod Sfdp
 pub mod Unique
 pub mod Cut
 pub mod Examples

@@ -7,7 +7,7 @@ use native.Mathlib.Decide.{decLt}
 use native.Mathlib.Omega.{arith}
 use lib.Dec.{eqb}
 use lib.ListN.{length}
-use borrow.Author.Tests.{le-ltb, eqb-true, eqb-false}
+use borrow.Author.Tests.{eqb-true, eqb-false}
 use Rattle.cells.specs.Choice.{cond-yes, cond-no, cond-either}
 use Rattle.part.specs.Part.{Setting, sectorsIn, settingOf}
 use Rattle.chip.specs.declared.Chip.{Chip}
@@ -71,7 +71,7 @@ module _ (c : Chip) (m area : List ℕ) (fit : Fit c m area) (kind body : ℕ) (
   T = settingOf (length m) area
 
   unrefused : refusal c (length m) (length area) kind body ≡ 0
-  unrefused = event-refused-when c (length m) (length area) kind body .none .1 (chip-facts c (length m) (fit .state-legal) .length-permitted, le-ltb _ _ (fit .area-short), fit .state-legal, known, ranged)
+  unrefused = event-refused-when c (length m) (length area) kind body .none .1 (chip-facts c (length m) (fit .state-legal) .length-permitted, fit .area-short, fit .state-legal, known, ranged)
 
   happens-applied : happens c m area kind body ≡ applied T c m kind body
   unfolding happens

@@ -1,17 +1,16 @@
 -- The headers of an area: which one counts for an identity, and exactly when each number refuses (RULES, The SFDP area).
 use Prim.Native.Nat.{ℕ, zero, suc, _+_, _≤_, _<_}
-use mathlib.Core.Bool.{Bool, true, false, cond, not, _||_, true≢false}
+use mathlib.Core.Bool.{true, false, not, _||_}
 use mathlib.Core.List.{List, [], _∷_}
 use mathlib.Core.Path.{_≡_, refl, sym, ap, subst, _∙_}
-use mathlib.Core.Logic.{_↔_, Iff·trans, _⊎_, inl, inr, ⊎-elim}
+use mathlib.Core.Logic.{_↔_, Iff·trans, _⊎_, ⊎-elim}
 use native.Mathlib.Decide.{ℕ-discrete}
 use native.Mathlib.Omega.{arith}
 use lib.Dec.{eqb, ltb}
 use lib.ListN.{length, getD, take, length-take}
 use lib.Seq.{getD-take}
-use borrow.Author.Tests.{eq-eqb, ne-eqb, eqb-true, eqb-false, ltb-true, ltb-false, le-ltb, not-false}
-use Rattle.cells.specs.Choice.{cond-either, and-four, four-and}
-use Rattle.part.specs.Area.{longestArea}
+use borrow.Author.Tests.{eq-eqb, ne-eqb, eqb-true, eqb-false, ltb-false, le-ltb, not-false}
+use Rattle.cells.specs.Choice.{cond-either, and-four, four-and, either-false, Decides, decides-less, decides-absent, chain-tests, chain-last, flat-three, flat-four}
 use Rattle.sfdp.specs.Reader.{signed, headerCount, headerAt, identityAt, tableLength, tablePlace, firstFrom, headerOf, refusal, found, foundOf}
 use Rattle.sfdp.specs.Laws.{first-within, found-done}
 
@@ -83,25 +82,6 @@ pub record PointsInside (area : List ℕ) (identity : ℕ) : Type 0 where
 
 -- ---- the tests decide them
 
--- A test decides between two facts that are never both so.
-record Decides (b : Bool) (P Q : Type 0) : Type 0 where
-  on-true : b ≡ true → P
-  on-false : b ≡ false → Q
-  apart : P → Q → ⊥
-
--- a test that is false exactly when a fact holds decides between the fact and its absence
-decides-not : {b : Bool} {Q : Type 0} → (b ≡ false ↔ Q) → Decides b (Q → ⊥) Q
-decides-not w = record { on-true = λ t q. true≢false (sym t ∙ w .1 q); on-false = w .0; apart = λ p q. p q }
-
--- neither of two tests holds exactly when both fail
-either-false : (a b : Bool) → ((a || b) ≡ false) ↔ (a ≡ false) × (b ≡ false)
-either-false true b = (λ e. absurd (true≢false e), λ e. e .0)
-either-false false b = (λ e. (refl, e), λ e. e .1)
-
--- the test of 13
-long-decides : (area : List ℕ) → Decides (ltb longestArea (length area)) (longestArea < length area) (length area ≤ longestArea)
-long-decides area = record { on-true = ltb-true _ _; on-false = ltb-false _ _; apart = λ p q. omega arith }
-
 -- four bytes that are the letters are the signature
 letters : (area : List ℕ) → 4 ≤ length area → getD area 0 0 ≡ 0x53 → getD area 1 0 ≡ 0x46 → getD area 2 0 ≡ 0x44 → getD area 3 0 ≡ 0x50 → Signed area
 letters [] h p q r s = absurd (omega arith)
@@ -112,7 +92,7 @@ letters (a ∷ b ∷ c ∷ d ∷ rest) h p q r s = cc
 
 -- the test of 14
 signature-decides : (area : List ℕ) → Decides (ltb (length area) 4 || not (signed area)) (Signed area → ⊥) (Signed area)
-signature-decides area = decides-not (has, is)
+signature-decides area = decides-absent (has, is)
   where
     has : (ltb (length area) 4 || not (signed area)) ≡ false → Signed area
     has e =
@@ -131,7 +111,7 @@ signature-decides area = decides-not (has, is)
 
 -- the test of 15
 headers-decide : (area : List ℕ) → Decides (ltb (length area) 8 || ltb (length area) (headerAt (headerCount area))) (Headed area → ⊥) (Headed area)
-headers-decide area = decides-not (has, is)
+headers-decide area = decides-absent (has, is)
   where
     has : (ltb (length area) 8 || ltb (length area) (headerAt (headerCount area))) ≡ false → Headed area
     has e =
@@ -171,11 +151,6 @@ first-found area identity h f = go (ℕ-discrete (headerOf area identity) (heade
     go (yes e) = absurd (identity-decides area identity .on-true (eq-eqb _ _ e) h (f .is-header) (f .has-identity))
     go (no e) = first-unique area identity _ h (identity-decides area identity .on-false (ne-eqb _ _ e)) f
 
--- the test of 17
-table-decides : (area : List ℕ) (h : ℕ)
-    → Decides (ltb (length area) (tablePlace area h + tableLength area h)) (length area < tablePlace area h + tableLength area h) (tablePlace area h + tableLength area h ≤ length area)
-table-decides area h = record { on-true = ltb-true _ _; on-false = ltb-false _ _; apart = λ p q. omega arith }
-
 -- ---- exactly when
 
 -- Which number refuses: 13, 14, 15, 16, 17 or 0, each exactly when the table of refusals has it, in that table's order.
@@ -187,74 +162,42 @@ pub record RefusedWhen (number : ℕ) (area : List ℕ) (identity : ℕ) : Type 
   pub seventeen : number ≡ 17 ↔ (length area ≤ 256) × Signed area × Headed area × PointsPast area identity
   pub none : number ≡ 0 ↔ (length area ≤ 256) × Signed area × Headed area × PointsInside area identity
 
--- in a chain of tests, a test's own number comes exactly when the test holds, if none after it has the same number
-stops : (b : Bool) {P Q : Type 0} (own later : ℕ) → Decides b P Q → (later ≡ own → ⊥) → (cond b own later ≡ own) ↔ P
-stops true own later d other = (λ _. d .on-true refl, λ _. refl)
-stops false own later d other = (λ e. absurd (other e), λ p. absurd (d .apart p (d .on-false refl)))
+module _ (area : List ℕ) (identity : ℕ) where
+  abbrev h : ℕ
+  h = headerOf area identity
 
--- and another number exactly when it does not hold and the tests after it come to that number
-goes-on : (b : Bool) {P Q R : Type 0} (own later n : ℕ) → Decides b P Q → (own ≡ n → ⊥) → (later ≡ n) ↔ R → (cond b own later ≡ n) ↔ Q × R
-goes-on true own later n d other r = (λ e. absurd (other e), λ p. absurd (d .apart (d .on-true refl) (p .0)))
-goes-on false own later n d other r = (λ e. (d .on-false refl, r .0 e), λ p. r .1 (p .1))
+  abbrev end : ℕ
+  end = tablePlace area h + tableLength area h
 
--- the numbers rise along the chain: what comes after a number is larger, or 0
-abbrev Rises : ℕ → ℕ → Type 0
-Rises own later = (later ≡ 0) ⊎ (own < later)
+  -- past the first three tests, by what the rest comes to
+  gates : {R R′ : Type 0} → R ↔ R′ → ((length area ≤ 256) × (Signed area × (Headed area × R))) ↔ ((length area ≤ 256) × Signed area × Headed area × R′)
+  gates w = (λ p. (p .0, p .1 .0, p .1 .1 .0, w .0 (p .1 .1 .1)), λ p. (p .0, (p .1, (p .2, w .1 (p .3)))))
 
--- so it is with one test more in front
-rises : (b : Bool) (own n later : ℕ) → own < n → Rises n later → Rises own (cond b n later)
-rises true own n later h l = inr h
-rises false own n later h l = ⊎-elim (λ e. inl e) (λ k. inr (omega arith)) l
+  points-past : (FirstHeader area identity h × (length area < end)) ↔ PointsPast area identity
+  points-past = (
+    λ p. record { header = h; first = p .0; past = p .1 },
+    λ p. subst (λ (k : ℕ). FirstHeader area identity k × (length area < tablePlace area k + tableLength area k)) (sym (first-found area identity _ (p .first))) (p .first, p .past),
+  )
 
--- so no number comes twice
-not-own : (own later : ℕ) → 0 < own → Rises own later → later ≡ own → ⊥
-not-own own later h l e = ⊎-elim (λ z. omega arith) (λ k. omega arith) l
+  points-inside : (FirstHeader area identity h × (end ≤ length area)) ↔ PointsInside area identity
+  points-inside = (
+    λ p. record { header = h; first = p .0; inside = p .1 },
+    λ p. subst (λ (k : ℕ). FirstHeader area identity k × (tablePlace area k + tableLength area k ≤ length area)) (sym (first-found area identity _ (p .first))) (p .first, p .inside),
+  )
 
--- the five tests in a row, each deciding its fact
-chain-when : (area : List ℕ) (identity : ℕ) (a b c d e : Bool)
-    → Decides a (longestArea < length area) (length area ≤ longestArea) → Decides b (Signed area → ⊥) (Signed area) → Decides c (Headed area → ⊥) (Headed area)
-    → Decides d (NoHeader area identity) (FirstHeader area identity (headerOf area identity))
-    → Decides e (length area < tablePlace area (headerOf area identity) + tableLength area (headerOf area identity)) (tablePlace area (headerOf area identity) + tableLength area (headerOf area identity) ≤ length area)
-    → RefusedWhen (cond a 13 (cond b 14 (cond c 15 (cond d 16 (cond e 17 0))))) area identity
-chain-when area identity a b c d e long sign head known fits =
-    let after16 = rises e 16 17 0 (omega arith) (inl refl) in
-    let after15 = rises d 15 16 (cond e 17 0) (omega arith) after16 in
-    let after14 = rises c 14 15 (cond d 16 (cond e 17 0)) (omega arith) after15 in
-    let after13 = rises b 13 14 (cond c 15 (cond d 16 (cond e 17 0))) (omega arith) after14 in
-    record {
-      thirteen = stops a 13 _ long (not-own 13 _ (omega arith) after13);
-      fourteen = goes-on a 13 _ 14 long (λ z. omega arith) (stops b 14 _ sign (not-own 14 _ (omega arith) after14));
-      fifteen = Iff·trans (goes-on a 13 _ 15 long (λ z. omega arith) (goes-on b 14 _ 15 sign (λ z. omega arith) (stops c 15 _ head (not-own 15 _ (omega arith) after15))))
-          (λ p. (p .0, p .1 .0, p .1 .1), λ p. (p .0, (p .1, p .2)));
-      sixteen = gates 16 (λ z. omega arith) (λ z. omega arith) (λ z. omega arith) (stops d 16 _ known (not-own 16 _ (omega arith) after16));
-      seventeen = gates 17 (λ z. omega arith) (λ z. omega arith) (λ z. omega arith) (Iff·trans (goes-on d 16 _ 17 known (λ z. omega arith) (stops e 17 0 fits (λ z. omega arith))) (past, past⁻¹));
-      none = gates 0 (λ z. omega arith) (λ z. omega arith) (λ z. omega arith) (Iff·trans (goes-on d 16 _ 0 known (λ z. omega arith) (goes-on e 17 0 0 fits (λ z. omega arith) (λ _. tt, λ _. refl))) (inside, inside⁻¹));
-    }
-  where
-    h : ℕ
-    h = headerOf area identity
-
-    gates : {R : Type 0} (n : ℕ) → (13 ≡ n → ⊥) → (14 ≡ n → ⊥) → (15 ≡ n → ⊥) → (cond d 16 (cond e 17 0) ≡ n) ↔ R
-        → (cond a 13 (cond b 14 (cond c 15 (cond d 16 (cond e 17 0)))) ≡ n) ↔ (length area ≤ 256) × Signed area × Headed area × R
-    gates n no13 no14 no15 r = Iff·trans (goes-on a 13 _ n long no13 (goes-on b 14 _ n sign no14 (goes-on c 15 _ n head no15 r))) (λ p. (p .0, p .1 .0, p .1 .1 .0, p .1 .1 .1), λ p. (p .0, (p .1, (p .2, p .3))))
-
-    past : FirstHeader area identity h × (length area < tablePlace area h + tableLength area h) → PointsPast area identity
-    past p = record { header = h; first = p .0; past = p .1 }
-
-    past⁻¹ : PointsPast area identity → FirstHeader area identity h × (length area < tablePlace area h + tableLength area h)
-    past⁻¹ p = subst (λ (k : ℕ). FirstHeader area identity k × (length area < tablePlace area k + tableLength area k)) (sym (first-found area identity _ (p .first))) (p .first, p .past)
-
-    inside : FirstHeader area identity h × ((tablePlace area h + tableLength area h ≤ length area) × Unit {0}) → PointsInside area identity
-    inside p = record { header = h; first = p .0; inside = p .1 .0 }
-
-    inside⁻¹ : PointsInside area identity → FirstHeader area identity h × ((tablePlace area h + tableLength area h ≤ length area) × Unit {0})
-    inside⁻¹ p = subst (λ (k : ℕ). FirstHeader area identity k × ((tablePlace area k + tableLength area k ≤ length area) × Unit {0})) (sym (first-found area identity _ (p .first))) (p .first, (p .inside, tt))
-
--- So it is for every area and identity.
-pub refused-when : (area : List ℕ) (identity : ℕ) → RefusedWhen (refusal area identity) area identity
-unfolding refusal
-refused-when area identity =
-    chain-when area identity _ _ _ _ _ (long-decides area) (signature-decides area) (headers-decide area) (identity-decides area identity) (table-decides area (headerOf area identity))
+  -- So it is for every area and identity.
+  pub refused-when : RefusedWhen (refusal area identity) area identity
+  unfolding refusal
+  refused-when =
+      let lines = chain-tests {number = λ (n : ℕ). n} 13 (decides-less 256 (length area)) (chain-tests 14 (signature-decides area) (chain-tests 15 (headers-decide area) (chain-tests 16 (identity-decides area identity) (chain-last 17 0 (decides-less (length area) end) refl) refl) refl) refl) refl in
+      record {
+        thirteen = lines .exactly 13;
+        fourteen = lines .exactly 14;
+        fifteen = Iff·trans (lines .exactly 15) flat-three;
+        sixteen = Iff·trans (lines .exactly 16) flat-four;
+        seventeen = Iff·trans (lines .exactly 17) (gates points-past);
+        none = Iff·trans (lines .exactly 0) (gates points-inside);
+      }
 
 -- ---- what follows
 
