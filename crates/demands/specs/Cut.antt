@@ -1,16 +1,17 @@
--- A script cut at an event boundary: running the pieces one after the other is running the whole, refusals included.
+-- A script cut at an event boundary: what the whole does, its first bad event and the room that it needs, by those of its two pieces. The whole can still be
+-- refused where the pieces are not: by 3, for it is longer than either, and by 7, for one output has to have the room of both.
 use Prim.Native.Nat.{ℕ, zero, suc, _+_, _*_, _<_, _≤_}
 use mathlib.Core.Bool.{Bool, true, false, cond, not}
 use mathlib.Core.List.{List, [], _∷_, _++_, append-assoc, append-nil}
 use mathlib.Core.Path.{_≡_, refl, sym, ap, subst, _∙_}
 use native.Mathlib.Nat.{add-zero, zero-add, add-assoc}
-use native.Mathlib.Decide.{decLt}
+use native.Mathlib.Decide.{decLt, ℕ-discrete}
 use native.Mathlib.Omega.{arith}
 use lib.Dec.{eqb, ltb}
 use lib.ListN.{length, getD, length-append, List·getD-append}
 use lib.Seq.{getD-append-add}
-use borrow.Author.Tests.{ne-eqb, eqb-false, lt-ltb, le-ltb}
-use Rattle.cells.specs.Choice.{cond-no}
+use borrow.Author.Tests.{ne-eqb, lt-ltb, le-ltb}
+use Rattle.cells.specs.Choice.{cond-yes, cond-no}
 use Rattle.part.specs.Part.{permitted, sectorsIn, Setting, settingOf}
 use Rattle.kinds.specs.Kinds.{knownKind, bodyLength, inRange, roomOf}
 use Rattle.kinds.specs.Body.{numberAt, bodyAt, nextAt}
@@ -27,8 +28,8 @@ use Rattle.event.specs.Keeps.{length-applied}
 use Rattle.event.specs.Leftovers.{no-leftovers-applied}
 use Rattle.script.specs.Script.{Event, faultAt, eventAt, eventsFrom, events, Refusal, refusalOf, firstBad, room}
 use Rattle.script.specs.Run.{World, world, does, onward, runs, worldAfter}
-use Rattle.demands.specs.Refusals.{event-refused-when}
-use Rattle.script.specs.Laws.{events-none, events-more, no-fault, good-event, Good, firstBad-later, runs-add}
+use Rattle.script.specs.Laws.{events-none, events-more, no-fault, good-event, firstBad-none, firstBad-here, firstBad-later, runs-add}
+use Rattle.demands.specs.Refusals.{event-refused-when, bad-behind}
 
 -- ---- events further on
 
@@ -40,7 +41,7 @@ unfoldable pub movedAll : ℕ → List Event → List Event
 movedAll d [] = []
 movedAll d (e ∷ es) = moved d e ∷ movedAll d es
 
--- it runs the same, needs the same room, and is bad in the same way, d further on
+-- moved events run the same, need the same room, and the first bad one is the same, d further on
 pub runs-moved : (T : Setting) (d : ℕ) (es : List Event) (w : World) → runs T (movedAll d es) w ≡ runs T es w
 unfolding runs movedAll
 runs-moved T d [] w = refl
@@ -56,26 +57,19 @@ unfolding room
 room-append [] fs = sym (zero-add (room fs))
 room-append (e ∷ es) fs = ap (λ (n : ℕ). roomOf (e .kind) + n) (room-append es fs) ∙ sym (add-assoc _ (room es) (room fs))
 
--- behind good events the first bad one is the same
-bad-behind : (es fs : List Event) → firstBad es .number ≡ 0 → firstBad (es ++ fs) .number ≡ firstBad fs .number
-unfolding firstBad
-bad-behind [] fs h = refl
-bad-behind (e ∷ es) fs h = go (eqb (e .fault) 0) refl h (bad-behind es fs)
-  where
-    go : (b : Bool) → eqb (e .fault) 0 ≡ b → cond b (firstBad es) (refusalOf (e .fault) (e .offset)) .number ≡ 0 → (firstBad es .number ≡ 0 → firstBad (es ++ fs) .number ≡ firstBad fs .number)
-        → cond b (firstBad (es ++ fs)) (refusalOf (e .fault) (e .offset)) .number ≡ firstBad fs .number
-    go true p q rest = rest q
-    go false p q rest = absurd (eqb-false (e .fault) 0 p q)
+-- a refusal by an event d bytes further on; none stays none
+abbrev pub movedBad : ℕ → Refusal → Refusal
+movedBad d r = cond (eqb (r .number) 0) (refusalOf 0 0) (refusalOf (r .number) (d + r .offset))
 
-bad-moved : (d : ℕ) (es : List Event) → firstBad (movedAll d es) .number ≡ firstBad es .number
+bad-moved : (d : ℕ) (es : List Event) → firstBad (movedAll d es) ≡ movedBad d (firstBad es)
 unfolding firstBad movedAll
 bad-moved d [] = refl
-bad-moved d (e ∷ es) = go (eqb (e .fault) 0) (bad-moved d es)
+bad-moved d (e ∷ es) = go (eqb (e .fault) 0) refl (bad-moved d es)
   where
-    go : (b : Bool) → firstBad (movedAll d es) .number ≡ firstBad es .number
-        → cond b (firstBad (movedAll d es)) (refusalOf (e .fault) (d + e .offset)) .number ≡ cond b (firstBad es) (refusalOf (e .fault) (e .offset)) .number
-    go true p = p
-    go false p = refl
+    go : (b : Bool) → eqb (e .fault) 0 ≡ b → firstBad (movedAll d es) ≡ movedBad d (firstBad es)
+        → cond b (firstBad (movedAll d es)) (refusalOf (e .fault) (d + e .offset)) ≡ movedBad d (cond b (firstBad es) (refusalOf (e .fault) (e .offset)))
+    go true p rest = rest
+    go false p rest = sym (cond-no (eqb (e .fault) 0) _ _ p)
 
 -- ---- the events of a script that goes on
 
@@ -103,22 +97,28 @@ module _ (s t : List ℕ) where
   next-first : (at : ℕ) → at < length s → nextAt (s ++ t) at ≡ nextAt s at
   next-first at h = ap (λ (k : ℕ). at + 1 + bodyLength k) (byte-first at h)
 
-  -- a good event of the first piece is the same event of the whole
-  fault-first : (at : ℕ) → at < length s → Good s at → faultAt (s ++ t) at ≡ 0
+  -- an event of the first piece that the piece does not end in has the same fault in the whole
+  fault-first : (at : ℕ) → at < length s → (faultAt s at ≡ 4 → ⊥) → faultAt (s ++ t) at ≡ faultAt s at
   unfolding faultAt
-  fault-first at h g =
-      let n : nextAt (s ++ t) at ≡ nextAt s at = next-first at h in
-      let l : nextAt (s ++ t) at ≤ length (s ++ t) = omega (arith, n, g .inside, length-append s t) in
-      cond-no (not (knownKind (getD (s ++ t) at 0))) _ _ (ap not (ap knownKind (byte-first at h) ∙ g .known))
-      ∙ cond-no (ltb (length (s ++ t)) (nextAt (s ++ t) at)) _ _ (le-ltb _ _ l)
-      ∙ cond-no (not (inRange (getD (s ++ t) at 0) (bodyAt (s ++ t) at))) _ _
-      (ap not (ap (λ (k : ℕ). inRange k (bodyAt (s ++ t) at)) (byte-first at h) ∙ ap (inRange (getD s at 0)) (body-first at h (g .inside)) ∙ g .ranged))
+  fault-first at h whole =
+      ap (λ (k : ℕ). cond (not (knownKind k)) 5 (cond (ltb (length (s ++ t)) (nextAt (s ++ t) at)) 4 (cond (not (inRange k (bodyAt (s ++ t) at))) 6 0))) (byte-first at h)
+      ∙ go (knownKind (getD s at 0)) refl (decLt (length s) (nextAt s at))
+    where
+      go : (k : Bool) → knownKind (getD s at 0) ≡ k → Dec (length s < nextAt s at)
+          → _≡_ {A = ℕ} (cond (not k) 5 (cond (ltb (length (s ++ t)) (nextAt (s ++ t) at)) 4 (cond (not (inRange (getD s at 0) (bodyAt (s ++ t) at))) 6 0)))
+          (cond (not k) 5 (cond (ltb (length s) (nextAt s at)) 4 (cond (not (inRange (getD s at 0) (bodyAt s at))) 6 0)))
+      go false e l = refl
+      go true e (yes l) = absurd (whole (cond-no (not (knownKind (getD s at 0))) _ _ (ap not e) ∙ cond-yes (ltb (length s) (nextAt s at)) _ _ (lt-ltb _ _ l)))
+      go true e (no l) =
+          cond-no (ltb (length (s ++ t)) (nextAt (s ++ t) at)) _ _ (le-ltb (length (s ++ t)) (nextAt (s ++ t) at) (omega (arith, next-first at h, length-append s t)))
+          ∙ ap (λ (b : ℕ). cond (not (inRange (getD s at 0) b)) 6 0) (body-first at h (omega arith))
+          ∙ sym (cond-no (ltb (length s) (nextAt s at)) _ _ (le-ltb (length s) (nextAt s at) (omega arith)))
 
+  -- a good event of the first piece is the same event of the whole
   event-first : (at : ℕ) → at < length s → faultAt s at ≡ 0 → eventAt (s ++ t) at ≡ eventAt s at
   event-first at h z =
-      let g = good-event s at z in
-      let e : faultAt (s ++ t) at ≡ faultAt s at = fault-first at h g ∙ sym z in
-      λ i. record { offset = at; kind = byte-first at h i; body = body-first at h (g .inside) i; fault = e i }
+      let e : faultAt (s ++ t) at ≡ faultAt s at = fault-first at h (λ four. omega (arith, z, four)) in
+      λ i. record { offset = at; kind = byte-first at h i; body = body-first at h (good-event s at z .inside) i; fault = e i }
 
   -- an event of the second piece is the same event of the whole, further on
   byte-beyond : (at i : ℕ) → getD (s ++ t) (d + at + i) 0 ≡ getD t (at + i) 0
@@ -213,12 +213,41 @@ module _ (s t : List ℕ) where
     pub run-cut : (T : Setting) (w : World) → runs T (events (s ++ t)) w ≡ runs T (events t) (runs T (events s) w)
     run-cut T w = ap (λ (es : List Event). runs T es w) events-cut ∙ runs-add T (events s) (movedAll d (events t)) w ∙ runs-moved T d (events t) (runs T (events s) w)
 
-    -- The whole is bad exactly as the second piece is, with its offset further on; and it needs the room of both.
-    pub bad-cut : firstBad (events (s ++ t)) .number ≡ firstBad (events t) .number
-    bad-cut = ap (λ (es : List Event). firstBad es .number) events-cut ∙ bad-behind (events s) (movedAll d (events t)) clean ∙ bad-moved d (events t)
+    -- The first bad event of the whole is that of the second piece, its offset further on by the first piece's length.
+    pub bad-cut : firstBad (events (s ++ t)) ≡ movedBad d (firstBad (events t))
+    bad-cut = ap firstBad events-cut ∙ bad-behind (events s) (movedAll d (events t)) clean ∙ bad-moved d (events t)
 
+    -- The whole needs the room of both pieces: an output with room for each of them alone may be too small for it.
     pub room-cut : room (events (s ++ t)) ≡ room (events s) + room (events t)
     room-cut = ap room events-cut ∙ room-append (events s) (movedAll d (events t)) ∙ ap (λ (n : ℕ). room (events s) + n) (room-moved d (events t))
+
+  bad-from : (fuel at : ℕ) → length s ≤ at + fuel → (firstBad (eventsFrom s at) .number ≡ 0 → ⊥) → (firstBad (eventsFrom s at) .number ≡ 4 → ⊥) → firstBad (eventsFrom (s ++ t) at) ≡ firstBad (eventsFrom s at)
+  bad-from zero at l some whole = absurd (some (ap (λ (r : Refusal). r .number) (firstBad-none s at (omega arith))))
+  bad-from (suc fuel) at l some whole = go (bad-from fuel (nextAt s at) (omega arith)) (decLt at (length s)) (ℕ-discrete (faultAt s at) 0)
+    where
+      number : Refusal → ℕ
+      number r = r .number
+
+      within : at < length s → at < length (s ++ t)
+      within h = omega (arith, length-append s t)
+
+      go : ((firstBad (eventsFrom s (nextAt s at)) .number ≡ 0 → ⊥) → (firstBad (eventsFrom s (nextAt s at)) .number ≡ 4 → ⊥) → firstBad (eventsFrom (s ++ t) (nextAt s at)) ≡ firstBad (eventsFrom s (nextAt s at)))
+          → Dec (at < length s) → Dec (faultAt s at ≡ 0) → firstBad (eventsFrom (s ++ t) at) ≡ firstBad (eventsFrom s at)
+      go later (no h) f = absurd (some (ap number (firstBad-none s at (omega arith))))
+      go later (yes h) (yes z) =
+          let skips : firstBad (eventsFrom s at) ≡ firstBad (eventsFrom s (nextAt s at)) = firstBad-later s at h z in
+          firstBad-later (s ++ t) at (within h) (fault-first at h (λ four. omega (arith, z, four)) ∙ z)
+          ∙ ap (λ (q : ℕ). firstBad (eventsFrom (s ++ t) q)) (next-first at h)
+          ∙ later (λ e. some (ap number skips ∙ e)) (λ e. whole (ap number skips ∙ e))
+          ∙ sym skips
+      go later (yes h) (no b) =
+          let here : firstBad (eventsFrom s at) ≡ refusalOf (faultAt s at) at = firstBad-here s at h b in
+          let same : faultAt (s ++ t) at ≡ faultAt s at = fault-first at h (λ e. whole (ap number here ∙ e)) in
+          firstBad-here (s ++ t) at (within h) (λ e. b (sym same ∙ e)) ∙ ap (λ (v : ℕ). refusalOf v at) same ∙ sym here
+
+  -- A bad event of the first piece makes the whole bad, with the same number and offset; unless the number is 4: then the piece ends in the event, and the second may go on with it.
+  pub bad-first : (firstBad (events s) .number ≡ 0 → ⊥) → (firstBad (events s) .number ≡ 4 → ⊥) → firstBad (events (s ++ t)) ≡ firstBad (events s)
+  bad-first = bad-from (length s) 0 (omega arith)
 
 -- ---- what a run keeps
 
@@ -268,8 +297,8 @@ runs-from T (e ∷ es) c m a k =
     ∙ (λ i. world (r .chip) (r .memory) (append-assoc a b (r .written) i) (ticks i))
     ∙ ap (λ (w : World). world (w .chip) (w .memory) (a ++ w .written) (k + w .ticks)) (sym part)
 
--- A script cut at an event boundary: the second piece run on what the first left gives the whole's chip and memory; what the two write, one behind the other, is
--- what the whole writes, and their working ticks add up. The whole is refused exactly as the pieces are: `bad-cut`, `room-cut`.
+-- What a cut script comes to where no event of the first piece is bad: the second piece run on what the first left gives the whole's chip and memory; what the two
+-- write, one behind the other, is what the whole writes, and their working ticks add up. Of refusals it says nothing: see `bad-cut` and `room-cut`.
 pub pieces : (c : Chip) (m area s t : List ℕ) → firstBad (events s) .number ≡ 0
     → worldAfter c m area (s ++ t)
     ≡ world (worldAfter (worldAfter c m area s .chip) (worldAfter c m area s .memory) area t .chip) (worldAfter (worldAfter c m area s .chip) (worldAfter c m area s .memory) area t .memory)

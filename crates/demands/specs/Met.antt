@@ -103,6 +103,11 @@ pub scripts-met : (firstBad (events (SELECT ∷ EXCHANGE ∷ 0x06 ∷ DESELECT �
 unfolding firstBad eventsFrom walk faultAt knownKind knownIn kindRow kindRowIn
 scripts-met = (refl, refl, refl, refl)
 
+-- `room-cut`, `bad-first`: two pieces for which an output has room, one by one, and has none for the whole; a piece that ends in an event, which the next completes
+pub cut-met : (Run.refusal (fresh 0x00) 65536 0 (DESELECT ∷ []) 2 .number ≡ 0) × (Run.refusal (fresh 0x00) 65536 0 (DESELECT ∷ DESELECT ∷ []) 2 .number ≡ 7) × (firstBad (events (TICK ∷ EXCHANGE ∷ [])) .number ≡ 4) × (firstBad (events (TICK ∷ EXCHANGE ∷ 0x06 ∷ [])) .number ≡ 0)
+unfolding Run.refusal firstBad room eventsFrom walk faultAt legal legalCore legalJob legalFrame isEmpty isBlank permitted fresh knownKind knownIn kindRow kindRowIn
+cut-met = (refl, refl, refl, refl)
+
 -- the table of kinds, worked through on bytes: each kind once, its ticks 102h with the high byte first (RULES, Events)
 abbrev each-kind : List ℕ
 each-kind = 0x01 ∷ 0x02 ∷ 0x9F ∷ 0x03 ∷ 0x04 ∷ 0x05 ∷ 0x01 ∷ 0x02 ∷ 0x06 ∷ 0x01 ∷ 0x07 ∷ 0x08 ∷ 0x07 ∷ []
