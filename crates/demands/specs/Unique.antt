@@ -10,6 +10,7 @@ use Rattle.chip.specs.declared.Chip.{Chip}
 use Rattle.chip.specs.declared.Core.{Core}
 use Rattle.chip.specs.declared.Frame.{Frame}
 use Rattle.chip.specs.Chip.{fresh}
+use Rattle.chip.specs.Record.{recordBytes}
 use Rattle.legal.specs.Legal.{legal}
 use Rattle.job.specs.Tick.{TicksAnswer}
 use Rattle.frame.specs.Frame.{Exchange, exchange, exchanged}
@@ -30,12 +31,12 @@ unique-fresh status r r′ p q = same p q
 pub unique-legal : (c : Chip) (n : ℕ) (r r′ : Bool) → r ≡ legal c n → r′ ≡ legal c n → r ≡ r′
 unique-legal c n r r′ p q = same p q
 
--- `event::event`: the answer and the memory
+-- `event::event`: the answer, the memory and the record's bytes
 pub unique-event : (c : Chip) (m area : List ℕ) (kind body : ℕ) (r r′ : Answer) (m₁ m₂ : List ℕ)
-    → (r ≡ Alone.answerOf c m area kind body) × (m₁ ≡ Alone.memoryOf c m area kind body)
-    → (r′ ≡ Alone.answerOf c m area kind body) × (m₂ ≡ Alone.memoryOf c m area kind body)
-    → (r ≡ r′) × (m₁ ≡ m₂)
-unique-event c m area kind body r r′ m₁ m₂ p q = (same (p .0) (q .0), same (p .1) (q .1))
+    → (r ≡ Alone.answerOf c m area kind body) × (m₁ ≡ Alone.memoryOf c m area kind body) × (recordBytes (r .said) ≡ Alone.saidOf c m area kind body)
+    → (r′ ≡ Alone.answerOf c m area kind body) × (m₂ ≡ Alone.memoryOf c m area kind body) × (recordBytes (r′ .said) ≡ Alone.saidOf c m area kind body)
+    → (r ≡ r′) × (m₁ ≡ m₂) × (recordBytes (r .said) ≡ recordBytes (r′ .said))
+unique-event c m area kind body r r′ m₁ m₂ p q = (same (p .0) (q .0), same (p .1) (q .1), same (p .2) (q .2))
 
 -- `script::run`: the answer, the memory and the output
 pub unique-run : (c : Chip) (m area s out : List ℕ) (r r′ : Ran) (m₁ m₂ o₁ o₂ : List ℕ)

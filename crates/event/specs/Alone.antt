@@ -1,7 +1,7 @@
 -- One event alone: its answer for every kind, body, state, area and memory length (RULES, Events; Refusals).
 use Prim.Native.Nat.{ℕ}
 use mathlib.Core.Bool.{cond, not}
-use mathlib.Core.List.{List}
+use mathlib.Core.List.{List, []}
 use lib.Dec.{eqb, ltb}
 use lib.ListN.{length}
 use Rattle.part.specs.Part.{permitted, settingOf}
@@ -9,6 +9,7 @@ use Rattle.part.specs.Area.{longestArea}
 use Rattle.kinds.specs.Kinds.{knownKind, bodyLength, inRange}
 use Rattle.chip.specs.declared.Chip.{Chip}
 use Rattle.chip.specs.declared.Record.the-variants.{Nothing}
+use Rattle.chip.specs.Record.{recordBytes}
 use Rattle.legal.specs.Legal.{legal}
 use Rattle.event.specs.declared.Answer.{Answer}
 use Rattle.event.specs.Event.{Outcome, applied}
@@ -46,3 +47,7 @@ answerOf c m area kind body =
 
 unfoldable pub memoryOf : Chip → List ℕ → List ℕ → ℕ → ℕ → List ℕ
 memoryOf c m area kind body = cond (eqb (refusal c (length m) (length area) kind body) 0) (happens c m area kind body .memory) m
+
+-- the bytes of its record, none if it is refused (RULES, Records)
+unfoldable pub saidOf : Chip → List ℕ → List ℕ → ℕ → ℕ → List ℕ
+saidOf c m area kind body = cond (eqb (refusal c (length m) (length area) kind body) 0) (recordBytes (happens c m area kind body .said)) []

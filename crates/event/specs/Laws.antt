@@ -1,7 +1,7 @@
 -- What is true of one event: each way that it goes, and what it leaves alone.
 use Prim.Native.Nat.{ℕ, _≤_, _<_, _%_}
 use mathlib.Core.Bool.{Bool, true, false, cond, not, false≢true}
-use mathlib.Core.List.{List}
+use mathlib.Core.List.{List, []}
 use mathlib.Core.Path.{_≡_, refl, sym, ap, subst, _∙_}
 use mathlib.Core.Logic.{⊎-elim}
 use native.Mathlib.Nat.{mod-eq-of-lt}
@@ -27,7 +27,7 @@ use Rattle.frame.specs.Legality.{taken-each, exchanged-each}
 use Rattle.verdict.specs.Verdict.{verdict}
 use Rattle.event.specs.declared.Answer.{Answer}
 use Rattle.event.specs.Event.{Outcome, outcome, select, exchangeByte, deselect, closes, tick, setWp, cutPower, applied, sortOf}
-use Rattle.event.specs.Alone.{bodyUsed, refusal, refused, done, happens, answerOf, memoryOf}
+use Rattle.event.specs.Alone.{bodyUsed, refusal, refused, done, happens, answerOf, memoryOf, saidOf}
 
 -- ---- a deselect
 
@@ -121,6 +121,15 @@ module _ (c : Chip) (m area : List ℕ) (kind body : ℕ) where
   pub memory-done : number ≡ 0 → memoryOf c m area kind body ≡ happens c m area kind body .memory
   unfolding memoryOf
   memory-done h = cond-yes _ _ _ (eq-eqb _ _ h)
+
+  -- the record of such an answer has the bytes that the definition gives
+  pub said-bytes : (r : Answer) → r ≡ answerOf c m area kind body → recordBytes (r .said) ≡ saidOf c m area kind body
+  unfolding answerOf saidOf
+  said-bytes r e = ap (λ (a : Answer). recordBytes (a .said)) e ∙ go (eqb number 0)
+    where
+      go : (ok : Bool) → recordBytes (cond ok (done (happens c m area kind body)) (refused c number) .said) ≡ cond ok (recordBytes (happens c m area kind body .said)) []
+      go true = refl
+      go false = refl
 
 -- a body in its range, or 0 for a kind that has none, is at most 65,535
 pub used-small : (kind body : ℕ) → inRange kind body ≡ true → bodyUsed kind body ≤ 65535

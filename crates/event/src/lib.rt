@@ -6,8 +6,9 @@ ghost use Prim.Native.Nat.{ℕ};
 ghost use Rattle.part.specs.Part.{setting};
 ghost use Rattle.chip.specs.Fields.{withSelected, withWp};
 ghost use Rattle.chip.specs.Chip.{whole};
+ghost use Rattle.chip.specs.Record.{recordBytes};
 ghost use Rattle.event.specs.Event.{outcome, applied, poweredUp, deselect, tick};
-ghost use Rattle.event.specs.Alone.{bodyUsed, refusal, done, answerOf, memoryOf};
+ghost use Rattle.event.specs.Alone.{bodyUsed, refusal, done, answerOf, memoryOf, saidOf};
 use chip::Chip;
 use chip::Core;
 use chip::Frame;
@@ -220,7 +221,8 @@ fn carry_out(chip: Chip, mem: &mut [u8], sectors: u8, area: &[u8], kind: u64, bo
 // One event alone, for every kind, body, state, area and memory length.
 pub fn event(chip: Chip, mem: &mut [u8], area: &[u8], kind: u64, body: u64) -> Answer
     ensures { λ r. ⌜ (r ≡ answerOf chip (now (mem .entry)) (now (area .entry)) kind body)
-        × (now (mem .exit) ≡ memoryOf chip (now (mem .entry)) (now (area .entry)) kind body) ⌝ }
+        × (now (mem .exit) ≡ memoryOf chip (now (mem .entry)) (now (area .entry)) kind body)
+        × (recordBytes (r .said) ≡ saidOf chip (now (mem .entry)) (now (area .entry)) kind body) ⌝ }
 {
     let n = mem.len();
     let number = refuses(chip, n, area.len(), kind, body);

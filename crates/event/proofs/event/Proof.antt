@@ -6,7 +6,7 @@ use Rattle.cells.specs.Choice.{cond-yes}
 use Rattle.part.specs.Part.{sectorsIn}
 use Rattle.event.specs.Event.{Outcome}
 use Rattle.event.specs.Alone.{refusal, refused, done}
-use Rattle.event.specs.Laws.{answer-refused, memory-refused, answer-done, memory-done, accepted, used-small, happens-as}
+use Rattle.event.specs.Laws.{answer-refused, memory-refused, answer-done, memory-done, said-bytes, accepted, used-small, happens-as}
 use borrow.Author.Needs.{needs}
 use Rattle.event.proofs.event.Statement.{statement}
 use Rattle.event.proofs.event.Tie as tie
@@ -17,7 +17,8 @@ refuses-requires c κs = search needs
 returns : tie.Need-returns
 returns c =
     let ne : refusal (c .before .before .before .before .args .chip) (length (c .before .before .before .before .args .mem .now)) (length (c .before .before .before .before .args .area .now)) (c .before .before .before .before .args .kind) (c .before .before .before .before .args .body) ≡ 0 → ⊥ = λ e. c .if1 .taken (c .before .refuses .ensures ∙ e) in
-    (ap (refused (c .before .before .before .before .args .chip)) (c .before .refuses .ensures) ∙ sym (answer-refused _ _ _ _ _ ne), sym (memory-refused _ _ _ _ _ ne))
+    let told = ap (refused (c .before .before .before .before .args .chip)) (c .before .refuses .ensures) ∙ sym (answer-refused _ _ _ _ _ ne) in
+    (told, sym (memory-refused _ _ _ _ _ ne), said-bytes _ _ _ _ _ _ told)
 
 body-used-requires : tie.Need-body-used-requires
 body-used-requires c κs = search needs
@@ -39,9 +40,11 @@ same-length c = search needs
 returns-2 : tie.Need-returns-2
 returns-2 c =
     let z : refusal (c .before .before .before .before .before .before .before .before .before .before .args .chip) (length (c .before .before .before .before .before .before .before .before .before .before .args .mem .now)) (length (c .before .before .before .before .before .before .before .before .before .before .args .area .now)) (c .before .before .before .before .before .before .before .before .before .before .args .kind) (c .before .before .before .before .before .before .before .before .before .before .args .body) ≡ 0 = sym (c .before .before .before .before .before .before .before .refuses .ensures) ∙ c .before .before .before .before .before .before .if1 .left in
-    let s : c .before .before .before .sectors-of .result ≡ sectorsIn (length (c .before .before .before .before .before .before .before .before .before .before .args .mem .now)) = c .before .before .before .sectors-of .ensures ∙ cond-yes _ _ _ (accepted _ _ _ _ _ z .length-permitted) in (
-      c .before .before .carry-out .ensures .0 ∙ ap done (happens-as _ _ _ _ _ _ _ s (c .before .before .before .before .before .body-used .ensures)) ∙ sym (answer-done _ _ _ _ _ z),
+    let s : c .before .before .before .sectors-of .result ≡ sectorsIn (length (c .before .before .before .before .before .before .before .before .before .before .args .mem .now)) = c .before .before .before .sectors-of .ensures ∙ cond-yes _ _ _ (accepted _ _ _ _ _ z .length-permitted) in
+    let told = c .before .before .carry-out .ensures .0 ∙ ap done (happens-as _ _ _ _ _ _ _ s (c .before .before .before .before .before .body-used .ensures)) ∙ sym (answer-done _ _ _ _ _ z) in (
+      told,
       c .before .before .carry-out .ensures .1 ∙ ap (λ (o : Outcome). o .memory) (happens-as _ _ _ _ _ _ _ s (c .before .before .before .before .before .body-used .ensures)) ∙ sym (memory-done _ _ _ _ _ z),
+      said-bytes _ _ _ _ _ _ told,
     )
 
 pub event-spec : {M : Type 1} → statement M

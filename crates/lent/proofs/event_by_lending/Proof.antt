@@ -45,7 +45,8 @@ use denote.Exit.{yes}
 use borrow.Table.OneValue.{part-in, part-out}
 use Rattle.chip.specs.declared.Chip.{Chip}
 use Rattle.event.specs.declared.Answer.{Answer}
-use Rattle.event.specs.Alone.{answerOf, memoryOf}
+use Rattle.chip.specs.Record.{recordBytes}
+use Rattle.event.specs.Alone.{answerOf, memoryOf, saidOf}
 use Rattle.chip.proofs.Chip as T
 use Rattle.chip.proofs.Chip.Laws as T′
 use Rattle.event.proofs.Answer as R
@@ -122,14 +123,14 @@ module _ {M : Type 1} (𝓤 : URA M) (H : Heap 𝓤) (A : Atoms 𝓤) (W : Given
       nothing ! $ owned ! u64 (Is u64) (uint-makes 𝓤 H A W w64) n _ (refl, n-fits) $ fjoin ! $ owned ! u64 (Is u64) (uint-makes 𝓤 H A W w64) k _ (refl, k-fits) $ fjoin ! $ move ! (4 ∷ 0 ∷ []) $ fjoin ! $ move ! (3 ∷ 0 ∷ []) $ fjoin ! $
       move ! (2 ∷ 0 ∷ []) $ fjoin ! $ move ! (1 ∷ 0 ∷ []) $ join ! $ frame ! $ done !
 
-  -- what `event_on` ensures of its answer, of the copy's last chip and of the memory's last list; so the copy comes back as the answer's chip
+  -- what `event_on` ensures of its answer, of the copy's last chip, of the memory's last list and of the record's bytes; so the copy comes back as the answer's chip
   abbrev Says : Answer → Chip → List ℕ → Type 0
-  Says r d zs = (r ≡ answerOf h ys xs k n) × (d ≡ answerOf h ys xs k n .chip) × (zs ≡ memoryOf h ys xs k n)
+  Says r d zs = (r ≡ answerOf h ys xs k n) × (d ≡ answerOf h ys xs k n .chip) × (zs ≡ memoryOf h ys xs k n) × (recordBytes (r .said) ≡ saidOf h ys xs k n)
 
   back : (r : Answer) (d : Chip) (zs : List ℕ) → Says r d zs → d ≡ r .chip
   back r d zs e = e .1 ∙ sym (ap (λ (r : Answer). r .chip) (e .0))
 
-  exits : (r : Answer) (zs : List ℕ) → (r ≡ answerOf h ys xs k n) × (zs ≡ memoryOf h ys xs k n) → length zs ≡ length ys → Is R.the-row r (answer-vals r)
+  exits : (r : Answer) (zs : List ℕ) → (r ≡ answerOf h ys xs k n) × (zs ≡ memoryOf h ys xs k n) × (recordBytes (r .said) ≡ saidOf h ys xs k n) → length zs ≡ length ys → Is R.the-row r (answer-vals r)
       → ent 𝓤 (sep 𝓤 (sep 𝓤 (A .lft κ q) (sep 𝓤 (A .lft κ′ q′) (sem 𝓤 H A ftrue))) (sep 𝓤 (sem 𝓤 H A (finally u8 γ zs)) (sem 𝓤 H A Area))) (Post (only (answer-vals r)))
   exits r zs e l is =
       qed W ((‵ (flft κ q) ⊛ ‵ (flft κ′ q′) ⊛ ‵ ftrue) ∷ ‵ (finally u8 γ zs) ∷ ‵ Area ∷ []) ∵
@@ -168,7 +169,7 @@ module _ {M : Type 1} (𝓤 : URA M) (H : Heap 𝓤) (A : Atoms 𝓤) (W : Given
         assigns ! (of-opd ! (load ! (from ! (stop !)) (look ! 13 refl))) (from ! (stop !)) (init ! 26 refl (LL.lawful R.the-type R′.the-laws 𝓤 H A W .typed r _ (answer-is r w is) .0)) $
         returns ! (look ! 26 refl) $ forget ! 7 refl $ forget ! 9 refl $ forget ! 11 refl $ forget ! 13 refl $ forget ! 0 refl $ forget ! 16 refl $ forget ! 18 refl $ forget ! 20 refl $ forget ! 22 refl $ forget ! 24 refl $ forget ! 26 refl $
         move ! (26 ∷ 27 ∷ []) $ free1 ! $ move ! (24 ∷ 25 ∷ []) $ free1 ! $ move ! (22 ∷ 23 ∷ []) $ free1 ! $ move ! (20 ∷ 21 ∷ []) $ free1 ! $ move ! (18 ∷ 19 ∷ []) $ free1 ! $ move ! (16 ∷ 17 ∷ []) $ free1 ! $ move ! (0 ∷ 15 ∷ []) $ free1 ! $ move ! (12 ∷ 13 ∷ []) $ free1 ! $ move ! (10 ∷ 11 ∷ []) $ free1 ! $ move ! (8 ∷ 9 ∷ []) $ free1 ! $ move ! (6 ∷ 7 ∷ []) $ free1 ! $ free0 ! $
-        keep ! (0 ∷ 2 ∷ 4 ∷ []) $ by ! (exits r (zs .1 .0) (e .0, e .2) l (answer-is r w is)))))))))))))))))))))))
+        keep ! (0 ∷ 2 ∷ 4 ∷ []) $ by ! (exits r (zs .1 .0) (e .0, e .2, e .3) l (answer-is r w is)))))))))))))))))))))))
 
 module _ {M : Type 1} (𝓤 : URA M) (H : Heap 𝓤) (A : Atoms 𝓤) (W : Given 𝓤 H A) (at-mem : Memory → SProp 𝓤) (run : Routine → Fun 𝓤) where
   by-lending-walks : (C : Calls 𝓤 H) (Λ : Loops 𝓤 H) → FmC 𝓤 H (W .laws) C → Triple 𝓤 (C #lent·event-on) (On 𝓤 H A at-mem run) → Walks 𝓤 H A f.ended stayed (WpFn 𝓤 H C Λ code.function) (f.clauses 𝓤 H A at-mem run)

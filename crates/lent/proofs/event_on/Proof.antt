@@ -44,7 +44,8 @@ use denote.Triple.Walked.{says, Stays, stay-ref, gave-slice, stay-none-slice, st
 use denote.Exit.{yes}
 use Rattle.chip.specs.declared.Chip.{Chip}
 use Rattle.event.specs.declared.Answer.{Answer}
-use Rattle.event.specs.Alone.{answerOf, memoryOf}
+use Rattle.chip.specs.Record.{recordBytes}
+use Rattle.event.specs.Alone.{answerOf, memoryOf, saidOf}
 use Rattle.chip.proofs.Chip as T
 use Rattle.chip.proofs.Chip.Laws as T′
 use Rattle.event.proofs.Answer as R
@@ -112,16 +113,16 @@ module _ {M : Type 1} (𝓤 : URA M) (H : Heap 𝓤) (A : Atoms 𝓤) (W : Given
       nothing ! $ owned ! u64 (Is u64) (uint-makes 𝓤 H A W w64) n _ (refl, n-fits) $ fjoin ! $ owned ! u64 (Is u64) (uint-makes 𝓤 H A W w64) k _ (refl, k-fits) $ fjoin ! $ move ! (3 ∷ 0 ∷ []) $ fjoin ! $ move ! (2 ∷ 0 ∷ []) $ fjoin ! $
       owned ! T.the-row (Is T.the-row) (LL.makes T.the-type T′.the-plain 𝓤 H A) h _ g $ fjoin ! $ move ! (1 ∷ 0 ∷ []) $ join ! $ frame ! $ done !
 
-  -- what `event` ensures of its answer and of the memory's last list
+  -- what `event` ensures of its answer, of the memory's last list and of the record's bytes
   abbrev Says : Answer → List ℕ → Type 0
-  Says r zs = (r ≡ answerOf h ys xs k n) × (zs ≡ memoryOf h ys xs k n)
+  Says r zs = (r ≡ answerOf h ys xs k n) × (zs ≡ memoryOf h ys xs k n) × (recordBytes (r .said) ≡ saidOf h ys xs k n)
 
   exits : (r : Answer) (zs : List ℕ) → Says r zs → length zs ≡ length ys → Is R.the-row r (answer-vals r)
       → ent 𝓤 (⋆ 𝓤 H A (‵ (fobs γ (T.the-row .coded .code (r .chip))) ∷ ‵ (fbor κ (Body (mem T.the-row) b o γ)) ∷ ‵ (flft κ q) ∷ (‵ (flft κ′ q′) ⊛ ‵ (flft κ″ q″) ⊛ ‵ ftrue) ∷ ‵ (finally u8 γ′ zs) ∷ ‵ Area ∷ [])) (Post (only (answer-vals r)))
   exits r zs e l is =
       qed W (‵ (fobs γ (T.the-row .coded .code (r .chip))) ∷ ‵ (fbor κ (Body (mem T.the-row) b o γ)) ∷ ‵ (flft κ q) ∷ (‵ (flft κ′ q′) ⊛ ‵ (flft κ″ q″) ⊛ ‵ ftrue) ∷ ‵ (finally u8 γ′ zs) ∷ ‵ Area ∷ []) ∵
       suffices ! _ (ends-at 𝓤 H A f.ended stayed (f.clauses 𝓤 H A at-mem run) W (((κ, (κ′, (κ″, tt))), (q, (q′, (q″, tt))), bounds, a, vals), tt) (only (answer-vals r)) r (r .chip, (zs, (tt, (tt, (tt, tt))))) (tt, (l, (tt, (tt, (tt, tt)))))) $
-      says ! (e .0, ap (λ (r : Answer). r .chip) (e .0), e .1) $ move ! (2 ∷ 3 ∷ []) $ join ! $ frame ! $ feqI ! (List Val) (vptr b o ∷ []) (vptr b o ∷ []) refl $ fjoin3 ! $
+      says ! (e .0, ap (λ (r : Answer). r .chip) (e .0), e .1, e .2) $ move ! (2 ∷ 3 ∷ []) $ join ! $ frame ! $ feqI ! (List Val) (vptr b o ∷ []) (vptr b o ∷ []) refl $ fjoin3 ! $
       nothing ! $ owned ! u64 (Is u64) (uint-makes 𝓤 H A W w64) n _ (refl, n-fits) $ fjoin ! $ owned ! u64 (Is u64) (uint-makes 𝓤 H A W w64) k _ (refl, k-fits) $ fjoin ! $ move ! (3 ∷ 0 ∷ []) $ fjoin ! $ move ! (2 ∷ 0 ∷ []) $ fjoin ! $ move ! (1 ∷ 0 ∷ []) $ fjoin ! $
       owned ! R.the-row (Is R.the-row) (LL.makes R.the-type R′.the-plain 𝓤 H A) r _ is $ move ! (1 ∷ 0 ∷ []) $ done !
 
