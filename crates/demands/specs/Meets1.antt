@@ -28,7 +28,7 @@ meets-1 =
       refused-keeps = λ c m area kind body some.
           let told = EventLaws.answer-number c m area kind body in
           let kept = event-refused-keeps c m area kind body (λ z. some (told ∙ z)) in
-          (λ i. replied (kept .0 i) (kept .1 i)) ∙ ap (λ (v : ℕ). record { chip = c; memory = m; says = []; ticks = 0; refusal = v }) (sym told);
+          (λ i. replied (kept .0 i) (kept .1 i) (kept .2 i)) ∙ ap (λ (v : ℕ). record { chip = c; memory = m; says = []; ticks = 0; refusal = v }) (sym told);
     }
 
 -- ---- a script run

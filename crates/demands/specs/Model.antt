@@ -15,7 +15,7 @@ use Rattle.chip.specs.Record.{recordBytes}
 use Rattle.legal.specs.Legal.{legal}
 use Rattle.kinds.specs.Kinds.{knownKind, inRange}
 use Rattle.event.specs.declared.Answer.{Answer}
-use Rattle.event.specs.Alone.{answerOf, memoryOf}
+use Rattle.event.specs.Alone.{answerOf, memoryOf, saidOf}
 use Rattle.script.specs.Script.{Event}
 use Rattle.script.specs.Run.{World, world}
 
@@ -37,18 +37,19 @@ Model = Chip → List ℕ → List ℕ → ℕ → ℕ → Reply
 abbrev pub reply : Chip → List ℕ → List ℕ → ℕ → Reply
 reply c m says ticks = record { chip = c; memory = m; says = says; ticks = ticks; refusal = 0 }
 
--- what a caller of `event::event` holds afterwards: the answer, its record by this paper's bytes, and the memory
-abbrev pub replied : Answer → List ℕ → Reply
-replied a m = record { chip = a .chip; memory = m; says = recordBytes (a .said); ticks = a .ticks; refusal = a .refusal }
+-- what a caller of `event::event` holds afterwards: the answer, the memory, and the answer's record by its bytes
+abbrev pub replied : Answer → List ℕ → List ℕ → Reply
+replied a m says = record { chip = a .chip; memory = m; says = says; ticks = a .ticks; refusal = a .refusal }
 
 -- the model that its contract describes
 abbrev pub ours : Model
-ours c m area kind body = replied (answerOf c m area kind body) (memoryOf c m area kind body)
+ours c m area kind body = replied (answerOf c m area kind body) (memoryOf c m area kind body) (saidOf c m area kind body)
 
 -- Whatever meets the contract of `event::event` answers as ours.
 pub engine-is-ours : (c : Chip) (m area : List ℕ) (kind body : ℕ) (r : Answer) (m′ : List ℕ)
-    → (r ≡ answerOf c m area kind body) × (m′ ≡ memoryOf c m area kind body) → replied r m′ ≡ ours c m area kind body
-engine-is-ours c m area kind body r m′ p = λ i. replied (p .0 i) (p .1 i)
+    → (r ≡ answerOf c m area kind body) × (m′ ≡ memoryOf c m area kind body) × (recordBytes (r .said) ≡ saidOf c m area kind body)
+    → replied r m′ (recordBytes (r .said)) ≡ ours c m area kind body
+engine-is-ours c m area kind body r m′ p = λ i. replied (p .0 i) (p .1 i) (p .2 i)
 
 -- ---- events
 

@@ -25,7 +25,7 @@ use Rattle.event.specs.declared.Answer.{Answer}
 use Rattle.event.specs.Event.{Outcome, exchangeByte, tick, setWp, applied}
 use Rattle.event.specs.Alone.{bodyUsed, refusal, happens}
 use Rattle.event.specs.Alone as Alone
-use Rattle.event.specs.Laws.{applied-each, answer-done, memory-done}
+use Rattle.event.specs.Laws.{applied-each, answer-done, memory-done, said-done}
 use Rattle.event.specs.Legality.{legal-applied}
 use Rattle.event.specs.Keeps.{length-applied, works-none}
 use Rattle.script.specs.Script.{Event}
@@ -80,7 +80,7 @@ module _ (c : Chip) (m area : List ℕ) (fit : Fit c m area) (kind body : ℕ) (
   -- A good event is done, and does what the definitions say.
   pub done-as : ours c m area kind body ≡ told (applied T c m kind body)
   done-as =
-      (λ i. replied (answer-done c m area kind body unrefused i) (memory-done c m area kind body unrefused i))
+      (λ i. replied (answer-done c m area kind body unrefused i) (memory-done c m area kind body unrefused i) (said-done c m area kind body unrefused i))
       ∙ ap told happens-applied
 
   -- and leaves a legal chip, on a memory of the same length

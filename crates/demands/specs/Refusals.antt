@@ -45,7 +45,8 @@ event-refused-when c n extent kind body =
 pub event-refused-keeps : (c : Chip) (m area : List ℕ) (kind body : ℕ) → (Alone.refusal c (length m) (length area) kind body ≡ 0 → ⊥)
     → (Alone.answerOf c m area kind body ≡ record { chip = c; said = Nothing; refusal = Alone.refusal c (length m) (length area) kind body; ticks = 0 })
     × (Alone.memoryOf c m area kind body ≡ m)
-event-refused-keeps c m area kind body no-done = (EventLaws.answer-refused c m area kind body no-done, EventLaws.memory-refused c m area kind body no-done)
+    × (Alone.saidOf c m area kind body ≡ [])
+event-refused-keeps c m area kind body not-done = (EventLaws.answer-refused c m area kind body not-done, EventLaws.memory-refused c m area kind body not-done, EventLaws.said-refused c m area kind body not-done)
 
 -- ---- what is wrong with an event of a script
 

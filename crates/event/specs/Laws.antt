@@ -122,7 +122,15 @@ module _ (c : Chip) (m area : List ℕ) (kind body : ℕ) where
   unfolding memoryOf
   memory-done h = cond-yes _ _ _ (eq-eqb _ _ h)
 
-  -- the record of such an answer has the bytes that the definition gives
+  pub said-refused : (number ≡ 0 → ⊥) → saidOf c m area kind body ≡ []
+  unfolding saidOf
+  said-refused h = cond-no _ _ _ (ne-eqb _ _ h)
+
+  pub said-done : number ≡ 0 → saidOf c m area kind body ≡ recordBytes (happens c m area kind body .said)
+  unfolding saidOf
+  said-done h = cond-yes _ _ _ (eq-eqb _ _ h)
+
+  -- the record of an answer has the bytes that the definition gives
   pub said-bytes : (r : Answer) → r ≡ answerOf c m area kind body → recordBytes (r .said) ≡ saidOf c m area kind body
   unfolding answerOf saidOf
   said-bytes r e = ap (λ (a : Answer). recordBytes (a .said)) e ∙ go (eqb number 0)
