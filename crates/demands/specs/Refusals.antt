@@ -67,7 +67,7 @@ unfolding faultAt
 fault-when s at =
     chain-tests 5 (decides-not (knownKind (getD s at 0))) (chain-tests 4 (decides-less (length s) (nextAt s at)) (chain-last 6 0 (decides-not (inRange (getD s at 0) (bodyAt s at))) refl) refl) refl
 
--- every event of a script is the event at its offset
+-- each of some events is the script's event at its offset; so it is with the script's own events, and with both parts of a list of such
 unfoldable AllAt : List ℕ → List Event → Type 0
 AllAt s [] = Unit {0}
 AllAt s (e ∷ es) = (e ≡ eventAt s (e .offset)) × AllAt s es
@@ -92,7 +92,7 @@ split-at s (e ∷ es) fs a =
 both : {A A′ B B′ : Type 0} → A ↔ A′ → B ↔ B′ → (A × B) ↔ (A′ × B′)
 both a b = (λ p. (a .0 (p .0), b .0 (p .1)), λ p. (a .1 (p .0), b .1 (p .1)))
 
--- it has no fault exactly when it is sound
+-- such an event has no fault exactly when it is sound
 sound-event : (s : List ℕ) (e : Event) → e ≡ eventAt s (e .offset) → (e .fault ≡ 0) ↔ Sound s e
 sound-event s e is = subst (λ (x : Event). (x .fault ≡ 0) ↔ Sound s x) (sym is) (sound-at (e .offset))
   where
@@ -193,19 +193,21 @@ room-needed (e ∷ es) = ap (λ (n : ℕ). n + room es) (room-as (e .kind) ∙ a
 -- ---- a script run
 
 module _ (c : Chip) (n extent : ℕ) (s : List ℕ) (space : ℕ) where
+  -- the script's first bad event, and what refuses the run
   abbrev bad : Refusal
   bad = firstBad (events s)
 
   abbrev told : Refusal
   told = Run.refusal c n extent s space
 
-  -- what refuses a script that is heard: its first bad event, or the room
+  -- what refuses a script that is heard: the room where no event is bad, and else the first bad event
   abbrev lacking : Refusal
   lacking = cond (ltb space (room (events s))) (refusalOf 7 0) (refusalOf 0 0)
 
   abbrev rest : Refusal
   rest = cond (not (eqb (bad .number) 0)) bad lacking
 
+  -- the numbers that are left for it
   abbrev isRest : ℕ → Bool
   isRest v = isFault v || eqb 7 v
 
@@ -238,13 +240,14 @@ module _ (c : Chip) (n extent : ℕ) (s : List ℕ) (space : ℕ) where
   heard-when =
       chain-tests (refusalOf 1 0) (decides-not (permitted n)) (chain-tests (refusalOf 13 0) (decides-less 256 extent) (chain-tests (refusalOf 2 0) (decides-not (legal c n)) (chain-tests (refusalOf 3 0) (decides-less 65536 (length s)) (record { exactly = λ v. (λ e. e, λ e. e); never = rest-never }) refl) refl) refl) refl
 
+  -- past those four
   abbrev HeardAnd : Type 0 → Type 0
   HeardAnd R = (permitted n ≡ true) × ((extent ≤ 256) × ((legal c n ≡ true) × ((length s ≤ 65536) × R)))
 
   heard : {R : Type 0} → HeardAnd R → Heard c n extent s
   heard p = record { length-permitted = p .0; area-short = p .1 .0; state-legal = p .1 .1 .0; script-short = p .1 .1 .1 .0 }
 
-  -- a number that comes where no event is bad
+  -- a number of the run that comes where no event is bad: 7 or none
   when-clean : (v : ℕ) (W : ℕ → Type 0) → (told .number ≡ v) ↔ HeardAnd (rest .number ≡ v) → ((bad .number ≡ 0 → ⊥) → bad .number ≡ v → ⊥) → (lacking .number ≡ v) ↔ W (room (events s))
       → (told .number ≡ v) ↔ (Heard c n extent s × AllSound s (events s) × W (roomNeeded (events s)))
   when-clean v W gate other w =
@@ -255,7 +258,7 @@ module _ (c : Chip) (n extent : ℕ) (s : List ℕ) (space : ℕ) where
   bad-tells : Heard c n extent s → (bad .number ≡ 0 → ⊥) → told ≡ bad
   bad-tells h = ScriptLaws.refusal-bad c n extent s space (h .length-permitted) (h .area-short) (h .state-legal) (h .script-short)
 
-  -- the number and the offset of the first bad event
+  -- a number and an offset of the run that are the first bad event's
   when-bad : (v at : ℕ) → (told .number ≡ v) ↔ HeardAnd (rest .number ≡ v) → (v ≡ 0 → ⊥) → (v ≡ 7 → ⊥) → ((told .number ≡ v) × (told .offset ≡ at)) ↔ (Heard c n extent s × (FirstAt s at × FaultWhen s at v))
   when-bad v at gate some not-room = (
     λ p.
@@ -308,7 +311,7 @@ pub run-refused-keeps : (c : Chip) (m area s out : List ℕ) → (Run.refusal c 
     → (Run.answerOf c m area s out ≡ Run.refused c (Run.refusal c (length m) (length area) s (length out)))
     × (Run.memoryOf c m area s out ≡ m)
     × (Run.outputOf c m area s out ≡ out)
-run-refused-keeps c m area s out no-done = (ScriptLaws.answer-refused c m area s out no-done, ScriptLaws.memory-refused c m area s out no-done, ScriptLaws.output-refused c m area s out no-done)
+run-refused-keeps c m area s out not-done = (ScriptLaws.answer-refused c m area s out not-done, ScriptLaws.memory-refused c m area s out not-done, ScriptLaws.output-refused c m area s out not-done)
 
 -- An empty script is done and changes nothing, on every legal state of a permitted length, with any area that is not too long.
 pub empty-script : (c : Chip) (m area out : List ℕ) → permitted (length m) ≡ true → length area ≤ 256 → legal c (length m) ≡ true
