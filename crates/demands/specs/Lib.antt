@@ -15,6 +15,7 @@ pub mod TickRules
 pub mod Meets3
 pub mod WholeLife
 pub mod Decided
+pub mod Meets
 pub mod Inside
 pub mod Opening
 pub mod OursFrames

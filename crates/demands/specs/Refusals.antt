@@ -290,6 +290,14 @@ module _ (c : Chip) (n extent : ℕ) (s : List ℕ) (space : ℕ) where
       no-fault b no-4 no-5 no-6 =
           rw (ne-eqb 5 (bad .number) (λ e. no-5 (sym e)), ne-eqb 4 (bad .number) (λ e. no-4 (sym e)), ne-eqb 6 (bad .number) (λ e. no-6 (sym e)), ne-eqb 0 (bad .number) (λ e. eqb-false (bad .number) 0 (not-true _ b) (sym e)))
 
+  -- no other number refuses a run
+  pub run-numbers : (eqb 1 (told .number) || (eqb 13 (told .number) || (eqb 2 (told .number) || (eqb 3 (told .number) || isRest (told .number))))) ≡ true
+  run-numbers = go _ refl
+    where
+      go : (b : Bool) → (eqb 1 (told .number) || (eqb 13 (told .number) || (eqb 2 (told .number) || (eqb 3 (told .number) || isRest (told .number))))) ≡ b → b ≡ true
+      go true e = refl
+      go false e = absurd (heard-when .never (told .number) e refl)
+
   -- Which number and which offset refuse a run, each exactly when the table of refusals has it.
   pub run-refused-when : RunRefusedWhen (told .number) (told .offset) c n extent s space
   run-refused-when =
