@@ -29,8 +29,8 @@ use Rattle.event.specs.Keeps.{length-applied}
 use Rattle.script.specs.Script.{Event, eventAt, faultAt, walk, eventsFrom, events}
 use Rattle.script.specs.Run.{World, world, does, onward, runs}
 use Rattle.demands.specs.Model.{ours, Good, AllGood, Fit, doesBy, onwardBy, runsBy, workedBy}
-use Rattle.demands.specs.Demand1.{RunReply, Runner, AllSound, Heard, roomNeeded, Demand1Run}
-use Rattle.demands.specs.Demand2.{Closing, on-a-byte, JobsBegun}
+use Rattle.demands.specs.Demand1.{RunReply, AllSound, Heard, roomNeeded}
+use Rattle.demands.specs.Demand2.{Closing, on-a-byte}
 use Rattle.demands.specs.Demand3.{Spares, AllSpare, stepsOf}
 use Rattle.demands.specs.Ours.{onward-ours, setting-same, fit-onward, runs-ours, fit-runs, worked-ours}
 use Rattle.demands.specs.Life.{told-verdict, says-ours}
@@ -38,7 +38,8 @@ use Rattle.demands.specs.Cut.{length-runs}
 use Rattle.demands.specs.Examples.{frame, one}
 use Rattle.demands.specs.Met.{legal-met}
 use Rattle.demands.specs.Stepwise as Stepwise
-use Rattle.demands.specs.WholeLife.{jobIn, HoldsLife, LifeRun, good-split, sound-good, whole-life-ours}
+use Rattle.demands.specs.Meets1.{ourRun, all-good, meets-1-run}
+use Rattle.demands.specs.WholeLife.{jobIn, HoldsLife, LifeRun, good-split, script-whole-life}
 
 -- ---- tests that compute
 
@@ -212,12 +213,12 @@ passes : (m : List ℕ) → wholeLife one (world (fresh 0x00) m [] 0) before beg
 unfolding allSparing runs Stepwise.workedBy eventsFrom walk faultAt knownKind knownIn kindRow kindRowIn applied exchanged taken judge fresh rowOf rowIn isProgram verdict listed isRead commandVerdict jobVerdict jobOf fitsRule settled acted heldAfter instantly ticksCore tickCore worked protectedCount protectedSector
 passes m = refl
 
-module _ (R : Runner) (runner : Demand1Run ours R) (begun : JobsBegun ours) (m out : List ℕ) (smallest : length m ≡ 65536) (roomy : 28 ≤ length out) where
+module _ (m out : List ℕ) (smallest : length m ≡ 65536) (roomy : 28 ≤ length out) where
   abbrev start : World
   start = world (fresh 0x00) m [] 0
 
   abbrev answer : RunReply
-  answer = R (fresh 0x00) m [] erasesCut out
+  answer = ourRun (fresh 0x00) m [] erasesCut out
 
   -- what is looked at before the events is in order
   heard : Heard (fresh 0x00) (length m) 0 erasesCut
@@ -233,7 +234,7 @@ module _ (R : Runner) (runner : Demand1Run ours R) (begun : JobsBegun ours) (m o
   -- nothing refuses the run
   done : answer .refusal ≡ 0
   unfolding roomNeeded eventsFrom walk faultAt knownKind knownIn kindRow kindRowIn
-  done = runner .numbers (fresh 0x00) m [] erasesCut out .none .1 (heard, all-sound, roomy)
+  done = meets-1-run .numbers (fresh 0x00) m [] erasesCut out .none .1 (heard, all-sound, roomy)
 
   -- the hypotheses: a legal chip, good events, a whole life
   fit : Fit (fresh 0x00) m []
@@ -241,7 +242,7 @@ module _ (R : Runner) (runner : Demand1Run ours R) (begun : JobsBegun ours) (m o
 
   good : AllGood before × (Good begins × AllGood life)
   unfolding AllGood
-  good = good-split before (begins ∷ life) (subst AllGood in-order (sound-good erasesCut (events erasesCut) all-sound))
+  good = good-split before (begins ∷ life) (subst AllGood in-order (all-good erasesCut (events erasesCut) all-sound))
 
   holds : HoldsLife ours [] start before begins life
   unfolding kindRow kindRowIn
@@ -255,7 +256,7 @@ module _ (R : Runner) (runner : Demand1Run ours R) (begun : JobsBegun ours) (m o
       subst (λ (n : ℕ). LifeRun answer (runs (settingOf n []) before start) (onward (settingOf n []) begins (runs (settingOf n []) before start))) smallest
       (subst (λ (v : World). LifeRun answer v (onward (settingOf (length m) []) begins (runs (settingOf (length m) []) before start))) (found [] start before begins fit (good .0) (good .1 .0))
       (subst (λ (v : World). LifeRun answer (runsBy ours [] before start) v) (begun-as [] start before begins fit (good .0) (good .1 .0))
-      (whole-life-ours R runner begun (fresh 0x00) m [] erasesCut out done before begins life in-order holds)))
+      (script-whole-life (fresh 0x00) m [] erasesCut out done before begins life in-order holds)))
 
   -- Sixteen of its nineteen ticks work, and the run's own memory is the whole image: a sector of 4,096 cells FFh, every other cell as it was.
   pub cut-and-ended : (answer .refusal ≡ 0) × (answer .memory ≡ wholeImage SmallErase 1 0 blankLoad m) × (answer .chip .core .job ≡ noJob) × (answer .ticks ≡ 16)

@@ -17,14 +17,10 @@ use Rattle.demands.specs.Model.{Model, ours, runsBy}
 use Rattle.demands.specs.Demand1.{Demand1Run, Runner, RunReply, RunRefusedWhen}
 use Rattle.demands.specs.Demand3.{Demand3}
 use Rattle.demands.specs.Refusals.{run-numbers}
-use Rattle.demands.specs.EventRules.{ours-jobs-begun}
 use Rattle.demands.specs.Meets1.{meets-1, ourRun, meets-1-run}
 use Rattle.demands.specs.Meets2.{meets-2}
-use Rattle.demands.specs.Meets3.{meets-3-with}
+use Rattle.demands.specs.Meets3.{meets-3}
 use Rattle.demands.specs.Decided.{Meets, decided}
-
-pub meets-3 : Demand3 ours
-meets-3 = meets-3-with ours-jobs-begun
 
 -- Ours meets the three demands.
 pub meets : Meets ours

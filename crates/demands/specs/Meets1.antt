@@ -47,7 +47,7 @@ pub runner-is-ours : (c : Chip) (m area s out : List ℕ) (r : Ran) (m′ out′
 runner-is-ours c m area s out r m′ out′ p = λ i. ran (p .0 i) (p .1 i) (p .2 i)
 
 -- sound events of a script are good
-all-good : (s : List ℕ) (es : List Event) → AllSound s es → AllGood es
+pub all-good : (s : List ℕ) (es : List Event) → AllSound s es → AllGood es
 unfolding AllSound AllGood
 all-good s [] sound = tt
 all-good s (e ∷ es) sound = ((sound .0 .known, sound .0 .ranged), all-good s es (sound .1))

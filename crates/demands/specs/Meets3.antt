@@ -27,6 +27,7 @@ use Rattle.demands.specs.Demand3.{Started, UnderWay, AllSpare, NoneEnabl
 use Rattle.demands.specs.Ours.{fit-next, runs-ours, fit-runs, ticks-ours, worked-ours}
 use Rattle.demands.specs.Life.{ClosedWith, says-closed, closed-memory, two-starts, reset-drops, does-ours, says-ours, all-spare-ours, event-rests-cells, OffWithoutJob, off-event}
 use Rattle.demands.specs.JobSteps.{AtStep, JobOver}
+use Rattle.demands.specs.EventRules.{ours-jobs-begun}
 use Rattle.demands.specs.TickRules.{ours-idle-ticks, ours-ticks-keep}
 use Rattle.demands.specs.Stepwise.{k-steps, all-steps, outside-stays}
 use Rattle.demands.specs.Stepwise as Stepwise
@@ -199,11 +200,11 @@ module _ (area : List ℕ) (kind : JobKind) (start : ℕ) (held : List ℕ) (d :
 
 -- ---- the demand
 
--- Ours meets Demand 3, if its jobs begin as Demand 2 has it.
-pub meets-3-with : JobsBegun ours → Demand3 ours
-meets-3-with begun =
+-- Ours meets Demand 3.
+pub meets-3 : Demand3 ours
+meets-3 =
     record {
-      jobs-begun = begun;
+      jobs-begun = ours-jobs-begun;
       starts = starts-ours;
       counts = counts-ours;
       idle-ticks = ours-idle-ticks;

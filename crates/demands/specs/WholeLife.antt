@@ -1,5 +1,5 @@
 -- A script that holds a job's whole life: the run's own memory is the job's whole image on the memory that the job found, its chip has no job, and its working ticks
--- are those before and the job's steps. Of any runner over any model that meet the demands; `whole-life-ours` is the case of ours.
+-- are those before and the job's steps. Of any runner over any model that meet the demands (`whole-life`), and of `script::run` (`script-whole-life`).
 use Prim.Native.Nat.{ℕ, _+_}
 use mathlib.Core.Bool.{Bool, true}
 use mathlib.Core.List.{List, [], _∷_, _++_}
@@ -13,11 +13,13 @@ use Rattle.chip.specs.Job.{total, wholeImage, noJob}
 use Rattle.script.specs.Script.{Event, events}
 use Rattle.script.specs.Run.{World, world}
 use Rattle.demands.specs.Model.{Model, ours, Good, AllGood, Fit, doesBy, onwardBy, runsBy, workingTicks, workedBy}
-use Rattle.demands.specs.Demand1.{RunReply, Runner, AllSound, Demand1Run}
-use Rattle.demands.specs.Demand2.{Closing, on-a-byte, inside-a-byte, JobsBegun}
+use Rattle.demands.specs.Demand1.{RunReply, Runner, Demand1Run}
+use Rattle.demands.specs.Demand2.{Closing, on-a-byte, inside-a-byte}
 use Rattle.demands.specs.Demand3.{Started, UnderWay, AllSpare, stepsOf, Outlook, Demand3}
 use Rattle.demands.specs.Ours.{fit-next}
-use Rattle.demands.specs.Meets3.{meets-3-with}
+use Rattle.demands.specs.OursFrames.{runsBy-add}
+use Rattle.demands.specs.Meets1.{ourRun, all-good, meets-1-run}
+use Rattle.demands.specs.Meets3.{meets-3}
 
 -- ---- the words
 
@@ -46,22 +48,11 @@ LegalityKept M = (area : List ℕ) (e : Event) (w : World) → Fit (w .chip) (w 
 
 -- ---- rows of events
 
--- a row in two parts: what it comes to, and that both are good
-runs-split : (M : Model) (area : List ℕ) (es fs : List Event) (w : World) → runsBy M area (es ++ fs) w ≡ runsBy M area fs (runsBy M area es w)
-unfolding runsBy
-runs-split M area [] fs w = refl
-runs-split M area (e ∷ es) fs w = runs-split M area es fs (onwardBy M area e w)
-
+-- both parts of a good row are good
 pub good-split : (es fs : List Event) → AllGood (es ++ fs) → AllGood es × AllGood fs
 unfolding AllGood
 good-split [] fs g = (tt, g)
 good-split (e ∷ es) fs g = let rest = good-split es fs (g .1) in ((g .0, rest .0), rest .1)
-
--- the sound events of a script are good
-pub sound-good : (s : List ℕ) (es : List Event) → AllSound s es → AllGood es
-unfolding AllSound AllGood
-sound-good s [] h = tt
-sound-good s (e ∷ es) h = ((h .0 .known, h .0 .ranged), sound-good s es (h .1))
 
 module _ (M : Model) (kept : LegalityKept M) (D : Demand3 M) (area : List ℕ) where
   -- legality is kept, and the working ticks are counted, over a row of events
@@ -150,8 +141,8 @@ whole-life M R kept D1 D3 c m area s out done before begins life in-order holds 
     let w : World = world c m [] 0 in
     let ok = D1 .numbers c m area s out .none .0 done in
     let fit : Fit c m area = record { state-legal = ok .0 .state-legal; area-short = ok .0 .area-short } in
-    let good : AllGood (before ++ (begins ∷ life)) = subst AllGood in-order (sound-good s (events s) (ok .1)) in
-    let after : runsBy M area (events s) w ≡ runsBy M area life (onwardBy M area begins (runsBy M area before w)) = ap (λ (es : List Event). runsBy M area es w) in-order ∙ runs-split M area before (begins ∷ life) w in
+    let good : AllGood (before ++ (begins ∷ life)) = subst AllGood in-order (all-good s (events s) (ok .1)) in
+    let after : runsBy M area (events s) w ≡ runsBy M area life (onwardBy M area begins (runsBy M area before w)) = ap (λ (es : List Event). runsBy M area es w) in-order ∙ runsBy-add M area before (begins ∷ life) w in
     let answer = D1 .done-runs c m area s out done in
     record {
       memory-is = ap (λ (r : RunReply). r .memory) answer ∙ ap (λ (v : World). v .memory) after ∙ life-memory M kept D3 area w fit before begins life good holds;
@@ -159,9 +150,8 @@ whole-life M R kept D1 D3 c m area s out done before begins life in-order holds 
       ticks-are = ap (λ (r : RunReply). r .ticks) answer ∙ ap (λ (v : World). v .ticks) after ∙ life-ticks M kept D3 area w fit before begins life good holds;
     }
 
--- The same of ours: what ours has to meet is proved, and what the runner has to meet is that it runs ours.
-pub whole-life-ours : (R : Runner) → Demand1Run ours R → JobsBegun ours
-    → (c : Chip) (m area s out : List ℕ) → R c m area s out .refusal ≡ 0
+-- A script that `script::run` has done, and that holds a job's whole life: its own memory is the job's whole image on the memory that the job found.
+pub script-whole-life : (c : Chip) (m area s out : List ℕ) → ourRun c m area s out .refusal ≡ 0
     → (before : List Event) (begins : Event) (life : List Event) → events s ≡ before ++ (begins ∷ life) → HoldsLife ours area (world c m [] 0) before begins life
-    → LifeRun (R c m area s out) (runsBy ours area before (world c m [] 0)) (onwardBy ours area begins (runsBy ours area before (world c m [] 0)))
-whole-life-ours R runs-it begun = whole-life ours R fit-next runs-it (meets-3-with begun)
+    → LifeRun (ourRun c m area s out) (runsBy ours area before (world c m [] 0)) (onwardBy ours area begins (runsBy ours area before (world c m [] 0)))
+script-whole-life = whole-life ours ourRun fit-next meets-1-run meets-3
