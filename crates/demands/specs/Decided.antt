@@ -28,6 +28,7 @@ use Rattle.script.specs.Run.{World, world}
 use Rattle.demands.specs.Model.{Reply, Model, event, Good, AllGood, Fit, onwardBy, runsBy, workingTicks, workedBy}
 use Rattle.demands.specs.Demand1.{RefusedWhen, Demand1}
 use Rattle.demands.specs.Demand2.{Demand2, Test, firstOf, among, beginsJob, rulesList, verdictOf, Closing, on-a-byte, inside-a-byte, Ending, After}
+use Rattle.demands.specs.TickRules.{ticking-good}
 use Rattle.demands.specs.Demand3.{Demand3, Ticking, one-tick, many-ticks, AllSpare, NoneEnables, Spared, stepsOf, Outlook}
 
 -- a model that meets the three demands
@@ -249,12 +250,7 @@ module _ (M N : Model) (p : Meets M) (q : Meets N) (c : Chip) (m area : List ℕ
     worked = workingTicks start-world tick-event + 0
 
     good-ticks : Good tick-event
-    unfolding knownKind knownIn kindRow kindRowIn
-    good-ticks = go ticking
-      where
-        go : {kind body n : ℕ} → Ticking kind body n → Good (event kind body)
-        go (one-tick b) = (refl, refl)
-        go (many-ticks t some most) = (refl, and-both (leb 1 t) (leb t 65535) (le-leb 1 t some) (le-leb t 65535 most))
+    good-ticks = ticking-good kind body n ticking
 
     no-power-cut : kind ≡ 0x07 → ⊥
     no-power-cut = go ticking

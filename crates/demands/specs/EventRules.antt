@@ -30,7 +30,7 @@ use Rattle.verdict.specs.Effect.{instantly, acted, settled, heldAfter}
 use Rattle.verdict.specs.Laws.{acted-nothing, held-stays}
 use Rattle.event.specs.Event.{Outcome, settleExchange, closes, deselect, applied}
 use Rattle.event.specs.Laws.{deselect-unselected, deselect-selected}
-use Rattle.demands.specs.Model.{Reply, reply, ours, Fit}
+use Rattle.demands.specs.Model.{Reply, reply, ours, event, Good, Fit}
 use Rattle.demands.specs.Demand2.{Closing, on-a-byte, inside-a-byte, stopOf, verdictOf, Ending, After, AtOnce, DoneAtOnce, rounded, Begun, JobsBegun, OtherVerdicts, Closes, poweredUp}
 use Rattle.demands.specs.Ours.{told, done-as}
 use Rattle.demands.specs.Verdicts.{verdict-as}
@@ -105,10 +105,22 @@ ours-opcode-byte c m area b fit byte selected none =
 
 -- ---- a deselect
 
+-- nothing is wrong with a deselect
+pub closing-good : (kind body : ℕ) (loose : Bool) → Closing kind body loose → Good (event kind body)
+unfolding knownKind knownIn kindRow kindRowIn
+closing-good kind body loose (on-a-byte b) = (refl, refl)
+closing-good kind body loose (inside-a-byte bits least most) = (refl, and-both (leb 1 bits) (leb bits 7) (le-leb 1 bits least) (le-leb bits 7 most))
+
+-- and it is what the definitions have for a deselect
+pub closing-applied : (T : Setting) (c : Chip) (m : List ℕ) (kind body : ℕ) (loose : Bool) → Closing kind body loose → applied T c m kind body ≡ deselect T c m loose
+unfolding applied
+closing-applied T c m kind body loose (on-a-byte b) = refl
+closing-applied T c m kind body loose (inside-a-byte bits least most) = refl
+
 closing-as : (c : Chip) (m area : List ℕ) (kind body : ℕ) (loose : Bool) → Fit c m area → Closing kind body loose → ours c m area kind body ≡ told (deselect (settingOf (length m) area) c m loose)
-unfolding applied knownKind knownIn kindRow kindRowIn
-closing-as c m area kind body loose fit (on-a-byte b) = done-as c m area fit 0x03 b refl refl
-closing-as c m area kind body loose fit (inside-a-byte bits some few) = done-as c m area fit 0x08 bits refl (and-both (leb 1 bits) (leb bits 7) (le-leb 1 bits some) (le-leb bits 7 few))
+closing-as c m area kind body loose fit closing =
+    let good : Good (event kind body) = closing-good kind body loose closing in
+    done-as c m area fit kind body (good .0) (good .1) ∙ ap told (closing-applied (settingOf (length m) area) c m kind body loose closing)
 
 pub ours-unselected-deselect : (c : Chip) (m area : List ℕ) (kind body : ℕ) (loose : Bool) → Fit c m area → Closing kind body loose → c .frame .selected ≡ false
     → ours c m area kind body ≡ reply c m (0x82 ∷ 0 ∷ []) 0

@@ -27,7 +27,7 @@ pub mod JobFrames
 pub mod Meets2Jobs
 pub mod Meets2
 pub mod Meets1
-pub mod Datasheet
+pub mod Array
 pub mod Sfdp
 pub mod Unique
 pub mod Cut

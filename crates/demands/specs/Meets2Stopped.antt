@@ -22,7 +22,8 @@ use Rattle.event.specs.Laws.{deselect-selected}
 use Rattle.script.specs.Run.{World, does}
 use Rattle.demands.specs.Model.{Reply, ours, event, Good, runsBy}
 use Rattle.demands.specs.Demand2.{AllBytes, bytesOf, Closing, on-a-byte, inside-a-byte, opened, stopOf, StoppedFrame}
-use Rattle.demands.specs.Datasheet.{verdict-judged}
+use Rattle.demands.specs.Verdicts.{verdict-judged}
+use Rattle.demands.specs.EventRules.{closing-good, closing-applied}
 use Rattle.demands.specs.Inside.{GoesOn}
 use Rattle.demands.specs.Opening.{opcodeFrame, Opens, opens-opcode}
 use Rattle.demands.specs.OursFrames.{byte-good, does-as, frame-there}
@@ -55,18 +56,11 @@ module _ (T : Setting) (v : ℕ) (stops : v ≡ 0 → ⊥) where
 judged-verdict : (S : ℕ) (k : Core) (v j : ℕ) (f : Frame) (loose : Bool) → (v ≡ 0 → ⊥) → Judged v j f → verdict S k f loose ≡ v
 judged-verdict S k v j f loose stops at = verdict-judged S k f loose (λ (z : f .count ≡ 0). omega (arith, at .begun, z)) (λ z. stops (sym (at .judged) ∙ z)) ∙ at .judged
 
--- nothing is wrong with a deselect
-pub closing-good : (kind body : ℕ) (loose : Bool) → Closing kind body loose → Good (event kind body)
-unfolding knownKind knownIn kindRow kindRowIn
-closing-good kind body loose (on-a-byte b) = (refl, refl)
-closing-good kind body loose (inside-a-byte bits least most) = (refl, and-both _ _ (le-leb 1 bits least) (le-leb bits 7 most))
-
--- and of an open frame it tells the verdict
-pub closing-says : (T : Setting) (w : World) (kind body : ℕ) (loose : Bool) → Closing kind body loose → w .chip .frame .selected ≡ true
+-- a deselect of an open frame tells the verdict
+closing-says : (T : Setting) (w : World) (kind body : ℕ) (loose : Bool) → Closing kind body loose → w .chip .frame .selected ≡ true
     → recordBytes (does T (event kind body) w .said) ≡ 0x82 ∷ verdict (T .sectors) (w .chip .core) (w .chip .frame) loose ∷ []
-unfolding applied
-closing-says T w kind body loose (on-a-byte b) selected = ap (λ (o : Outcome). recordBytes (o .said)) (deselect-selected T (w .chip) (w .memory) false selected)
-closing-says T w kind body loose (inside-a-byte bits least most) selected = ap (λ (o : Outcome). recordBytes (o .said)) (deselect-selected T (w .chip) (w .memory) true selected)
+closing-says T w kind body loose closing selected =
+    ap (λ (o : Outcome). recordBytes (o .said)) (closing-applied T (w .chip) (w .memory) kind body loose closing ∙ deselect-selected T (w .chip) (w .memory) loose selected)
 
 -- A frame of ours that is stopped at its opcode byte is as the demand says.
 pub ours-stopped-frame : StoppedFrame ours

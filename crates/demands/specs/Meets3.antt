@@ -27,18 +27,12 @@ use Rattle.demands.specs.Demand3.{Started, UnderWay, AllSpare, NoneEnabl
 use Rattle.demands.specs.Ours.{fit-next, runs-ours, fit-runs, ticks-ours, worked-ours}
 use Rattle.demands.specs.Life.{ClosedWith, says-closed, closed-memory, two-starts, reset-drops, does-ours, says-ours, all-spare-ours, event-rests-cells, OffWithoutJob, off-event}
 use Rattle.demands.specs.JobSteps.{AtStep, JobOver}
-use Rattle.demands.specs.EventRules.{ours-jobs-begun}
+use Rattle.demands.specs.EventRules.{closing-good, ours-jobs-begun}
 use Rattle.demands.specs.TickRules.{ours-idle-ticks, ours-ticks-keep}
 use Rattle.demands.specs.Stepwise.{k-steps, all-steps, outside-stays}
 use Rattle.demands.specs.Stepwise as Stepwise
 
 -- ---- one event
-
--- a deselect is a good event
-good-closing : {kind body : ℕ} {loose : Bool} → Closing kind body loose → (knownKind kind ≡ true) × (inRange kind body ≡ true)
-unfolding knownKind knownIn kindRow kindRowIn
-good-closing (on-a-byte body) = (refl, refl)
-good-closing (inside-a-byte bits least most) = (refl, and-both (leb 1 bits) (leb bits 7) (le-leb _ _ least) (le-leb _ _ most))
 
 -- the frame that a good event closes, by what ours says
 closed-by : (area : List ℕ) (e : Event) (w : World) (v : ℕ) → Fit (w .chip) (w .memory) area → Good e → (v ≡ 0 → ⊥) → doesBy ours area e w .says ≡ 0x82 ∷ v ∷ []
@@ -52,7 +46,7 @@ starts-ours : (c : Chip) (m area : List ℕ) (kind body : ℕ) (loose : Bool) �
 starts-ours c m area kind body loose end says =
     let e : Event = event kind body in
     let w : World = world c m [] 0 in
-    let good : Good e = good-closing (end .closing) in
+    let good : Good e = closing-good kind body loose (end .closing) in
     subst (Started c m) (sym (does-ours area e w (end .fit) good))
     (two-starts _ c m _ (chip-facts c (length m) (end .fit .state-legal) .frame-part .judgement-known) (closed-by area e w 2 (end .fit) good (λ z. omega arith) says))
 

@@ -16,7 +16,7 @@ use Rattle.chip.specs.declared.Frame.{Frame}
 use Rattle.chip.specs.declared.JobKind.{JobKind}
 use Rattle.chip.specs.declared.JobKind.the-variants.{Idle, WriteStatus, Program, SmallErase, SectorErase, ChipErase}
 use Rattle.chip.specs.declared.Record.the-variants.{Floating}
-use Rattle.chip.specs.Fields.{withCount}
+use Rattle.chip.specs.Fields.{withCount, withSelected}
 use Rattle.chip.specs.Job.{isJob, hasCells}
 use Rattle.chip.specs.Chip.{whole, emptyFrame, running}
 use Rattle.legal.specs.Legal.{legal, isEmpty, isBlank, tidy}
@@ -27,6 +27,7 @@ use Rattle.frame.specs.Laws.{taken-address, exchanged-taken}
 use Rattle.event.specs.Event.{settleExchange, applied}
 use Rattle.script.specs.Script.{Event}
 use Rattle.script.specs.Run.{World, world, after, onward, runs}
+use Rattle.demands.specs.EventRules.{empty-frame-is}
 use Rattle.demands.specs.Model.{event, sends, address, Fit}
 use Rattle.demands.specs.Demand2.{among, Quiet, Ready}
 
@@ -40,31 +41,13 @@ unselected-tidy f load h u = go (f .selected) u h
     go true e q = absurd (false≢true (sym e))
     go false e q = q
 
--- an unselected frame of nothing but zeros is the empty one
-frame-is-empty : (f : Frame) → f .selected ≡ false → isEmpty f ≡ true → f ≡ emptyFrame
-unfolding isEmpty
-frame-is-empty f unselected empty =
-    let four : Bool = eqb (f .opcode) 0 && eqb (f .address) 0 && eqb (f .place) 0 && eqb (f .slot) 0 in
-    let five : (four && eqb (f .count) 0) ≡ true = and-left (four && eqb (f .count) 0) (eqb (f .judgement) 0) empty in
-    let each = and-four (eqb (f .opcode) 0) (eqb (f .address) 0) (eqb (f .place) 0) (eqb (f .slot) 0) (and-left four (eqb (f .count) 0) five) in
-    λ i.
-    record {
-      selected = unselected i;
-      opcode = eqb-true (f .opcode) 0 (each .0) i;
-      address = eqb-true (f .address) 0 (each .1) i;
-      place = eqb-true (f .place) 0 (each .2) i;
-      slot = eqb-true (f .slot) 0 (each .3) i;
-      count = eqb-true (f .count) 0 (and-right four (eqb (f .count) 0) five) i;
-      judgement = eqb-true (f .judgement) 0 (and-right (four && eqb (f .count) 0) (eqb (f .judgement) 0) empty) i;
-    }
-
 module _ (c : Chip) (n : ℕ) (l : legal c n ≡ true) (unselected : c .frame .selected ≡ false) where
   -- so an unselected legal chip has the empty frame, and a blank load
   both : (isEmpty (c .frame) && isBlank (c .load)) ≡ true
   both = unselected-tidy (c .frame) (c .load) (chip-facts c n l .tidy-part) unselected
 
   pub frame-empty : c .frame ≡ emptyFrame
-  frame-empty = frame-is-empty (c .frame) unselected (and-left (isEmpty (c .frame)) (isBlank (c .load)) both)
+  frame-empty = empty-frame-is (c .frame) (and-left (isEmpty (c .frame)) (isBlank (c .load)) both) ∙ ap (λ (s : Bool). withSelected s emptyFrame) unselected
 
   pub load-blank : isBlank (c .load) ≡ true
   load-blank = and-right (isEmpty (c .frame)) (isBlank (c .load)) both

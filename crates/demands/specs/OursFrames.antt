@@ -18,7 +18,7 @@ use Rattle.script.specs.Run.{World, world, does, runs}
 use Rattle.demands.specs.Model.{Model, ours, event, sends, Good, AllGood, Fit, doesBy, onwardBy, runsBy}
 use Rattle.demands.specs.Demand2.{AllInside, AllBytes, bytesOf, opened}
 use Rattle.demands.specs.Ours.{told, done-as, runs-ours, fit-runs}
-use Rattle.demands.specs.Datasheet.{part-is-memory}
+use Rattle.demands.specs.Array.{part-is-memory}
 use Rattle.demands.specs.Cut.{length-runs}
 use Rattle.demands.specs.Inside.{GoesOn, inside-good, frame-along, cells-rest}
 use Rattle.demands.specs.Opening.{Opens}

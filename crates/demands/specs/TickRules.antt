@@ -9,7 +9,7 @@ use lib.Dec.{leb}
 use lib.ListN.{length}
 use borrow.Author.Tests.{le-leb}
 use Rattle.cells.specs.Choice.{and-both}
-use Rattle.part.specs.Part.{sectorsIn, settingOf}
+use Rattle.part.specs.Part.{Setting, sectorsIn, settingOf}
 use Rattle.chip.specs.declared.Chip.{Chip}
 use Rattle.chip.specs.declared.Core.{Core}
 use Rattle.chip.specs.declared.JobKind.{JobKind}
@@ -19,15 +19,26 @@ use Rattle.kinds.specs.Kinds.{knownKind, knownIn, kindRow, kindRowIn}
 use Rattle.job.specs.Tick.{ticksLeft, ticksCore, endedAs}
 use Rattle.job.specs.Laws.{ticks-rest, ticksLoad-rest, ticksMemory-rest, worked-rest, ticks-go, ticks-over}
 use Rattle.event.specs.Event.{tick, applied}
-use Rattle.demands.specs.Model.{Reply, reply, ours, Fit}
+use Rattle.demands.specs.Model.{reply, ours, event, Good, Fit}
 use Rattle.demands.specs.Demand3.{Ticking, one-tick, many-ticks, TicksKeep}
 use Rattle.demands.specs.Ours.{told, done-as}
 
--- an event of n ticks is what n ticks do
+-- nothing is wrong with an event of ticks
+pub ticking-good : (kind body n : ℕ) → Ticking kind body n → Good (event kind body)
+unfolding knownKind knownIn kindRow kindRowIn
+ticking-good kind body n (one-tick b) = (refl, refl)
+ticking-good kind body n (many-ticks t some most) = (refl, and-both (leb 1 t) (leb t 65535) (le-leb 1 t some) (le-leb t 65535 most))
+
+-- and it is what n ticks do
+ticking-applied : (T : Setting) (c : Chip) (m : List ℕ) (kind body n : ℕ) → Ticking kind body n → applied T c m kind body ≡ tick T c m n
+unfolding applied
+ticking-applied T c m kind body n (one-tick b) = refl
+ticking-applied T c m kind body n (many-ticks t some most) = refl
+
 ticking-as : (c : Chip) (m area : List ℕ) (kind body n : ℕ) → Fit c m area → Ticking kind body n → ours c m area kind body ≡ told (tick (settingOf (length m) area) c m n)
-unfolding applied knownKind knownIn kindRow kindRowIn
-ticking-as c m area kind body n fit (one-tick b) = done-as c m area fit 0x04 b refl refl
-ticking-as c m area kind body n fit (many-ticks t some most) = done-as c m area fit 0x05 t refl (and-both (leb 1 t) (leb t 65535) (le-leb 1 t some) (le-leb t 65535 most))
+ticking-as c m area kind body n fit ticking =
+    let good : Good (event kind body) = ticking-good kind body n ticking in
+    done-as c m area fit kind body (good .0) (good .1) ∙ ap told (ticking-applied (settingOf (length m) area) c m kind body n ticking)
 
 pub ours-idle-ticks : (c : Chip) (m area : List ℕ) (kind body n : ℕ) → Fit c m area → Ticking kind body n → running (c .core) ≡ false → ours c m area kind body ≡ reply c m [] 0
 ours-idle-ticks c m area kind body n fit ticking idle =

@@ -7,6 +7,7 @@ use native.Mathlib.Decide.{ℕ-discrete}
 use native.Mathlib.Omega.{arith}
 use lib.Dec.{eqb}
 use borrow.Author.Tests.{ne-eqb}
+use Rattle.cells.specs.Choice.{cond-yes, cond-no}
 use Rattle.part.specs.Part.{permitted, sectorsIn, lengthOf, page, smallSector, sector, roundedDown}
 use Rattle.part.specs.Protection.{protectedSector}
 use Rattle.part.specs.Laws.{permitted-whole}
@@ -133,3 +134,8 @@ verdict-as n k f loose p =
     go true false false false true p₂ p₃ i b v = refl
     go true false false false false true p₃ i b v = refl
     go true false false false false false p₃ i b v = refl
+
+-- The judgement of a frame with a byte is its verdict.
+pub verdict-judged : (S : ℕ) (k : Core) (f : Frame) (loose : Bool) → (f .count ≡ 0 → ⊥) → (f .judgement ≡ 0 → ⊥) → verdict S k f loose ≡ f .judgement
+unfolding verdict
+verdict-judged S k f loose c j = cond-no (eqb (f .count) 0) _ _ (ne-eqb _ _ c) ∙ cond-yes (not (eqb (f .judgement) 0)) _ _ (ap not (ne-eqb _ _ j))
