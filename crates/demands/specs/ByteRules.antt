@@ -13,19 +13,16 @@ use Rattle.part.specs.Part.{sectorsIn, lengthOf, settingOf}
 use Rattle.part.specs.Laws.{permitted-whole}
 use Rattle.commands.specs.Table.{isProgram}
 use Rattle.chip.specs.declared.Chip.{Chip}
-use Rattle.chip.specs.declared.Core.{Core}
 use Rattle.chip.specs.declared.Frame.{Frame}
 use Rattle.chip.specs.Fields.{withAddress, withPlace, withSlot, withCount}
 use Rattle.chip.specs.Chip.{whole, statusByte}
 use Rattle.chip.specs.Record.{recordBytes}
 use Rattle.legal.specs.Legal.{readPlaces}
 use Rattle.legal.specs.Legality.{LegalChip, chip-facts}
-use Rattle.frame.specs.Frame.{counted, nextPlace, counting, reading, loading, firstPlace, addressing, Exchange, taken, exchanged}
+use Rattle.frame.specs.Frame.{counted, nextPlace, counting, reading, firstPlace, addressing, Exchange, taken, exchanged}
 use Rattle.frame.specs.Laws.{exchanged-judged, exchanged-taken}
-use Rattle.event.specs.Event.{settleExchange}
 use Rattle.demands.specs.Model.{Reply, reply, ours, Fit}
 use Rattle.demands.specs.Demand2.{Byte, byte, longer, shiftedIn, byteDone}
-use Rattle.demands.specs.Ours.{told}
 use Rattle.demands.specs.Reads.{nextPlace-mod}
 use Rattle.demands.specs.EventRules.{exchange-as}
 

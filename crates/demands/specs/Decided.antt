@@ -1,16 +1,15 @@
 -- The three demands decide a model: two models that meet them give the same answer to every event. So whoever believes the demands believes ours (`Meets`).
-use Prim.Native.Nat.{ℕ, _+_, _<_, _≤_, _-_}
-use mathlib.Core.Bool.{Bool, true, false, cond, not, _&&_, _||_, true≢false, false≢true}
+use Prim.Native.Nat.{ℕ, _+_, _<_, _≤_}
+use mathlib.Core.Bool.{Bool, true, false, cond, not, true≢false, false≢true}
 use mathlib.Core.List.{List, [], _∷_}
 use mathlib.Core.Path.{_≡_, refl, sym, ap, subst, _∙_}
 use native.Mathlib.Decide.{ℕ-discrete, decLt}
-use native.Mathlib.Nat.{add-zero}
 use native.Mathlib.Omega.{arith}
 use lib.Dec.{eqb, leb}
 use lib.ListN.{length, getD}
-use borrow.Author.Tests.{ne-eqb, le-leb, leb-true}
-use Rattle.cells.specs.Choice.{cond-yes, cond-no, and-left, and-right, and-both}
-use Rattle.part.specs.Part.{permitted, sectorsIn}
+use borrow.Author.Tests.{ne-eqb, leb-true}
+use Rattle.cells.specs.Choice.{cond-yes, cond-no, and-left, and-right}
+use Rattle.part.specs.Part.{permitted}
 use Rattle.commands.specs.declared.Row.{Row}
 use Rattle.commands.specs.Table.{rows, rowIn, rowOf}
 use Rattle.chip.specs.declared.Chip.{Chip}
@@ -18,10 +17,10 @@ use Rattle.chip.specs.declared.Core.{Core}
 use Rattle.chip.specs.declared.Frame.{Frame}
 use Rattle.chip.specs.declared.Job.{Job}
 use Rattle.chip.specs.Chip.{whole, running, bitsOf}
-use Rattle.chip.specs.Job.{isJob, total}
+use Rattle.chip.specs.Job.{isJob}
 use Rattle.legal.specs.Legal.{judgementKnown, legal}
-use Rattle.legal.specs.Legality.{LegalChip, chip-facts}
-use Rattle.kinds.specs.Kinds.{knownKind, knownIn, kindRow, kindRowIn, inRange}
+use Rattle.legal.specs.Legality.{chip-facts}
+use Rattle.kinds.specs.Kinds.{knownKind, kindRow, kindRowIn, inRange}
 use Rattle.kinds.specs.Laws.{kind-each}
 use Rattle.script.specs.Script.{Event}
 use Rattle.script.specs.Run.{World, world}

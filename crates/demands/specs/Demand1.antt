@@ -1,7 +1,7 @@
 -- Demand 1, of any model: whatever comes in gets an answer, and what is wrong is turned away by its number in the table of refusals, with everything as it was
 -- (RULES, Refusals). That every event and every script gets an answer, and only one, is in the types: a model and a runner are functions.
-use Prim.Native.Nat.{ℕ, _+_, _*_, _<_, _≤_}
-use mathlib.Core.Bool.{Bool, true, false, cond, _||_}
+use Prim.Native.Nat.{ℕ, _+_, _<_, _≤_}
+use mathlib.Core.Bool.{true, false, cond, _||_}
 use mathlib.Core.List.{List, [], _∷_, _++_}
 use mathlib.Core.Path.{_≡_}
 use mathlib.Core.Logic.{_↔_}
@@ -14,7 +14,7 @@ use Rattle.kinds.specs.Kinds.{knownKind, bodyLength, inRange}
 use Rattle.kinds.specs.Body.{bodyAt}
 use Rattle.script.specs.Script.{Event, eventAt, events}
 use Rattle.script.specs.Run.{World, world}
-use Rattle.demands.specs.Model.{Reply, Model, runsBy}
+use Rattle.demands.specs.Model.{Model, runsBy}
 
 -- ---- one event alone
 

@@ -12,7 +12,6 @@ use Rattle.commands.specs.Table.{rowOf, fitsRule}
 use Rattle.chip.specs.declared.Chip.{Chip}
 use Rattle.chip.specs.declared.Core.{Core}
 use Rattle.chip.specs.declared.Frame.{Frame}
-use Rattle.chip.specs.declared.Job.{Job}
 use Rattle.chip.specs.declared.JobKind.{JobKind}
 use Rattle.chip.specs.declared.JobKind.the-variants.{WriteStatus, Program, SmallErase, SectorErase, ChipErase}
 use Rattle.chip.specs.Fields.{withWen, withSuspended, withWp, withDeep, withArmed, withJob, withSelected, withAddress, withPlace, withSlot, withCount}
@@ -20,7 +19,7 @@ use Rattle.chip.specs.Job.{isJob, hasCells, noJob}
 use Rattle.chip.specs.Chip.{whole, emptyFrame, blankLoad, running, statusByte}
 use Rattle.script.specs.Script.{Event}
 use Rattle.script.specs.Run.{World, world}
-use Rattle.demands.specs.Model.{Reply, Model, reply, event, sends, address, Good, AllGood, Fit, doesBy, runsBy}
+use Rattle.demands.specs.Model.{Model, reply, event, sends, address, Good, Fit, doesBy, runsBy}
 
 -- ---- words
 

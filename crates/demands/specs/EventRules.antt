@@ -1,8 +1,8 @@
 -- What Demand 2 says of single events, of ours: select, WP, power cut, exchange and deselect, and what a verdict does.
-use Prim.Native.Nat.{ℕ, _+_, _%_, _<_, _≤_, zero-le}
+use Prim.Native.Nat.{ℕ, _≤_, zero-le}
 use mathlib.Core.Bool.{Bool, true, false, cond, _&&_}
 use mathlib.Core.List.{List, [], _∷_}
-use mathlib.Core.Path.{_≡_, refl, sym, ap, subst, _∙_}
+use mathlib.Core.Path.{_≡_, refl, sym, ap, _∙_}
 use native.Mathlib.Omega.{arith}
 use lib.Dec.{eqb, leb}
 use lib.ListN.{length, getD}
@@ -15,23 +15,21 @@ use Rattle.chip.specs.declared.Chip.{Chip}
 use Rattle.chip.specs.declared.Core.{Core}
 use Rattle.chip.specs.declared.Frame.{Frame}
 use Rattle.chip.specs.declared.JobKind.{JobKind}
-use Rattle.chip.specs.declared.JobKind.the-variants.{WriteStatus, Program, SmallErase, SectorErase, ChipErase}
-use Rattle.chip.specs.declared.Record.the-variants.{Verdict}
-use Rattle.chip.specs.Fields.{withWen, withSuspended, withDeep, withArmed, withJob, withSelected, withWp}
-use Rattle.chip.specs.Job.{noJob}
+use Rattle.chip.specs.declared.JobKind.the-variants.{Program, SmallErase, SectorErase}
+use Rattle.chip.specs.Fields.{withSuspended, withArmed, withJob, withSelected, withWp}
 use Rattle.chip.specs.Chip.{whole, emptyFrame, blankLoad}
 use Rattle.legal.specs.Legal.{isEmpty}
 use Rattle.legal.specs.Legality.{LegalChip, chip-facts, unbegun-empty}
-use Rattle.kinds.specs.Kinds.{knownKind, knownIn, kindRow, kindRowIn, inRange}
+use Rattle.kinds.specs.Kinds.{knownKind, knownIn, kindRow, kindRowIn}
 use Rattle.frame.specs.Frame.{judge, opened, Exchange, exchanged}
 use Rattle.frame.specs.Laws.{exchanged-unselected, exchanged-opcode}
 use Rattle.verdict.specs.Verdict.{jobOf, startOf, verdict}
 use Rattle.verdict.specs.Effect.{instantly, acted, settled, heldAfter}
 use Rattle.verdict.specs.Laws.{acted-nothing, held-stays}
-use Rattle.event.specs.Event.{Outcome, settleExchange, closes, deselect, applied}
+use Rattle.event.specs.Event.{settleExchange, closes, deselect, applied}
 use Rattle.event.specs.Laws.{deselect-unselected, deselect-selected}
 use Rattle.demands.specs.Model.{Reply, reply, ours, event, Good, Fit}
-use Rattle.demands.specs.Demand2.{Closing, on-a-byte, inside-a-byte, stopOf, verdictOf, Ending, After, AtOnce, DoneAtOnce, rounded, Begun, JobsBegun, OtherVerdicts, Closes, poweredUp}
+use Rattle.demands.specs.Demand2.{Closing, on-a-byte, inside-a-byte, stopOf, Ending, After, DoneAtOnce, rounded, Begun, JobsBegun, OtherVerdicts, Closes, poweredUp}
 use Rattle.demands.specs.Ours.{told, done-as}
 use Rattle.demands.specs.Verdicts.{verdict-as}
 

@@ -1,5 +1,5 @@
 -- Ten worked examples, P1 to P10, proved of the definitions: each a claim, all of them rows under one theorem, `worked-examples`.
-use Prim.Native.Nat.{ℕ, zero, suc, _+_, _%_, _<_, _≤_, zero-le}
+use Prim.Native.Nat.{ℕ, zero, suc, _%_, _<_, _≤_, zero-le}
 use mathlib.Core.Bool.{Bool, true, false}
 use mathlib.Core.List.{List, [], _∷_, _++_}
 use mathlib.Core.Path.{_≡_, refl, sym, ap, subst, _∙_}

@@ -1,28 +1,26 @@
 -- Which states are legal, and what a fresh one is, in the rule book's words and numbers (RULES, Legal states; Status). Demand 1's refusal 2 is about these.
 use Prim.Native.Nat.{ℕ, _+_, _*_, _/_, _%_, _^_, _<_, _≤_}
-use mathlib.Core.Bool.{Bool, true, false, cond, not, _&&_, _||_, false≢true, true≢false}
+use mathlib.Core.Bool.{Bool, true, false, cond, not, _&&_, _||_, false≢true}
 use mathlib.Core.List.{List, [], _∷_}
 use mathlib.Core.Path.{_≡_, refl, sym, ap, subst, _∙_}
 use mathlib.Core.Logic.{_↔_}
 use native.Mathlib.Nat.{mul-one, mul-zero}
 use native.Mathlib.Decide.{ℕ-discrete}
 use native.Mathlib.Omega.{arith}
-use lib.Dec.{eqb, ltb, leb}
-use lib.ListN.{length, getD}
+use lib.Dec.{eqb, leb}
 use borrow.Author.Tests.{eq-eqb, ne-eqb, eqb-true, le-leb, leb-true}
 use Rattle.cells.specs.Choice.{cond-yes, cond-no, and-left, and-right, and-both}
 use Rattle.part.specs.Part.{permitted, sectorsIn, lengthOf}
 use Rattle.part.specs.Laws.{permitted-whole}
 use Rattle.chip.specs.declared.Chip.{Chip}
-use Rattle.chip.specs.declared.Core.{Core}
 use Rattle.chip.specs.declared.Frame.{Frame}
 use Rattle.chip.specs.declared.Job.{Job}
 use Rattle.chip.specs.declared.JobKind.{JobKind}
 use Rattle.chip.specs.declared.JobKind.the-variants.{Idle, WriteStatus, Program, SmallErase, SectorErase, ChipErase}
 use Rattle.chip.specs.Job.{isJob, hasCells, total, noJob}
 use Rattle.chip.specs.Chip.{emptyFrame, blankLoad, statusByte, fresh}
-use Rattle.legal.specs.Legal.{isEmpty, isBlank, placed, tidy, judgementKnown, readPlaces, legal}
-use Rattle.legal.specs.Legality.{LegalCore, LegalFrame, LegalChip, chip-facts, chip-legal}
+use Rattle.legal.specs.Legal.{isEmpty, isBlank, placed, tidy, judgementKnown, legal}
+use Rattle.legal.specs.Legality.{LegalCore, LegalChip, chip-facts, chip-legal}
 use Rattle.demands.specs.Demand2.{among}
 use Rattle.demands.specs.Verdicts.{five-tests}
 use Rattle.demands.specs.EventRules.{empty-frame-is}

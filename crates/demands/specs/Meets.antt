@@ -1,21 +1,17 @@
 -- Ours meets the three demands, and nothing else does: what the demands leave open is nothing.
 use Prim.Native.Nat.{ℕ}
-use mathlib.Core.Bool.{Bool, true, false, _||_, false≢true}
-use mathlib.Core.List.{List, [], _∷_}
-use mathlib.Core.Path.{_≡_, refl, sym, ap, subst, _∙_}
+use mathlib.Core.Bool.{true, false, _||_, false≢true}
+use mathlib.Core.List.{List}
+use mathlib.Core.Path.{_≡_, refl, sym, subst, _∙_}
 use native.Mathlib.Decide.{ℕ-discrete}
 use native.Mathlib.Omega.{arith}
 use lib.Dec.{eqb}
 use lib.ListN.{length}
 use borrow.Author.Tests.{ne-eqb}
 use Rattle.chip.specs.declared.Chip.{Chip}
-use Rattle.script.specs.Script.{events}
-use Rattle.script.specs.Run.{World, world}
-use Rattle.script.specs.Run as Run
 use Rattle.script.specs.Laws as ScriptLaws
-use Rattle.demands.specs.Model.{Model, ours, runsBy}
+use Rattle.demands.specs.Model.{Model, ours}
 use Rattle.demands.specs.Demand1.{Demand1Run, Runner, RunReply, RunRefusedWhen}
-use Rattle.demands.specs.Demand3.{Demand3}
 use Rattle.demands.specs.Refusals.{run-numbers}
 use Rattle.demands.specs.Meets1.{meets-1, ourRun, meets-1-run}
 use Rattle.demands.specs.Meets2.{meets-2}

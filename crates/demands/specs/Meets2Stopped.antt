@@ -1,15 +1,13 @@
 -- Demand 2 of ours: a frame that is stopped at its opcode byte floats to its end, and its verdict is what stopped it.
 use Prim.Native.Nat.{ℕ, _+_, _%_, _≤_}
-use mathlib.Core.Bool.{Bool, true, false}
+use mathlib.Core.Bool.{Bool, true}
 use mathlib.Core.List.{List, [], _∷_}
 use mathlib.Core.Path.{_≡_, refl, sym, ap, subst, _∙_}
 use native.Mathlib.Omega.{arith}
 use lib.Dec.{ltb}
 use lib.ListN.{length}
-use borrow.Author.Tests.{le-leb}
-use Rattle.cells.specs.Choice.{cond-either, and-both}
+use Rattle.cells.specs.Choice.{cond-either}
 use Rattle.part.specs.Part.{Setting, settingOf}
-use Rattle.kinds.specs.Kinds.{knownIn, knownKind, kindRowIn, kindRow}
 use Rattle.chip.specs.declared.Core.{Core}
 use Rattle.chip.specs.declared.Frame.{Frame}
 use Rattle.chip.specs.declared.Record.the-variants.{Floating}
@@ -20,8 +18,8 @@ use Rattle.verdict.specs.Verdict.{verdict}
 use Rattle.event.specs.Event.{Outcome, applied}
 use Rattle.event.specs.Laws.{deselect-selected}
 use Rattle.script.specs.Run.{World, does}
-use Rattle.demands.specs.Model.{Reply, ours, event, Good, runsBy}
-use Rattle.demands.specs.Demand2.{AllBytes, bytesOf, Closing, on-a-byte, inside-a-byte, opened, stopOf, StoppedFrame}
+use Rattle.demands.specs.Model.{Reply, ours, event, runsBy}
+use Rattle.demands.specs.Demand2.{AllBytes, bytesOf, Closing, opened, stopOf, StoppedFrame}
 use Rattle.demands.specs.Verdicts.{verdict-judged}
 use Rattle.demands.specs.EventRules.{closing-good, closing-applied}
 use Rattle.demands.specs.Inside.{GoesOn}

@@ -5,12 +5,9 @@ use mathlib.Core.List.{List, [], _∷_}
 use mathlib.Core.Path.{_≡_, refl, sym, ap, subst, _∙_}
 use mathlib.Core.Logic.{⊎-elim}
 use native.Mathlib.Omega.{arith}
-use lib.Dec.{leb}
 use lib.ListN.{length, getD}
-use borrow.Author.Tests.{le-leb}
-use Rattle.cells.specs.Choice.{and-both}
 use Rattle.part.specs.Part.{Setting, settingOf}
-use Rattle.kinds.specs.Kinds.{knownIn, kindRowIn, knownKind, kindRow, inRange}
+use Rattle.kinds.specs.Kinds.{knownIn, kindRowIn, knownKind, kindRow}
 use Rattle.chip.specs.declared.Chip.{Chip}
 use Rattle.chip.specs.declared.Job.{Job}
 use Rattle.chip.specs.declared.JobKind.{JobKind}
@@ -22,7 +19,7 @@ use Rattle.event.specs.Event.{applied}
 use Rattle.script.specs.Script.{Event}
 use Rattle.script.specs.Run.{World, world, does, runs}
 use Rattle.demands.specs.Model.{Reply, ours, reply, event, Good, AllGood, Fit, doesBy, onwardBy, runsBy, workingTicks, workedBy}
-use Rattle.demands.specs.Demand2.{Ending, Closing, on-a-byte, inside-a-byte, JobsBegun, poweredUp}
+use Rattle.demands.specs.Demand2.{Ending, poweredUp}
 use Rattle.demands.specs.Demand3.{Started, UnderWay, AllSpare, NoneEnables, stepsOf, Outlook, Spared, LeavesSteps, resetCore, Demand3}
 use Rattle.demands.specs.Ours.{fit-next, runs-ours, fit-runs, ticks-ours, worked-ours}
 use Rattle.demands.specs.Life.{ClosedWith, says-closed, closed-memory, two-starts, reset-drops, does-ours, says-ours, all-spare-ours, event-rests-cells, OffWithoutJob, off-event}

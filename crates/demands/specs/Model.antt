@@ -1,9 +1,9 @@
 -- A model of the part: what it does at one event. A demand is a property of models (`Demand1`, `Demand2`, `Demand3`); `ours` is the model that the engine's
 -- contract describes, and `Refuted` has wrong ones.
 use Prim.Native.Nat.{ℕ, _+_, _/_, _%_, _≤_, _-_, min}
-use mathlib.Core.Bool.{Bool, true, false, cond}
+use mathlib.Core.Bool.{true, cond}
 use mathlib.Core.List.{List, [], _∷_, _++_}
-use mathlib.Core.Path.{_≡_, refl, sym, ap, _∙_}
+use mathlib.Core.Path.{_≡_}
 use lib.Dec.{eqb}
 use lib.ListN.{length}
 use Rattle.part.specs.Part.{sectorsIn}

@@ -8,7 +8,7 @@ use native.Mathlib.Omega.{arith}
 use lib.Dec.{eqb, leb}
 use lib.ListN.{length, replicate}
 use borrow.Author.Tests.{eqb-true, lt-leb, leb-true}
-use Rattle.cells.specs.Choice.{cond-no, and-left, and-right, and-four, not-so}
+use Rattle.cells.specs.Choice.{cond-no, and-left, and-right, not-so}
 use Rattle.part.specs.Part.{Setting, sectorsIn, settingOf}
 use Rattle.chip.specs.declared.Chip.{Chip}
 use Rattle.chip.specs.declared.Core.{Core}

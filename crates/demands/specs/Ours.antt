@@ -1,5 +1,5 @@
 -- Ours, where nothing refuses: on a legal chip a good event does what the definitions say, and a row of them what `runs` says.
-use Prim.Native.Nat.{ℕ, zero, suc, _+_, _%_, _<_, _≤_, _-_, min, max}
+use Prim.Native.Nat.{ℕ, _+_, _%_, _<_, _-_, min}
 use mathlib.Core.Bool.{Bool, true, false, cond}
 use mathlib.Core.List.{List, [], _∷_, _++_}
 use mathlib.Core.Path.{_≡_, refl, sym, ap, subst, _∙_}
@@ -8,30 +8,28 @@ use native.Mathlib.Omega.{arith}
 use lib.Dec.{eqb}
 use lib.ListN.{length}
 use borrow.Author.Tests.{eqb-true, eqb-false}
-use Rattle.cells.specs.Choice.{cond-yes, cond-no, cond-either}
+use Rattle.cells.specs.Choice.{cond-either}
 use Rattle.part.specs.Part.{Setting, sectorsIn, settingOf}
 use Rattle.chip.specs.declared.Chip.{Chip}
 use Rattle.chip.specs.declared.Core.{Core}
-use Rattle.chip.specs.Job.{isJob, total}
+use Rattle.chip.specs.Job.{total}
 use Rattle.chip.specs.Chip.{running}
 use Rattle.chip.specs.Record.{recordBytes}
 use Rattle.legal.specs.Legal.{legal}
 use Rattle.legal.specs.Legality.{chip-facts, LegalCore}
-use Rattle.kinds.specs.Kinds.{TICK, TICKS, kindRow, kindRowIn, knownKind, inRange}
+use Rattle.kinds.specs.Kinds.{kindRow, kindRowIn, knownKind, inRange}
 use Rattle.job.specs.Tick.{worked, ticksLeft}
 use Rattle.job.specs.Laws.{worked-rest, worked-go, worked-over}
 use Rattle.job.specs.Legality.{running-job}
-use Rattle.event.specs.declared.Answer.{Answer}
 use Rattle.event.specs.Event.{Outcome, exchangeByte, tick, setWp, applied}
 use Rattle.event.specs.Alone.{bodyUsed, refusal, happens}
-use Rattle.event.specs.Alone as Alone
 use Rattle.event.specs.Laws.{applied-each, answer-done, memory-done, said-done}
 use Rattle.event.specs.Legality.{legal-applied}
 use Rattle.event.specs.Keeps.{length-applied, works-none}
 use Rattle.script.specs.Script.{Event}
 use Rattle.script.specs.Run.{World, world, does, onward, runs}
 use Rattle.demands.specs.Refusals.{event-refused-when}
-use Rattle.demands.specs.Model.{Reply, reply, replied, ours, Good, AllGood, Fit, doesBy, onwardBy, runsBy, finds, workingTicks, workedBy}
+use Rattle.demands.specs.Model.{Reply, reply, replied, ours, Good, AllGood, Fit, onwardBy, runsBy, finds, workingTicks, workedBy}
 use Rattle.demands.specs.Stepwise as Stepwise
 
 -- ---- one event

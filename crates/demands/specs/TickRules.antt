@@ -1,5 +1,5 @@
 -- What Demand 3 says of ticks, of ours: idle ones do nothing, and all of them leave what is not the job's.
-use Prim.Native.Nat.{ℕ, _<_, _≤_}
+use Prim.Native.Nat.{ℕ, _<_}
 use mathlib.Core.Bool.{Bool, true, false}
 use mathlib.Core.List.{List, []}
 use mathlib.Core.Path.{_≡_, refl, sym, ap, subst, _∙_}

@@ -1,7 +1,7 @@
 -- The verdict of the definitions is that of Demand 2's list: the job part, command by command, and the list above it.
-use Prim.Native.Nat.{ℕ, _*_, _/_, _%_, _-_}
+use Prim.Native.Nat.{ℕ, _/_, _%_}
 use mathlib.Core.Bool.{Bool, true, false, cond, not, _&&_, _||_}
-use mathlib.Core.List.{List, [], _∷_}
+use mathlib.Core.List.{[], _∷_}
 use mathlib.Core.Path.{_≡_, refl, sym, ap, subst, _∙_}
 use native.Mathlib.Decide.{ℕ-discrete}
 use native.Mathlib.Omega.{arith}
@@ -14,12 +14,11 @@ use Rattle.part.specs.Laws.{permitted-whole}
 use Rattle.commands.specs.Table.{rowOf, fitsRule, isRead, isProgram}
 use Rattle.chip.specs.declared.Core.{Core}
 use Rattle.chip.specs.declared.Frame.{Frame}
-use Rattle.chip.specs.declared.JobKind.{JobKind}
 use Rattle.chip.specs.Job.{isJob, hasCells}
 use Rattle.chip.specs.Chip.{running}
 use Rattle.frame.specs.Frame.{judge}
-use Rattle.verdict.specs.Verdict.{jobOf, startOf, jobAsked, targetProtected, pointless, jobVerdict, commandVerdict, listed, verdict}
-use Rattle.demands.specs.Demand2.{among, test, firstOf, stopOf, inOneSector, ofTheChip, changesCells, beginsJob, rulesList, verdictOf}
+use Rattle.verdict.specs.Verdict.{jobOf, startOf, pointless, jobVerdict, commandVerdict, listed, verdict}
+use Rattle.demands.specs.Demand2.{among, inOneSector, ofTheChip, changesCells, beginsJob, verdictOf}
 
 -- ---- the commands that begin a job
 

@@ -1,7 +1,7 @@
 -- Each wrong model is refuted by a demand: a theorem that says so, in the order of `Wrong`. A demand is asked at one closed moment, and what it says there computes
 -- to something false of that model.
-use Prim.Native.Nat.{ℕ, zero, suc, _+_, _%_}
-use mathlib.Core.Bool.{Bool, true, false, false≢true, true≢false}
+use Prim.Native.Nat.{ℕ, zero, suc, _%_}
+use mathlib.Core.Bool.{true, false, false≢true}
 use mathlib.Core.List.{List, [], _∷_, _++_}
 use mathlib.Core.Path.{_≡_, refl, sym, ap, _∙_}
 use native.Mathlib.Omega.{arith}
@@ -14,10 +14,8 @@ use Rattle.kinds.specs.Kinds.{knownIn, kindRowIn, knownKind, kindRow, inRange}
 use Rattle.chip.specs.declared.Chip.{Chip}
 use Rattle.chip.specs.declared.Core.{Core}
 use Rattle.chip.specs.declared.Frame.{Frame}
-use Rattle.chip.specs.declared.Job.{Job}
-use Rattle.chip.specs.declared.JobKind.{JobKind}
 use Rattle.chip.specs.declared.JobKind.the-variants.{Program, SmallErase}
-use Rattle.chip.specs.Fields.{withWen, withSuspended, withLevel, withSrwp, withWp, withJob, withJudgement}
+use Rattle.chip.specs.Fields.{withWen, withSuspended, withLevel, withSrwp, withWp, withJob}
 use Rattle.chip.specs.Job.{isJob}
 use Rattle.chip.specs.Chip.{whole, resting, emptyFrame, blankLoad, statusByte}
 use Rattle.legal.specs.Legal.{legalJob, legalCore, legalFrame, isEmpty, isBlank, legal}
@@ -29,10 +27,10 @@ use Rattle.event.specs.Event.{applied}
 use Rattle.event.specs.Alone.{bodyUsed, refusal, happens, answerOf, memoryOf}
 use Rattle.script.specs.Script.{Event}
 use Rattle.script.specs.Run.{World, world}
-use Rattle.demands.specs.Model.{Reply, Model, event, sends, address, AllGood, Fit, runsBy, workedBy}
+use Rattle.demands.specs.Model.{Model, event, sends, address, AllGood, Fit, runsBy, workedBy}
 use Rattle.demands.specs.Demand1.{Demand1}
-use Rattle.demands.specs.Demand2.{Demand2, Ending, Quiet, Ready, AllInside, bytesOf, AllBytes, on-a-byte, inside-a-byte}
-use Rattle.demands.specs.Demand3.{Demand3, UnderWay, Spares, AllSpare, Spared}
+use Rattle.demands.specs.Demand2.{Demand2, Ending, Quiet, Ready, AllInside, bytesOf, AllBytes, on-a-byte}
+use Rattle.demands.specs.Demand3.{Demand3, Spares, AllSpare, Spared}
 use Rattle.refuted.specs.Wrong.{ignoresAll, refusesEvents, refusesCommands, readsBlank, ticksIdle, wholeJobAtOnce, inventsTicks, laysFromPageStart, laysFromAddress, storesBytes, nineTenCostWen, spoiltLoads, answersLate, firstReads, firstLoads, secondLoads, secondWen, thirdErases, thirdSuspends}
 
 -- ---- the moments
