@@ -1,5 +1,4 @@
--- Each wrong model is refuted by a demand: a theorem that says so, in the order of `Wrong`. A demand is asked at one closed moment, and what it says there computes
--- to something false of that model.
+-- Each wrong model of `Wrong` is refuted by a demand. A demand is asked at one closed moment, and what it says there computes to something false of that model.
 use Prim.Native.Nat.{ℕ, zero, suc, _%_}
 use mathlib.Core.Bool.{true, false, false≢true}
 use mathlib.Core.List.{List, [], _∷_, _++_}
@@ -17,14 +16,14 @@ use Rattle.chip.specs.declared.Frame.{Frame}
 use Rattle.chip.specs.declared.JobKind.the-variants.{Program, SmallErase}
 use Rattle.chip.specs.Fields.{withWen, withSuspended, withLevel, withSrwp, withWp, withJob}
 use Rattle.chip.specs.Job.{isJob}
-use Rattle.chip.specs.Chip.{whole, resting, emptyFrame, blankLoad, statusByte}
+use Rattle.chip.specs.Chip.{whole, resting, emptyFrame, blankLoad, running}
 use Rattle.legal.specs.Legal.{legalJob, legalCore, legalFrame, isEmpty, isBlank, legal}
 use Rattle.job.specs.Tick.{tickCore, ticksCore, tickLoad, ticksLoad, tickMemory, ticksMemory, worked}
 use Rattle.frame.specs.Frame.{judge, taken, exchanged}
 use Rattle.verdict.specs.Verdict.{jobOf, jobVerdict, commandVerdict, listed, verdict}
 use Rattle.verdict.specs.Effect.{instantly, acted, settled, heldAfter}
 use Rattle.event.specs.Event.{applied}
-use Rattle.event.specs.Alone.{bodyUsed, refusal, happens, answerOf, memoryOf}
+use Rattle.event.specs.Alone.{bodyUsed, refusal, happens, answerOf, memoryOf, saidOf}
 use Rattle.script.specs.Script.{Event}
 use Rattle.script.specs.Run.{World, world}
 use Rattle.demands.specs.Model.{Model, event, sends, address, AllGood, Fit, runsBy, workedBy}
@@ -50,131 +49,44 @@ unselected k = whole k emptyFrame blankLoad blankLoad
 abbrev within : Core → Frame → Chip
 within k f = whole k f blankLoad blankLoad
 
--- cores: WEN on; a small sector erase at address 0, this many steps done
+-- cores: WEN on; a small sector erase at address 0, this many steps done; a program at address 0
 abbrev enabled : Core
 enabled = withWen true resting
 
 abbrev erasing : ℕ → Core
 erasing d = withJob (record { kind = SmallErase; start = 0; done = d }) enabled
 
--- a chip, a memory and an area with which nothing is wrong; a frame at its deselect
-abbrev Fitting : Chip → ℕ → Type 0
-Fitting c x = Fit c (cells x) []
-
-fitting : (c : Chip) (x : ℕ) → legal c 65536 ≡ true → Fitting c x
-fitting c x l = record { state-legal = ap (legal c) (length-cells x) ∙ l; area-short = omega arith }
-  where
-    length-cells : (x : ℕ) → length (cells x) ≡ 65536
-    length-cells x = refl
-
-ending : (c : Chip) → legal c 65536 ≡ true → c .frame .selected ≡ true → Ending c (cells 0) [] 0x03 0 false
-ending c l s = record { fit = fitting c 0 l; selected = s; closing = on-a-byte 0 }
-
-quiet : Quiet (unselected resting) (cells 0) []
-unfolding answerOf memoryOf happens refusal bodyUsed legal legalCore legalJob legalFrame isEmpty isBlank permitted knownKind knownIn kindRow kindRowIn applied exchanged taken judge rowOf rowIn isProgram verdict listed isRead commandVerdict jobVerdict jobOf fitsRule settled acted heldAfter instantly protectedSector protectedCount ticksCore tickCore tickLoad ticksLoad tickMemory ticksMemory worked sweep runsBy workedBy AllGood AllSpare AllInside AllBytes bytesOf statusByte
-quiet = record { fit = fitting (unselected resting) 0 refl; resting = refl; awake = refl; unselected = refl }
-
-ready : Ready (unselected enabled) (cells 0) []
-unfolding answerOf memoryOf happens refusal bodyUsed legal legalCore legalJob legalFrame isEmpty isBlank permitted knownKind knownIn kindRow kindRowIn applied exchanged taken judge rowOf rowIn isProgram verdict listed isRead commandVerdict jobVerdict jobOf fitsRule settled acted heldAfter instantly protectedSector protectedCount ticksCore tickCore tickLoad ticksLoad tickMemory ticksMemory worked sweep runsBy workedBy AllGood AllSpare AllInside AllBytes bytesOf statusByte
-ready = record { quiet = record { fit = fitting (unselected enabled) 0 refl; resting = refl; awake = refl; unselected = refl }; idle = refl }
-
--- records that are the same have the same second byte; and silence is no record
-second-byte : {t t′ v v′ : ℕ} → t ∷ v ∷ [] ≡ t′ ∷ v′ ∷ [] → v ≡ v′
-second-byte e = ap (λ (says : List ℕ). getD says 1 0) e
-
-first-byte : {t t′ : ℕ} {r r′ : List ℕ} → t ∷ r ≡ t′ ∷ r′ → t ≡ t′
-first-byte e = ap (λ (says : List ℕ). getD says 0 0) e
-
-silent : {t : ℕ} {r : List ℕ} → [] ≡ t ∷ r → ⊥
-silent e = absurd (omega (arith, ap (λ (says : List ℕ). length says) e))
-
--- ticks spare every job: they are no power cut, and a model that says nothing to them says no verdict
-ticks-spare : (M : Model) (n : ℕ) (w : World) → M (w .chip) (w .memory) [] 0x05 n .says ≡ [] → Spares M [] (event 0x05 n) w
-ticks-spare M n w says-nothing = record { no-power-cut = λ e. omega arith; no-reset = λ e r. silent (sym says-nothing ∙ e); begins-none = λ e. silent (sym says-nothing ∙ e) }
-
--- n ticks of a job that stands at step d of a memory of zeros
-abbrev erasure : World
-erasure = world (unselected (erasing 0)) (cells 0) [] 0
-
-erasure-ticked : (M : Model) (n : ℕ) → inRange 0x05 n ≡ true → M (erasure .chip) (erasure .memory) [] 0x05 n .says ≡ [] → Spared M [] SmallErase 0 blankLoad 0 erasure (event 0x05 n ∷ [])
-unfolding answerOf memoryOf happens refusal bodyUsed legal legalCore legalJob legalFrame isEmpty isBlank permitted knownKind knownIn kindRow kindRowIn applied exchanged taken judge rowOf rowIn isProgram verdict listed isRead commandVerdict jobVerdict jobOf fitsRule settled acted heldAfter instantly protectedSector protectedCount ticksCore tickCore tickLoad ticksLoad tickMemory ticksMemory worked sweep runsBy workedBy AllGood AllSpare AllInside AllBytes bytesOf statusByte
-erasure-ticked M n ranged says-nothing =
-    record {
-      under-way = record { fit = fitting (unselected (erasing 0)) 0 refl; a-job = refl; job-is = refl; load-is = refl };
-      good = ((refl, ranged), tt);
-      spared = (ticks-spare M n erasure says-nothing, tt);
-    }
-
--- a program of 0Fh, begun on a memory of F0h, and n ticks of it
 abbrev programming : Core
 programming = withJob (record { kind = Program; start = 0; done = 0 }) enabled
 
+-- a load of 0Fh
 abbrev low : List ℕ
 low = replicate 256 0x0F
+
+-- worlds: an erase begun on a memory of zeros; a program of 0Fh begun on a memory of F0h
+abbrev erasure : World
+erasure = world (unselected (erasing 0)) (cells 0) [] 0
 
 abbrev program : World
 program = world (whole programming emptyFrame blankLoad low) (cells 0xF0) [] 0
 
-program-ticked : (M : Model) (n : ℕ) → inRange 0x05 n ≡ true → M (program .chip) (program .memory) [] 0x05 n .says ≡ [] → Spared M [] Program 0 low 0 program (event 0x05 n ∷ [])
-unfolding answerOf memoryOf happens refusal bodyUsed legal legalCore legalJob legalFrame isEmpty isBlank permitted knownKind knownIn kindRow kindRowIn applied exchanged taken judge rowOf rowIn isProgram verdict listed isRead commandVerdict jobVerdict jobOf fitsRule settled acted heldAfter instantly protectedSector protectedCount ticksCore tickCore tickLoad ticksLoad tickMemory ticksMemory worked sweep runsBy workedBy AllGood AllSpare AllInside AllBytes bytesOf statusByte
-program-ticked M n ranged says-nothing =
-    record {
-      under-way = record { fit = fitting (program .chip) 0xF0 refl; a-job = refl; job-is = refl; load-is = refl };
-      good = ((refl, ranged), tt);
-      spared = (ticks-spare M n program says-nothing, tt);
-    }
+-- chips at a deselect: 06h; 20h; 20h and 02h where all is protected; 01h where the status is locked; B0h in an erase
+abbrev enabling : Chip
+enabling = within resting (sent 0x06 0 1)
 
--- ---- models that are wrong as a whole
+abbrev beginning : Chip
+beginning = within enabled (sent 0x20 0 4)
 
--- Ignoring all: Demand 2's verdict 1, a write enable that is done and does not set WEN; and its verdict 2, an erase that is begun and is not there.
-pub ignores-all-refuted : Demand2 ignoresAll → ⊥
-unfolding answerOf memoryOf happens refusal bodyUsed legal legalCore legalJob legalFrame isEmpty isBlank permitted knownKind knownIn kindRow kindRowIn applied exchanged taken judge rowOf rowIn isProgram verdict listed isRead commandVerdict jobVerdict jobOf fitsRule settled acted heldAfter instantly protectedSector protectedCount ticksCore tickCore tickLoad ticksLoad tickMemory ticksMemory worked sweep runsBy workedBy AllGood AllSpare AllInside AllBytes bytesOf statusByte
-ignores-all-refuted d = false≢true (ap (λ (k : Core). k .wen) (d .done-at-once .0 (within resting (sent 0x06 0 1)) (cells 0) [] 0x03 0 false (ending (within resting (sent 0x06 0 1)) refl refl) refl refl .0))
+abbrev protected : ℕ → ℕ → Chip
+protected opcode count = within (withLevel 7 enabled) (sent opcode 0 count)
 
-pub ignores-jobs-refuted : Demand2 ignoresAll → ⊥
-unfolding answerOf memoryOf happens refusal bodyUsed legal legalCore legalJob legalFrame isEmpty isBlank permitted knownKind knownIn kindRow kindRowIn applied exchanged taken judge rowOf rowIn isProgram verdict listed isRead commandVerdict jobVerdict jobOf fitsRule settled acted heldAfter instantly protectedSector protectedCount ticksCore tickCore tickLoad ticksLoad tickMemory ticksMemory worked sweep runsBy workedBy AllGood AllSpare AllInside AllBytes bytesOf statusByte
-ignores-jobs-refuted d = false≢true (ap (λ (k : Core). isJob (k .job .kind)) (d .jobs-begun .1 .1 .1 .0 (within enabled (sent 0x20 0 4)) (cells 0) [] 0x03 0 false (ending (within enabled (sent 0x20 0 4)) refl refl) refl refl .0))
+abbrev locked : Chip
+locked = within (withSrwp true (withWp false enabled)) (sent 0x01 0xFF 2)
 
--- Refusing all: Demand 1, a tick on a fresh chip is refused by nothing; Demand 2's verdicts 1 and 2.
-pub refuses-events-refuted : Demand1 refusesEvents → ⊥
-unfolding answerOf memoryOf happens refusal bodyUsed legal legalCore legalJob legalFrame isEmpty isBlank permitted knownKind knownIn kindRow kindRowIn applied exchanged taken judge rowOf rowIn isProgram verdict listed isRead commandVerdict jobVerdict jobOf fitsRule settled acted heldAfter instantly protectedSector protectedCount ticksCore tickCore tickLoad ticksLoad tickMemory ticksMemory worked sweep runsBy workedBy AllGood AllSpare AllInside AllBytes bytesOf statusByte
-refuses-events-refuted d = absurd (false≢true (sym (d .numbers (unselected resting) (cells 0) [] 0x04 0 .five .0 refl .3)))
+abbrev suspending : Chip
+suspending = within (erasing 1) (sent 0xB0 0 1)
 
-pub refuses-commands-refuted : Demand2 refusesCommands → ⊥
-unfolding answerOf memoryOf happens refusal bodyUsed legal legalCore legalJob legalFrame isEmpty isBlank permitted knownKind knownIn kindRow kindRowIn applied exchanged taken judge rowOf rowIn isProgram verdict listed isRead commandVerdict jobVerdict jobOf fitsRule settled acted heldAfter instantly protectedSector protectedCount ticksCore tickCore tickLoad ticksLoad tickMemory ticksMemory worked sweep runsBy workedBy AllGood AllSpare AllInside AllBytes bytesOf statusByte
-refuses-commands-refuted d = absurd (omega (arith, second-byte (d .closes (within resting (sent 0x06 0 1)) (cells 0) [] 0x03 0 false (ending (within resting (sent 0x06 0 1)) refl refl) .says)))
-
-pub refuses-jobs-refuted : Demand2 refusesCommands → ⊥
-unfolding answerOf memoryOf happens refusal bodyUsed legal legalCore legalJob legalFrame isEmpty isBlank permitted knownKind knownIn kindRow kindRowIn applied exchanged taken judge rowOf rowIn isProgram verdict listed isRead commandVerdict jobVerdict jobOf fitsRule settled acted heldAfter instantly protectedSector protectedCount ticksCore tickCore tickLoad ticksLoad tickMemory ticksMemory worked sweep runsBy workedBy AllGood AllSpare AllInside AllBytes bytesOf statusByte
-refuses-jobs-refuted d = absurd (omega (arith, second-byte (d .closes (within enabled (sent 0x20 0 4)) (cells 0) [] 0x03 0 false (ending (within enabled (sent 0x20 0 4)) refl refl) .says)))
-
--- Reading FFh always: Demand 2's reads, cell 0 of a memory of zeros.
-pub reads-blank-refuted : Demand2 readsBlank → ⊥
-unfolding answerOf memoryOf happens refusal bodyUsed legal legalCore legalJob legalFrame isEmpty isBlank permitted knownKind knownIn kindRow kindRowIn applied exchanged taken judge rowOf rowIn isProgram verdict listed isRead commandVerdict jobVerdict jobOf fitsRule settled acted heldAfter instantly protectedSector protectedCount ticksCore tickCore tickLoad ticksLoad tickMemory ticksMemory worked sweep runsBy workedBy AllGood AllSpare AllInside AllBytes bytesOf statusByte
-reads-blank-refuted d = absurd (omega (arith, second-byte (d .cell-reads (unselected resting) (cells 0) [] quiet .low-power 0 (omega arith) .byte-driven [] tt 0 (omega arith))))
-
--- Ticks that change no cell: Demand 3's k steps, at k = 1; and its end image.
-pub ticks-idle-refuted : Demand3 ticksIdle → ⊥
-unfolding answerOf memoryOf happens refusal bodyUsed legal legalCore legalJob legalFrame isEmpty isBlank permitted knownKind knownIn kindRow kindRowIn applied exchanged taken judge rowOf rowIn isProgram verdict listed isRead commandVerdict jobVerdict jobOf fitsRule settled acted heldAfter instantly protectedSector protectedCount ticksCore tickCore tickLoad ticksLoad tickMemory ticksMemory worked sweep runsBy workedBy AllGood AllSpare AllInside AllBytes bytesOf statusByte
-ticks-idle-refuted d = absurd (omega (arith, ap (λ (m : List ℕ). getD m 0 0) (d .lives [] SmallErase 0 blankLoad 0 erasure (event 0x05 1 ∷ []) (erasure-ticked ticksIdle 1 refl refl) .memory-is)))
-
-pub ticks-idle-image-refuted : Demand3 ticksIdle → ⊥
-unfolding answerOf memoryOf happens refusal bodyUsed legal legalCore legalJob legalFrame isEmpty isBlank permitted knownKind knownIn kindRow kindRowIn applied exchanged taken judge rowOf rowIn isProgram verdict listed isRead commandVerdict jobVerdict jobOf fitsRule settled acted heldAfter instantly protectedSector protectedCount ticksCore tickCore tickLoad ticksLoad tickMemory ticksMemory worked sweep runsBy workedBy AllGood AllSpare AllInside AllBytes bytesOf statusByte image imageFrom
-ticks-idle-image-refuted d = absurd (omega (arith, ap (λ (m : List ℕ). getD m 0 0) (d .lives [] SmallErase 0 blankLoad 0 erasure (event 0x05 16 ∷ []) (erasure-ticked ticksIdle 16 refl refl) .whole-image refl refl)))
-
--- The whole job on its first tick: Demand 3 at k = 1, where cell 16 is still as it was.
-pub whole-job-refuted : Demand3 wholeJobAtOnce → ⊥
-unfolding answerOf memoryOf happens refusal bodyUsed legal legalCore legalJob legalFrame isEmpty isBlank permitted knownKind knownIn kindRow kindRowIn applied exchanged taken judge rowOf rowIn isProgram verdict listed isRead commandVerdict jobVerdict jobOf fitsRule settled acted heldAfter instantly protectedSector protectedCount ticksCore tickCore tickLoad ticksLoad tickMemory ticksMemory worked sweep runsBy workedBy AllGood AllSpare AllInside AllBytes bytesOf statusByte
-whole-job-refuted d = absurd (omega (arith, ap (λ (m : List ℕ). getD m 16 0) (d .lives [] Program 0 low 0 program (event 0x05 1 ∷ []) (program-ticked wholeJobAtOnce 1 refl refl) .memory-is)))
-
--- Invented working ticks: Demand 3's count.
-pub invents-ticks-refuted : Demand3 inventsTicks → ⊥
-unfolding answerOf memoryOf happens refusal bodyUsed legal legalCore legalJob legalFrame isEmpty isBlank permitted knownKind knownIn kindRow kindRowIn applied exchanged taken judge rowOf rowIn isProgram verdict listed isRead commandVerdict jobVerdict jobOf fitsRule settled acted heldAfter instantly protectedSector protectedCount ticksCore tickCore tickLoad ticksLoad tickMemory ticksMemory worked sweep runsBy workedBy AllGood AllSpare AllInside AllBytes bytesOf statusByte
-invents-ticks-refuted d = absurd (omega (arith, d .counts [] (event 0x05 1) erasure (fitting (unselected (erasing 0)) 0 refl) (refl, refl)))
-
--- ---- errors that look right
-
--- 260 data bytes for address 250, byte j worth j mod 251
+-- 260 data bytes, byte j worth j mod 251
 abbrev counted : ℕ → ℕ → List ℕ
 counted j zero = []
 counted j (suc n) = j % 251 ∷ counted (suc j) n
@@ -184,116 +96,186 @@ unfolding AllBytes
 all-bytes j zero = tt
 all-bytes j (suc n) = (omega arith, all-bytes (suc j) n)
 
--- Laying the last 256 bytes from the page's start, or from the address: Demand 2's load, byte 4 of 260, which stands at offset 254.
-pub lays-from-page-start-refuted : Demand2 laysFromPageStart → ⊥
-unfolding answerOf memoryOf happens refusal bodyUsed legal legalCore legalJob legalFrame isEmpty isBlank permitted knownKind knownIn kindRow kindRowIn applied exchanged taken judge rowOf rowIn isProgram verdict listed isRead commandVerdict jobVerdict jobOf fitsRule settled acted heldAfter instantly protectedSector protectedCount ticksCore tickCore tickLoad ticksLoad tickMemory ticksMemory worked sweep runsBy workedBy AllGood AllSpare AllInside AllBytes bytesOf statusByte
-lays-from-page-start-refuted d = absurd (omega (arith, d .jobs-from-bytes (unselected enabled) (cells 0) [] ready refl .program 0x02 250 0 (counted 1 259) refl refl (omega arith) (all-bytes 0 260) refl .1 .last-stay 4 (omega arith) (omega arith)))
+-- ---- with which nothing is wrong
 
-pub lays-from-address-refuted : Demand2 laysFromAddress → ⊥
-unfolding answerOf memoryOf happens refusal bodyUsed legal legalCore legalJob legalFrame isEmpty isBlank permitted knownKind knownIn kindRow kindRowIn applied exchanged taken judge rowOf rowIn isProgram verdict listed isRead commandVerdict jobVerdict jobOf fitsRule settled acted heldAfter instantly protectedSector protectedCount ticksCore tickCore tickLoad ticksLoad tickMemory ticksMemory worked sweep runsBy workedBy AllGood AllSpare AllInside AllBytes bytesOf statusByte
-lays-from-address-refuted d = absurd (omega (arith, d .jobs-from-bytes (unselected enabled) (cells 0) [] ready refl .program 0x02 250 0 (counted 1 259) refl refl (omega arith) (all-bytes 0 260) refl .1 .last-stay 4 (omega arith) (omega arith)))
+fitting : (c : Chip) (x : ℕ) → legal c 65536 ≡ true → Fit c (cells x) []
+fitting c x l = record { state-legal = ap (legal c) (length-cells x) ∙ l; area-short = omega arith }
+  where
+    length-cells : (x : ℕ) → length (cells x) ≡ 65536
+    length-cells x = refl
 
--- Storing the byte: Demand 3's k steps, at k = 1: 0Fh programmed over F0h.
-pub stores-bytes-refuted : Demand3 storesBytes → ⊥
-unfolding answerOf memoryOf happens refusal bodyUsed legal legalCore legalJob legalFrame isEmpty isBlank permitted knownKind knownIn kindRow kindRowIn applied exchanged taken judge rowOf rowIn isProgram verdict listed isRead commandVerdict jobVerdict jobOf fitsRule settled acted heldAfter instantly protectedSector protectedCount ticksCore tickCore tickLoad ticksLoad tickMemory ticksMemory worked sweep runsBy workedBy AllGood AllSpare AllInside AllBytes bytesOf statusByte
-stores-bytes-refuted d = absurd (omega (arith, ap (λ (m : List ℕ). getD m 0 0) (d .lives [] Program 0 low 0 program (event 0x05 1 ∷ []) (program-ticked storesBytes 1 refl refl) .memory-is)))
+ending : (c : Chip) → legal c 65536 ≡ true → c .frame .selected ≡ true → Ending c (cells 0) [] 0x03 0 false
+ending c l s = record { fit = fitting c 0 l; selected = s; closing = on-a-byte 0 }
 
--- Clearing WEN after verdict 9, and after 10: Demand 2's other verdicts.
-abbrev protected : Chip
-protected = within (withLevel 7 enabled) (sent 0x20 0 4)
+quiet : (k : Core) → legal (unselected k) 65536 ≡ true → running k ≡ false → k .deep ≡ false → Quiet (unselected k) (cells 0) []
+quiet k l r d = record { fit = fitting (unselected k) 0 l; resting = r; awake = d; unselected = refl }
 
-pub nine-costs-wen-refuted : Demand2 nineTenCostWen → ⊥
-unfolding answerOf memoryOf happens refusal bodyUsed legal legalCore legalJob legalFrame isEmpty isBlank permitted knownKind knownIn kindRow kindRowIn applied exchanged taken judge rowOf rowIn isProgram verdict listed isRead commandVerdict jobVerdict jobOf fitsRule settled acted heldAfter instantly protectedSector protectedCount ticksCore tickCore tickLoad ticksLoad tickMemory ticksMemory worked sweep runsBy workedBy AllGood AllSpare AllInside AllBytes bytesOf statusByte
-nine-costs-wen-refuted d = false≢true (ap (λ (k : Core). k .wen) (d .other-verdicts protected (cells 0) [] 0x03 0 false 9 (ending protected refl refl) refl (λ e. omega arith) (λ e. omega arith) .0))
+ready : Ready (unselected enabled) (cells 0) []
+unfolding legal legalCore legalJob legalFrame isEmpty isBlank permitted
+ready = record { quiet = quiet enabled refl refl refl; idle = refl }
 
-abbrev locked : Chip
-locked = within (withSrwp true (withWp false enabled)) (sent 0x01 0xFF 2)
+-- an event to which a model says this spares the job, if this is no verdict 2 and no done reset's
+spared-so : (M : Model) (e : Event) (w : World) (says : List ℕ) → (e .kind ≡ 0x07 → ⊥) → M (w .chip) (w .memory) [] (e .kind) (e .body) .says ≡ says → (says ≡ 0x82 ∷ 1 ∷ [] → w .chip .frame .opcode ≡ 0x99 → ⊥)
+    → (says ≡ 0x82 ∷ 2 ∷ [] → ⊥) → Spares M [] e w
+spared-so M e w says no-cut is not-reset begins-none = record { no-power-cut = no-cut; no-reset = λ x. not-reset (sym is ∙ x); begins-none = λ x. begins-none (sym is ∙ x) }
 
-pub ten-costs-wen-refuted : Demand2 nineTenCostWen → ⊥
-unfolding answerOf memoryOf happens refusal bodyUsed legal legalCore legalJob legalFrame isEmpty isBlank permitted knownKind knownIn kindRow kindRowIn applied exchanged taken judge rowOf rowIn isProgram verdict listed isRead commandVerdict jobVerdict jobOf fitsRule settled acted heldAfter instantly protectedSector protectedCount ticksCore tickCore tickLoad ticksLoad tickMemory ticksMemory worked sweep runsBy workedBy AllGood AllSpare AllInside AllBytes bytesOf statusByte
-ten-costs-wen-refuted d = false≢true (ap (λ (k : Core). k .wen) (d .other-verdicts locked (cells 0) [] 0x03 0 false 10 (ending locked refl refl) refl (λ e. omega arith) (λ e. omega arith) .0))
+-- records that are the same have the same bytes, and silence is no record
+first-byte : {t t′ : ℕ} {r r′ : List ℕ} → t ∷ r ≡ t′ ∷ r′ → t ≡ t′
+first-byte e = ap (λ (says : List ℕ). getD says 0 0) e
 
--- A spoiled frame's load: Demand 3's k steps. A program of 0Fh over F0h is suspended; a 02h frame of FFh ends loose; the job is resumed, and its first step takes
--- the bits that its own load has not.
+second-byte : {t t′ v v′ : ℕ} → t ∷ v ∷ [] ≡ t′ ∷ v′ ∷ [] → v ≡ v′
+second-byte e = ap (λ (says : List ℕ). getD says 1 0) e
+
+silent : {t : ℕ} {r : List ℕ} → [] ≡ t ∷ r → ⊥
+silent e = absurd (omega (arith, ap (λ (says : List ℕ). length says) e))
+
+-- ticks to which a model says nothing spare every job
+ticks-spare : (M : Model) (n : ℕ) (w : World) → M (w .chip) (w .memory) [] 0x05 n .says ≡ [] → Spares M [] (event 0x05 n) w
+ticks-spare M n w is = spared-so M (event 0x05 n) w [] (λ e. omega arith) is (λ e o. silent e) silent
+
+-- n ticks of the erase, and of the program
+erasure-ticked : (M : Model) (n : ℕ) → inRange 0x05 n ≡ true → M (erasure .chip) (erasure .memory) [] 0x05 n .says ≡ [] → Spared M [] SmallErase 0 blankLoad 0 erasure (event 0x05 n ∷ [])
+unfolding legal legalCore legalJob legalFrame isEmpty isBlank permitted AllGood AllSpare knownKind knownIn
+erasure-ticked M n ranged is =
+    record {
+      under-way = record { fit = fitting (unselected (erasing 0)) 0 refl; a-job = refl; job-is = refl; load-is = refl };
+      good = ((refl, ranged), tt);
+      spared = (ticks-spare M n erasure is, tt);
+    }
+
+program-ticked : (M : Model) (n : ℕ) → inRange 0x05 n ≡ true → M (program .chip) (program .memory) [] 0x05 n .says ≡ [] → Spared M [] Program 0 low 0 program (event 0x05 n ∷ [])
+unfolding legal legalCore legalJob legalFrame isEmpty isBlank permitted AllGood AllSpare knownKind knownIn
+program-ticked M n ranged is =
+    record {
+      under-way = record { fit = fitting (program .chip) 0xF0 refl; a-job = refl; job-is = refl; load-is = refl };
+      good = ((refl, ranged), tt);
+      spared = (ticks-spare M n program is, tt);
+    }
+
+-- ---- models that are wrong as a whole
+
+pub record WrongAsAWhole : Type 0 where
+  -- a write enable is done, and WEN is not set; an erase is begun, and is not there
+  pub ignores-all : Demand2 ignoresAll → ⊥
+  pub ignores-jobs : Demand2 ignoresAll → ⊥
+  -- a tick on a resting chip is refused
+  pub refuses-events : Demand1 refusesEvents → ⊥
+  -- a write enable gets verdict 3 and not 1; an erase 3 and not 2
+  pub refuses-commands : Demand2 refusesCommands → ⊥
+  pub refuses-jobs : Demand2 refusesCommands → ⊥
+  -- cell 0 of a memory of zeros is driven as FFh
+  pub reads-blank : Demand2 readsBlank → ⊥
+  -- at k = 1 no cell has changed; nor has one at the end
+  pub ticks-idle : Demand3 ticksIdle → ⊥
+  pub ticks-idle-image : Demand3 ticksIdle → ⊥
+  -- at k = 1 the second step's cells have changed
+  pub whole-job-at-once : Demand3 wholeJobAtOnce → ⊥
+  -- the count of one tick is two
+  pub invents-ticks : Demand3 inventsTicks → ⊥
+
+-- The demands refute them.
+pub wrong-as-a-whole : WrongAsAWhole
+unfolding answerOf memoryOf saidOf happens refusal bodyUsed legal legalCore legalJob legalFrame isEmpty isBlank permitted knownKind knownIn kindRow kindRowIn applied exchanged taken judge rowOf rowIn isProgram verdict listed isRead commandVerdict jobVerdict jobOf fitsRule settled acted heldAfter instantly protectedSector protectedCount ticksCore tickCore tickLoad ticksLoad tickMemory ticksMemory worked sweep image imageFrom runsBy workedBy AllGood AllSpare AllInside AllBytes bytesOf
+wrong-as-a-whole =
+    record {
+      ignores-all = λ d. false≢true (ap (λ (k : Core). k .wen) (d .done-at-once .0 enabling (cells 0) [] 0x03 0 false (ending enabling refl refl) refl refl .0));
+      ignores-jobs = λ d. false≢true (ap (λ (k : Core). isJob (k .job .kind)) (d .jobs-begun .1 .1 .1 .0 beginning (cells 0) [] 0x03 0 false (ending beginning refl refl) refl refl .0));
+      refuses-events = λ d. absurd (false≢true (sym (d .numbers (unselected resting) (cells 0) [] 0x04 0 .five .0 refl .3)));
+      refuses-commands = λ d. absurd (omega (arith, second-byte (d .closes enabling (cells 0) [] 0x03 0 false (ending enabling refl refl) .says)));
+      refuses-jobs = λ d. absurd (omega (arith, second-byte (d .closes beginning (cells 0) [] 0x03 0 false (ending beginning refl refl) .says)));
+      reads-blank = λ d. absurd (omega (arith, second-byte (d .cell-reads (unselected resting) (cells 0) [] (quiet resting refl refl refl) .low-power 0 (omega arith) .byte-driven [] tt 0 (omega arith))));
+      ticks-idle = λ d. absurd (omega (arith, ap (λ (m : List ℕ). getD m 0 0) (d .lives [] SmallErase 0 blankLoad 0 erasure (event 0x05 1 ∷ []) (erasure-ticked ticksIdle 1 refl refl) .memory-is)));
+      ticks-idle-image = λ d. absurd (omega (arith, ap (λ (m : List ℕ). getD m 0 0) (d .lives [] SmallErase 0 blankLoad 0 erasure (event 0x05 16 ∷ []) (erasure-ticked ticksIdle 16 refl refl) .whole-image refl refl)));
+      whole-job-at-once = λ d. absurd (omega (arith, ap (λ (m : List ℕ). getD m 16 0) (d .lives [] Program 0 low 0 program (event 0x05 1 ∷ []) (program-ticked wholeJobAtOnce 1 refl refl) .memory-is)));
+      invents-ticks = λ d. absurd (omega (arith, d .counts [] (event 0x05 1) erasure (fitting (unselected (erasing 0)) 0 refl) (refl, refl)));
+    }
+
+-- ---- errors that look right
+
+pub record LookRight : Type 0 where
+  -- of 260 bytes for address 250, byte 4 does not stand at offset 254
+  pub lays-from-page-start : Demand2 laysFromPageStart → ⊥
+  pub lays-from-address : Demand2 laysFromAddress → ⊥
+  -- at k = 1 a cell of F0h programmed with 0Fh holds 0Fh and not 00h
+  pub stores-bytes : Demand3 storesBytes → ⊥
+  -- WEN is off after verdict 9, and after 10
+  pub nine-costs-wen : Demand2 nineTenCostWen → ⊥
+  pub ten-costs-wen : Demand2 nineTenCostWen → ⊥
+  -- a program of 0Fh over F0h is suspended, a 02h frame of FFh ends loose, the job is resumed: its first step leaves F0h
+  pub spoilt-loads : Demand3 spoiltLoads → ⊥
+  -- a 03h frame begun in the last step of an erase drives its fifth byte
+  pub answers-late : Demand2 answersLate → ⊥
+
+-- the spoiled frame at its loose end, and the events from there on
 abbrev spoiling : World
 spoiling = world (whole (withSuspended true programming) (sent 0x02 0 5) blankLoad low) (cells 0xF0) [] 0
 
 abbrev spoiled : List Event
 spoiled = event 0x08 3 ∷ event 0x01 0 ∷ event 0x02 0x30 ∷ event 0x03 0 ∷ event 0x05 1 ∷ []
 
-spared-so : (M : Model) (e : Event) (w : World) (says : List ℕ) → (e .kind ≡ 0x07 → ⊥) → M (w .chip) (w .memory) [] (e .kind) (e .body) .says ≡ says → (says ≡ 0x82 ∷ 1 ∷ [] → w .chip .frame .opcode ≡ 0x99 → ⊥) → (says ≡ 0x82 ∷ 2 ∷ [] → ⊥) → Spares M [] e w
-spared-so M e w says no-cut is a b = record { no-power-cut = no-cut; no-reset = λ x. a (sym is ∙ x); begins-none = λ x. b (sym is ∙ x) }
+-- the bytes of the early read, and the tick that ends the job
+abbrev early : List Event
+early = sends (0 ∷ 0 ∷ 0 ∷ []) ++ (event 0x04 0 ∷ [])
 
-spoiled-spared : Spared spoiltLoads [] Program 0 low 0 spoiling spoiled
-unfolding answerOf memoryOf happens refusal bodyUsed legal legalCore legalJob legalFrame isEmpty isBlank permitted knownKind knownIn kindRow kindRowIn applied exchanged taken judge rowOf rowIn isProgram verdict listed isRead commandVerdict jobVerdict jobOf fitsRule settled acted heldAfter instantly protectedSector protectedCount ticksCore tickCore tickLoad ticksLoad tickMemory ticksMemory worked sweep runsBy workedBy AllGood AllSpare AllInside AllBytes bytesOf statusByte
-spoiled-spared =
+-- The demands refute them.
+pub look-right : LookRight
+unfolding answerOf memoryOf saidOf happens refusal bodyUsed legal legalCore legalJob legalFrame isEmpty isBlank permitted knownKind knownIn kindRow kindRowIn applied exchanged taken judge rowOf rowIn isProgram verdict listed isRead commandVerdict jobVerdict jobOf fitsRule settled acted heldAfter instantly protectedSector protectedCount ticksCore tickCore tickLoad ticksLoad tickMemory ticksMemory worked sweep image imageFrom runsBy workedBy AllGood AllSpare AllInside AllBytes bytesOf
+look-right =
     record {
-      under-way = record { fit = fitting (spoiling .chip) 0xF0 refl; a-job = refl; job-is = refl; load-is = refl };
-      good = ((refl, refl), ((refl, refl), ((refl, refl), ((refl, refl), ((refl, refl), tt)))));
-      spared = (
-        spared-so spoiltLoads _ _ (0x82 ∷ 4 ∷ []) (λ e. omega arith) refl (λ e o. absurd (omega (arith, second-byte e))) (λ e. absurd (omega (arith, second-byte e))),
-        (
-          spared-so spoiltLoads _ _ [] (λ e. omega arith) refl (λ e o. silent e) (λ e. silent e),
-          (
-            spared-so spoiltLoads _ _ (0x80 ∷ []) (λ e. omega arith) refl (λ e o. absurd (omega (arith, first-byte e))) (λ e. absurd (omega (arith, first-byte e))),
-            (
-              spared-so spoiltLoads _ _ (0x82 ∷ 1 ∷ []) (λ e. omega arith) refl (λ e o. absurd (omega (arith, o))) (λ e. absurd (omega (arith, second-byte e))),
-              (ticks-spare spoiltLoads 1 _ refl, tt),
-            ),
-          ),
-        ),
-      );
+      lays-from-page-start = λ d. absurd (omega (arith, d .jobs-from-bytes (unselected enabled) (cells 0) [] ready refl .program 0x02 250 0 (counted 1 259) refl refl (omega arith) (all-bytes 0 260) refl .1 .last-stay 4 (omega arith) (omega arith)));
+      lays-from-address = λ d. absurd (omega (arith, d .jobs-from-bytes (unselected enabled) (cells 0) [] ready refl .program 0x02 250 0 (counted 1 259) refl refl (omega arith) (all-bytes 0 260) refl .1 .last-stay 4 (omega arith) (omega arith)));
+      stores-bytes = λ d. absurd (omega (arith, ap (λ (m : List ℕ). getD m 0 0) (d .lives [] Program 0 low 0 program (event 0x05 1 ∷ []) (program-ticked storesBytes 1 refl refl) .memory-is)));
+      nine-costs-wen = λ d. false≢true (ap (λ (k : Core). k .wen) (d .other-verdicts (protected 0x20 4) (cells 0) [] 0x03 0 false 9 (ending (protected 0x20 4) refl refl) refl (λ e. omega arith) (λ e. omega arith) .0));
+      ten-costs-wen = λ d. false≢true (ap (λ (k : Core). k .wen) (d .other-verdicts locked (cells 0) [] 0x03 0 false 10 (ending locked refl refl) refl (λ e. omega arith) (λ e. omega arith) .0));
+      spoilt-loads = λ d. absurd (omega (arith, ap (λ (m : List ℕ). getD m 0 0) (d .lives [] Program 0 low 0 spoiling spoiled spoiled-spared .memory-is)));
+      answers-late = λ d. absurd (omega (arith, first-byte (d .stopped-frame (unselected (erasing 15)) (cells 0) [] 0x03 (fitting (unselected (erasing 15)) 0 refl) refl (omega arith) (λ e. omega (arith, e)) early inside .0 0 (omega arith))));
     }
-
-pub spoilt-loads-refuted : Demand3 spoiltLoads → ⊥
-unfolding answerOf memoryOf happens refusal bodyUsed legal legalCore legalJob legalFrame isEmpty isBlank permitted knownKind knownIn kindRow kindRowIn applied exchanged taken judge rowOf rowIn isProgram verdict listed isRead commandVerdict jobVerdict jobOf fitsRule settled acted heldAfter instantly protectedSector protectedCount ticksCore tickCore tickLoad ticksLoad tickMemory ticksMemory worked sweep runsBy workedBy AllGood AllSpare AllInside AllBytes bytesOf statusByte
-spoilt-loads-refuted d = absurd (omega (arith, ap (λ (m : List ℕ). getD m 0 0) (d .lives [] Program 0 low 0 spoiling spoiled spoiled-spared .memory-is)))
-
--- Answering late: Demand 2's stopped frames. A 03h frame begun in the last step of an erase, which ends before the fifth byte.
-abbrev late : List Event
-late = sends (0 ∷ 0 ∷ 0 ∷ []) ++ (event 0x04 0 ∷ [])
-
-pub answers-late-refuted : Demand2 answersLate → ⊥
-unfolding answerOf memoryOf happens refusal bodyUsed legal legalCore legalJob legalFrame isEmpty isBlank permitted knownKind knownIn kindRow kindRowIn applied exchanged taken judge rowOf rowIn isProgram verdict listed isRead commandVerdict jobVerdict jobOf fitsRule settled acted heldAfter instantly protectedSector protectedCount ticksCore tickCore tickLoad ticksLoad tickMemory ticksMemory worked sweep runsBy workedBy AllGood AllSpare AllInside AllBytes bytesOf statusByte
-answers-late-refuted d = absurd (omega (arith, first-byte (d .stopped-frame (unselected (erasing 15)) (cells 0) [] 0x03 (fitting (unselected (erasing 15)) 0 refl) refl (omega arith) (λ e. omega (arith, e)) late inside .0 0 (omega arith))))
   where
-    inside : AllInside late
+    inside : AllInside early
     inside = (((refl, refl), refl), (((refl, refl), refl), (((refl, refl), refl), (((refl, refl), refl), tt))))
+
+    spoiled-spared : Spared spoiltLoads [] Program 0 low 0 spoiling spoiled
+    spoiled-spared =
+        record {
+          under-way = record { fit = fitting (spoiling .chip) 0xF0 refl; a-job = refl; job-is = refl; load-is = refl };
+          good = ((refl, refl), ((refl, refl), ((refl, refl), ((refl, refl), ((refl, refl), tt)))));
+          spared = (
+            spared-so spoiltLoads _ _ (0x82 ∷ 4 ∷ []) (λ e. omega arith) refl (λ e o. absurd (omega (arith, second-byte e))) (λ e. absurd (omega (arith, second-byte e))),
+            (
+              spared-so spoiltLoads _ _ [] (λ e. omega arith) refl (λ e o. silent e) (λ e. silent e),
+              (
+                spared-so spoiltLoads _ _ (0x80 ∷ []) (λ e. omega arith) refl (λ e o. absurd (omega (arith, first-byte e))) (λ e. absurd (omega (arith, first-byte e))),
+                (
+                  spared-so spoiltLoads _ _ (0x82 ∷ 1 ∷ []) (λ e. omega arith) refl (λ e o. absurd (omega (arith, o))) (λ e. absurd (omega (arith, second-byte e))),
+                  (ticks-spare spoiltLoads 1 _ refl, tt),
+                ),
+              ),
+            ),
+          );
+        }
 
 -- ---- our three earlier versions
 
--- The first, reads: Demand 2's reads, two bytes at the last address: the second is cell 0.
-pub first-reads-refuted : Demand2 firstReads → ⊥
-unfolding answerOf memoryOf happens refusal bodyUsed legal legalCore legalJob legalFrame isEmpty isBlank permitted knownKind knownIn kindRow kindRowIn applied exchanged taken judge rowOf rowIn isProgram verdict listed isRead commandVerdict jobVerdict jobOf fitsRule settled acted heldAfter instantly protectedSector protectedCount ticksCore tickCore tickLoad ticksLoad tickMemory ticksMemory worked sweep runsBy workedBy AllGood AllSpare AllInside AllBytes bytesOf statusByte
-first-reads-refuted d = absurd (omega (arith, second-byte (d .cell-reads (unselected resting) (cells 0) [] quiet .low-power 65535 (omega arith) .byte-driven (event 0x02 0 ∷ []) (((refl, refl), refl), tt) 0 (omega arith))))
+pub record EarlierVersions : Type 0 where
+  -- the first: of two bytes read at the last address the second is not cell 0; of two loaded at offset 255 the second does not stand at offset 0
+  pub first-reads : Demand2 firstReads → ⊥
+  pub first-loads : Demand2 firstLoads → ⊥
+  -- the second: of 260 bytes loaded, byte 256 does not stand over byte 0; WEN is off after a protected program
+  pub second-loads : Demand2 secondLoads → ⊥
+  pub second-wen : Demand2 secondWen → ⊥
+  -- the third: the deselect that begins an erase leaves no job at its step 0; a suspend in an erase gets verdict 11 and not 1
+  pub third-erases : Demand3 thirdErases → ⊥
+  pub third-suspends : Demand2 thirdSuspends → ⊥
 
--- The first, loads: Demand 2's load, two bytes at offset 255: the second stands at offset 0.
-pub first-loads-refuted : Demand2 firstLoads → ⊥
-unfolding answerOf memoryOf happens refusal bodyUsed legal legalCore legalJob legalFrame isEmpty isBlank permitted knownKind knownIn kindRow kindRowIn applied exchanged taken judge rowOf rowIn isProgram verdict listed isRead commandVerdict jobVerdict jobOf fitsRule settled acted heldAfter instantly protectedSector protectedCount ticksCore tickCore tickLoad ticksLoad tickMemory ticksMemory worked sweep runsBy workedBy AllGood AllSpare AllInside AllBytes bytesOf statusByte
-first-loads-refuted d = absurd (omega (arith, d .jobs-from-bytes (unselected enabled) (cells 0) [] ready refl .program 0x02 255 1 (2 ∷ []) refl refl (omega arith) (omega arith, (omega arith, tt)) refl .1 .last-stay 1 (omega arith) (omega arith)))
-
--- The second, loads: Demand 2's load, byte 256 of 260, which stands over byte 0.
-pub second-loads-refuted : Demand2 secondLoads → ⊥
-unfolding answerOf memoryOf happens refusal bodyUsed legal legalCore legalJob legalFrame isEmpty isBlank permitted knownKind knownIn kindRow kindRowIn applied exchanged taken judge rowOf rowIn isProgram verdict listed isRead commandVerdict jobVerdict jobOf fitsRule settled acted heldAfter instantly protectedSector protectedCount ticksCore tickCore tickLoad ticksLoad tickMemory ticksMemory worked sweep runsBy workedBy AllGood AllSpare AllInside AllBytes bytesOf statusByte
-second-loads-refuted d = absurd (omega (arith, d .jobs-from-bytes (unselected enabled) (cells 0) [] ready refl .program 0x02 250 0 (counted 1 259) refl refl (omega arith) (all-bytes 0 260) refl .1 .last-stay 256 (omega arith) (omega arith)))
-
--- The second, WEN: Demand 2's other verdicts, a protected program.
-abbrev protected-program : Chip
-protected-program = within (withLevel 7 enabled) (sent 0x02 0 5)
-
-pub second-wen-refuted : Demand2 secondWen → ⊥
-unfolding answerOf memoryOf happens refusal bodyUsed legal legalCore legalJob legalFrame isEmpty isBlank permitted knownKind knownIn kindRow kindRowIn applied exchanged taken judge rowOf rowIn isProgram verdict listed isRead commandVerdict jobVerdict jobOf fitsRule settled acted heldAfter instantly protectedSector protectedCount ticksCore tickCore tickLoad ticksLoad tickMemory ticksMemory worked sweep runsBy workedBy AllGood AllSpare AllInside AllBytes bytesOf statusByte
-second-wen-refuted d = false≢true (ap (λ (k : Core). k .wen) (d .other-verdicts protected-program (cells 0) [] 0x03 0 false 9 (ending protected-program refl refl) refl (λ e. omega arith) (λ e. omega arith) .0))
-
--- The third, erases: Demand 3's start: the deselect that begins a job leaves it at its step 0, and the cells as they were.
-pub third-erases-refuted : Demand3 thirdErases → ⊥
-unfolding answerOf memoryOf happens refusal bodyUsed legal legalCore legalJob legalFrame isEmpty isBlank permitted knownKind knownIn kindRow kindRowIn applied exchanged taken judge rowOf rowIn isProgram verdict listed isRead commandVerdict jobVerdict jobOf fitsRule settled acted heldAfter instantly protectedSector protectedCount ticksCore tickCore tickLoad ticksLoad tickMemory ticksMemory worked sweep runsBy workedBy AllGood AllSpare AllInside AllBytes bytesOf statusByte
-third-erases-refuted d = false≢true (d .starts (within enabled (sent 0x20 0 4)) (cells 0) [] 0x03 0 false (ending (within enabled (sent 0x20 0 4)) refl refl) refl .a-job)
-
--- The third, suspends: Demand 2's verdicts: a suspend while an erase runs is 1.
-abbrev suspending : Chip
-suspending = within (erasing 1) (sent 0xB0 0 1)
-
-pub third-suspends-refuted : Demand2 thirdSuspends → ⊥
-unfolding answerOf memoryOf happens refusal bodyUsed legal legalCore legalJob legalFrame isEmpty isBlank permitted knownKind knownIn kindRow kindRowIn applied exchanged taken judge rowOf rowIn isProgram verdict listed isRead commandVerdict jobVerdict jobOf fitsRule settled acted heldAfter instantly protectedSector protectedCount ticksCore tickCore tickLoad ticksLoad tickMemory ticksMemory worked sweep runsBy workedBy AllGood AllSpare AllInside AllBytes bytesOf statusByte
-third-suspends-refuted d = absurd (omega (arith, second-byte (d .closes suspending (cells 0) [] 0x03 0 false (ending suspending refl refl) .says)))
+-- The demands refute them.
+pub earlier-versions : EarlierVersions
+unfolding answerOf memoryOf saidOf happens refusal bodyUsed legal legalCore legalJob legalFrame isEmpty isBlank permitted knownKind knownIn kindRow kindRowIn applied exchanged taken judge rowOf rowIn isProgram verdict listed isRead commandVerdict jobVerdict jobOf fitsRule settled acted heldAfter instantly protectedSector protectedCount ticksCore tickCore tickLoad ticksLoad tickMemory ticksMemory worked sweep image imageFrom runsBy workedBy AllGood AllSpare AllInside AllBytes bytesOf
+earlier-versions =
+    record {
+      first-reads = λ d. absurd (omega (arith, second-byte (d .cell-reads (unselected resting) (cells 0) [] (quiet resting refl refl refl) .low-power 65535 (omega arith) .byte-driven (event 0x02 0 ∷ []) (((refl, refl), refl), tt) 0 (omega arith))));
+      first-loads = λ d. absurd (omega (arith, d .jobs-from-bytes (unselected enabled) (cells 0) [] ready refl .program 0x02 255 1 (2 ∷ []) refl refl (omega arith) (omega arith, (omega arith, tt)) refl .1 .last-stay 1 (omega arith) (omega arith)));
+      second-loads = λ d. absurd (omega (arith, d .jobs-from-bytes (unselected enabled) (cells 0) [] ready refl .program 0x02 250 0 (counted 1 259) refl refl (omega arith) (all-bytes 0 260) refl .1 .last-stay 256 (omega arith) (omega arith)));
+      second-wen = λ d. false≢true (ap (λ (k : Core). k .wen) (d .other-verdicts (protected 0x02 5) (cells 0) [] 0x03 0 false 9 (ending (protected 0x02 5) refl refl) refl (λ e. omega arith) (λ e. omega arith) .0));
+      third-erases = λ d. false≢true (d .starts beginning (cells 0) [] 0x03 0 false (ending beginning refl refl) refl .a-job);
+      third-suspends = λ d. absurd (omega (arith, second-byte (d .closes suspending (cells 0) [] 0x03 0 false (ending suspending refl refl) .says)));
+    }
