@@ -80,11 +80,8 @@ beginsJob opcode = eqb opcode 0x01 || changesCells opcode
 -- the list from its top down, for a frame with judgement none, on a memory of n cells; what none of it takes is 1, done at once
 abbrev pub rulesList : ℕ → Core → Frame → Bool → List Test
 rulesList n k f loose =
-    test 3 (not (rowOf (f .opcode) .known))
-    ∷ test 5 (k .deep && not (eqb (f .opcode) 0xAB))
-    ∷ test 6 (running k && not (rowOf (f .opcode) .running))
-    ∷ test 7 (k .suspended && not (rowOf (f .opcode) .suspended))
-    ∷ test 0 (among (0x05 ∷ 0x03 ∷ 0x0B ∷ 0x9F ∷ 0x5A ∷ []) (f .opcode))
+    stops k (f .opcode)
+    ++ (test 0 (among (0x05 ∷ 0x03 ∷ 0x0B ∷ 0x9F ∷ 0x5A ∷ []) (f .opcode))
     ∷ test 4 (loose || not (fitsRule (rowOf (f .opcode) .rule) (f .count)))
     ∷ test 11 (eqb (f .opcode) 0xB0 && not (running k && hasCells (k .job .kind)))
     ∷ test 11 (eqb (f .opcode) 0x30 && not (k .suspended))
@@ -95,7 +92,7 @@ rulesList n k f loose =
     ∷ test 9 (inOneSector (f .opcode) && protectedSector (k .level) (k .tb) (sectorsIn n) (f .address % n / 65536))
     ∷ test 9 (ofTheChip (f .opcode) && not (eqb (k .level) 0))
     ∷ test 2 (beginsJob (f .opcode))
-    ∷ []
+    ∷ [])
 
 -- the verdict of a selected frame: 0 without a whole byte; its judgement, if it has one; otherwise the first of the list that applies
 abbrev pub verdictOf : ℕ → Core → Frame → Bool → ℕ
@@ -213,8 +210,8 @@ longer f = withCount (min 6 (f .count + 1)) f
 abbrev pub shiftedIn : Frame → ℕ → ℕ
 shiftedIn f b = f .address % 65536 * 256 + b
 
--- the rows, for a frame with so many bytes that has judgement none or floats to its end: cells from byte 5 of 03h and byte 6 of 0Bh; data from byte 5 of a page
--- program; the status; the cycle of 9Fh; 88h from byte 5 of ABh; the area from byte 6 of 5Ah; bytes 2 to 4 are the address, the last of which sets both places
+-- the rows: a judged frame floats to its end; cells from byte 5 of 03h and byte 6 of 0Bh; data from byte 5 of a page program; the status; the cycle of 9Fh; 88h from
+-- byte 5 of ABh; the area from byte 6 of 5Ah; what else comes after byte 4 floats; byte 4 is the last of the address and sets both places
 abbrev pub byteRows : Core → Frame → List ℕ → List ℕ → List ℕ → ℕ → List ByteRow
 byteRows k f load m area b =
     byteRow (not (eqb (f .judgement) 0)) (0x80 ∷ []) (longer f) load
@@ -355,9 +352,6 @@ pub record Demand2 (M : Model) : Type 0 where
   pub unselected-exchange : (c : Chip) (m area : List ℕ) (b : ℕ) → Fit c m area → b ≤ 255 → c .frame .selected ≡ false → M c m area 0x02 b ≡ reply c m (0x80 ∷ []) 0
   pub unselected-deselect : (c : Chip) (m area : List ℕ) (kind body : ℕ) (loose : Bool) → Fit c m area → Closing kind body loose → c .frame .selected ≡ false
       → M c m area kind body ≡ reply c m (0x82 ∷ 0 ∷ []) 0
-  -- an exchange changes the frame and its load alone
-  pub exchange-keeps : (c : Chip) (m area : List ℕ) (b : ℕ) → Fit c m area → b ≤ 255
-      → (M c m area 0x02 b .chip .core ≡ c .core) × (M c m area 0x02 b .chip .held ≡ c .held) × (M c m area 0x02 b .memory ≡ m) × (M c m area 0x02 b .ticks ≡ 0)
   -- the opcode byte floats and is judged; the first byte of a frame is the opcode
   pub opcode-byte : (c : Chip) (m area : List ℕ) (b : ℕ) → Fit c m area → b ≤ 255 → c .frame .selected ≡ true → c .frame .count ≡ 0
       → M c m area 0x02 b

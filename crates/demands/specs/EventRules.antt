@@ -64,14 +64,6 @@ module _ (c : Chip) (m area : List ℕ) (b : ℕ) (fit : Fit c m area) (byte : b
   ours-unselected-exchange unselected =
       exchange-as ∙ ap (λ (e : Exchange). told (settleExchange c m e)) (exchanged-unselected T (c .core) (c .frame) (c .load) m b unselected)
 
-  pub ours-exchange-keeps : (ours c m area 0x02 b .chip .core ≡ c .core) × (ours c m area 0x02 b .chip .held ≡ c .held) × (ours c m area 0x02 b .memory ≡ m) × (ours c m area 0x02 b .ticks ≡ 0)
-  ours-exchange-keeps = (
-    ap (λ (r : Reply). r .chip .core) exchange-as,
-    ap (λ (r : Reply). r .chip .held) exchange-as,
-    ap (λ (r : Reply). r .memory) exchange-as,
-    ap (λ (r : Reply). r .ticks) exchange-as,
-  )
-
 -- an empty frame has nothing but its being selected
 pub empty-frame-is : (f : Frame) → isEmpty f ≡ true → f ≡ withSelected (f .selected) emptyFrame
 unfolding isEmpty

@@ -1,7 +1,7 @@
 -- Ours meets Demand 2.
 use Rattle.demands.specs.Model.{ours}
 use Rattle.demands.specs.Demand2.{Demand2}
-use Rattle.demands.specs.EventRules.{ours-selects, ours-levels, ours-power-cut, ours-unselected-exchange, ours-unselected-deselect, ours-exchange-keeps, ours-opcode-byte, ours-closes, ours-done-at-once, ours-jobs-begun, ours-other-verdicts}
+use Rattle.demands.specs.EventRules.{ours-selects, ours-levels, ours-power-cut, ours-unselected-exchange, ours-unselected-deselect, ours-opcode-byte, ours-closes, ours-done-at-once, ours-jobs-begun, ours-other-verdicts}
 use Rattle.demands.specs.ByteRules.{ours-later-byte}
 use Rattle.demands.specs.Meets2Reads.{ours-cell-reads, ours-other-reads, ours-status-read}
 use Rattle.demands.specs.Meets2Stopped.{ours-stopped-frame}
@@ -15,7 +15,6 @@ meets-2 =
       power-cut = ours-power-cut;
       unselected-exchange = ours-unselected-exchange;
       unselected-deselect = ours-unselected-deselect;
-      exchange-keeps = ours-exchange-keeps;
       opcode-byte = ours-opcode-byte;
       later-byte = ours-later-byte;
       cell-reads = ours-cell-reads;
