@@ -1,1 +1,1 @@
-// The three demands as theorems, the worked examples and the unique answers: specs/ has them all, and no code stands here.
+// The three demands, as properties of any model of the part: specs/ has them, and no code stands here.

@@ -1,0 +1,101 @@
+-- Ours meets Demand 1: the engine at one event, and the run of a script.
+use Prim.Native.Nat.{ℕ}
+use mathlib.Core.List.{List, [], _∷_, _++_}
+use mathlib.Core.Path.{_≡_, sym, ap, subst, _∙_}
+use native.Mathlib.Decide.{ℕ-discrete}
+use native.Mathlib.Omega.{arith}
+use lib.ListN.{length, drop}
+use Rattle.chip.specs.declared.Chip.{Chip}
+use Rattle.event.specs.Laws as EventLaws
+use Rattle.script.specs.declared.Ran.{Ran}
+use Rattle.script.specs.Script.{Event, Refusal, refusalOf, events}
+use Rattle.script.specs.Run.{World, world}
+use Rattle.script.specs.Run as Run
+use Rattle.script.specs.Laws as ScriptLaws
+use Rattle.demands.specs.Model.{replied, ours, AllGood, Fit, runsBy}
+use Rattle.demands.specs.Demand1.{RefusedWhen, Demand1, RunReply, Runner, AllSound, RunRefusedWhen, Demand1Run}
+use Rattle.meets.specs.Refusals.{event-refused-when, event-refused-keeps, run-refused-when, run-refused-keeps}
+use Rattle.meets.specs.Ours.{runs-ours}
+
+-- ---- one event
+
+-- Ours meets Demand 1.
+pub meets-1 : Demand1 ours
+meets-1 =
+    record {
+      numbers = λ c m area kind body.
+          subst (λ (v : ℕ). RefusedWhen v c (length m) (length area) kind body) (sym (EventLaws.answer-number c m area kind body)) (event-refused-when c (length m) (length area) kind body);
+      refused-keeps = λ c m area kind body some.
+          let told = EventLaws.answer-number c m area kind body in
+          let kept = event-refused-keeps c m area kind body (λ z. some (told ∙ z)) in
+          (λ i. replied (kept .0 i) (kept .1 i) (kept .2 i)) ∙ ap (λ (v : ℕ). record { chip = c; memory = m; says = []; ticks = 0; refusal = v }) (sym told);
+    }
+
+-- ---- a script run
+
+-- what a caller of `script::run` holds afterwards: the answer, the memory and the output
+abbrev pub ran : Ran → List ℕ → List ℕ → RunReply
+ran r m out = record { chip = r .chip; memory = m; output = out; refusal = r .refusal; offset = r .offset; written = r .written; ticks = r .ticks }
+
+-- the runner that its contract describes
+abbrev pub ourRun : Runner
+ourRun c m area s out = ran (Run.answerOf c m area s out) (Run.memoryOf c m area s out) (Run.outputOf c m area s out)
+
+-- Whatever meets the contract of `script::run` answers as ours.
+pub runner-is-ours : (c : Chip) (m area s out : List ℕ) (r : Ran) (m′ out′ : List ℕ)
+    → (r ≡ Run.answerOf c m area s out) × (m′ ≡ Run.memoryOf c m area s out) × (out′ ≡ Run.outputOf c m area s out) → ran r m′ out′ ≡ ourRun c m area s out
+runner-is-ours c m area s out r m′ out′ p = λ i. ran (p .0 i) (p .1 i) (p .2 i)
+
+-- sound events of a script are good
+pub all-good : (s : List ℕ) (es : List Event) → AllSound s es → AllGood es
+unfolding AllSound AllGood
+all-good s [] sound = tt
+all-good s (e ∷ es) sound = ((sound .0 .known, sound .0 .ranged), all-good s es (sound .1))
+
+module _ (c : Chip) (m area s out : List ℕ) where
+  abbrev told : Refusal
+  told = Run.refusal c (length m) (length area) s (length out)
+
+  when : RunRefusedWhen (told .number) (told .offset) c (length m) (length area) s (length out)
+  when = run-refused-when c (length m) (length area) s (length out)
+
+  -- the number and the offset in the answer are the refusal's
+  number-told : ourRun c m area s out .refusal ≡ told .number
+  number-told = ScriptLaws.answer-number c m area s out
+
+  offset-told : ourRun c m area s out .offset ≡ told .offset
+  offset-told = go (ℕ-discrete (told .number) 0)
+    where
+      go : Dec (told .number ≡ 0) → ourRun c m area s out .offset ≡ told .offset
+      go (yes z) = ap (λ (r : Ran). r .offset) (ScriptLaws.answer-done c m area s out z) ∙ sym (when .no-offset (λ e. omega arith) (λ e. omega arith) (λ e. omega arith))
+      go (no refused) = ap (λ (r : Ran). r .offset) (ScriptLaws.answer-refused c m area s out refused)
+
+  refused-kept : (ourRun c m area s out .refusal ≡ 0 → ⊥)
+      → ourRun c m area s out ≡ record { chip = c; memory = m; output = out; refusal = ourRun c m area s out .refusal; offset = ourRun c m area s out .offset; written = 0; ticks = 0 }
+  refused-kept some =
+      let kept = run-refused-keeps c m area s out (λ z. some (number-told ∙ z)) in
+      (λ i. ran (kept .0 i) (kept .1 i) (kept .2 i))
+      ∙ (λ i. record { chip = c; memory = m; output = out; refusal = sym number-told i; offset = sym offset-told i; written = 0; ticks = 0 })
+
+  -- what a run that is done comes to
+  abbrev done : World → RunReply
+  done w = record { chip = w .chip; memory = w .memory; output = w .written ++ drop (length (w .written)) out; refusal = 0; offset = 0; written = length (w .written); ticks = w .ticks }
+
+  done-run : ourRun c m area s out .refusal ≡ 0 → ourRun c m area s out ≡ done (runsBy ours area (events s) (world c m [] 0))
+  unfolding Run.worldAfter
+  done-run e =
+      let ok : told .number ≡ 0 = sym number-told ∙ e in
+      let accepted = when .none .0 ok in
+      let fit : Fit c m area = record { state-legal = accepted .0 .state-legal; area-short = accepted .0 .area-short } in
+      (λ i. ran (ScriptLaws.answer-done c m area s out ok i) (ScriptLaws.memory-done c m area s out ok i) (ScriptLaws.output-done c m area s out ok i))
+      ∙ ap done (sym (runs-ours area (events s) (world c m [] 0) fit (all-good s (events s) (accepted .1))))
+
+-- Our run meets Demand 1, over our model.
+pub meets-1-run : Demand1Run ours ourRun
+meets-1-run =
+    record {
+      numbers = λ c m area s out.
+          subst (λ (r : Refusal). RunRefusedWhen (r .number) (r .offset) c (length m) (length area) s (length out)) (λ i. refusalOf (sym (number-told c m area s out) i) (sym (offset-told c m area s out) i)) (when c m area s out);
+      refused-keeps = refused-kept;
+      done-runs = done-run;
+    }

@@ -1,0 +1,171 @@
+-- Demand 2 of ours: from the bytes of a frame to the job that it begins.
+use Prim.Native.Nat.{ℕ, _/_, _%_, _^_, _<_, _≤_}
+use mathlib.Core.Bool.{Bool, true, false, not, _&&_}
+use mathlib.Core.List.{List, [], _∷_, _++_}
+use mathlib.Core.Path.{_≡_, refl, sym, ap, subst, _∙_}
+use native.Mathlib.Omega.{arith}
+use lib.Dec.{leb}
+use lib.ListN.{length, replicate}
+use borrow.Author.Tests.{le-leb, leb-true, eq-eqb}
+use Rattle.cells.specs.Choice.{cond-yes, and-left}
+use Rattle.part.specs.Part.{Setting, settingOf, sectorsIn, lengthOf, roundedDown}
+use Rattle.part.specs.Protection.{protectedSector}
+use Rattle.kinds.specs.Kinds.{knownIn, knownKind, kindRowIn, kindRow}
+use Rattle.commands.specs.Table.{fitsRule, isProgram}
+use Rattle.chip.specs.declared.Chip.{Chip}
+use Rattle.chip.specs.declared.Frame.{Frame}
+use Rattle.chip.specs.declared.JobKind.{JobKind}
+use Rattle.chip.specs.declared.JobKind.the-variants.{WriteStatus, Program, SmallErase, SectorErase, ChipErase}
+use Rattle.chip.specs.Job.{hasCells}
+use Rattle.chip.specs.Chip.{whole, blankLoad}
+use Rattle.frame.specs.Frame.{judge, loading}
+use Rattle.verdict.specs.Verdict.{startOf, targetProtected, startProtected, verdict}
+use Rattle.verdict.specs.Effect.{heldAfter}
+use Rattle.event.specs.Event.{closes, applied}
+use Rattle.event.specs.Laws.{deselect-selected}
+use Rattle.script.specs.Run.{World, world, after, runs}
+use Rattle.demands.specs.Model.{ours, event, sends, address, AllGood, Fit}
+use Rattle.demands.specs.Demand2.{among, AllBytes, Ready, LoadOf, framed, Begins, FreeAt, JobsFromBytes}
+use Rattle.meets.specs.Opening.{opcodeFrame, addressFrame, hasAddress, among-two, Leaves, load-blank, ready-takes, opens-opcode, opens-value, opens-address, opens-address-and}
+use Rattle.meets.specs.OursFrames.{as-long, address-bytes, runsBy-add, reached}
+use Rattle.meets.specs.Load.{loadAfter, load-of}
+use Rattle.meets.specs.JobFrames.{Holds, dataFrame, data-keeps, data-runs, Command, programs, small-erases, sector-erases, chip-erases, status-writes, verdict-begins, settled-job}
+
+module _ (c : Chip) (m area : List ℕ) (ready : Ready c m area) (enabled : c .core .wen ≡ true) where
+  -- the part's sectors, and its setting
+  abbrev S : ℕ
+  S = sectorsIn (length m)
+
+  abbrev T : Setting
+  T = settingOf (length m) area
+
+  abbrev fit : Fit c m area
+  fit = ready .quiet .fit
+
+  -- ---- a whole frame of ours, from its opening
+
+  -- the definitions' own
+  framed-as : (bs : List ℕ) → AllBytes bs → framed ours c m area bs ≡ runs T (event 0x03 0 ∷ []) (runs T (event 0x01 0 ∷ sends bs) (world c m [] 0))
+  unfolding AllGood knownKind knownIn kindRow kindRowIn
+  framed-as bs bytes = runsBy-add ours area (event 0x01 0 ∷ sends bs) (event 0x03 0 ∷ []) (world c m [] 0) ∙ reached c m area bs (event 0x03 0 ∷ []) fit bytes ((refl, refl), _) .as-defined
+
+  -- closed with verdict 2
+  closed-as : (bs load : List ℕ) (f : Frame) → AllBytes bs → Leaves c m area bs f load → f .selected ≡ true → verdict S (c .core) f false ≡ 2
+      → framed ours c m area bs ≡ after (world (whole (c .core) f load (c .held)) m (replicate (length bs) 0x80) 0) (closes T (whole (c .core) f load (c .held)) m 2)
+  unfolding runs applied
+  closed-as bs load f bytes leaves selected two =
+      let open-chip : Chip = whole (c .core) f load (c .held) in
+      framed-as bs bytes
+      ∙ ap (runs T (event 0x03 0 ∷ [])) leaves
+      ∙ ap (after (world open-chip m (replicate (length bs) 0x80) 0)) (deselect-selected T open-chip m false selected ∙ ap (closes T open-chip m) two)
+
+  module _ (bs load : List ℕ) (f : Frame) (bytes : AllBytes bs) (leaves : Leaves c m area bs f load) (opcode A rule n : ℕ) (kind : JobKind) (command : Command opcode A rule kind) (at : Holds opcode A n f) (some : 1 ≤ n)
+      (right : fitsRule rule (f .count) ≡ true) (unlocked : (not (hasCells kind) && c .core .srwp && not (c .core .wp)) ≡ false) (free : targetProtected S (c .core) kind (startOf S kind A) ≡ false) where
+    -- a frame with nothing in its way is closed with verdict 2
+    closed : framed ours c m area bs ≡ after (world (whole (c .core) f load (c .held)) m (replicate (length bs) 0x80) 0) (closes T (whole (c .core) f load (c .held)) m 2)
+    closed =
+        closed-as bs load f bytes leaves (at .is-open)
+        (verdict-begins S (c .core) f opcode A rule n kind command at (ready-takes c m area ready opcode (command .known)) some right enabled unlocked free)
+
+    -- it begins its job, and if that is a program, with this load
+    begins-at : (start : ℕ) → startOf S kind A ≡ start → Begins ours c m area bs kind start × (isProgram opcode ≡ true → framed ours c m area bs .chip .held ≡ load)
+    unfolding heldAfter
+    begins-at start there = (
+      record {
+        verdict-two = ap (λ (w : World). w .written) closed;
+        job-is = ap (λ (w : World). w .chip .core .job) closed ∙ settled-job S (c .core) f opcode A rule n kind command at some ∙ ap (λ (q : ℕ). record { kind = kind; start = q; done = 0 }) there;
+        cells-same = ap (λ (w : World). w .memory) closed;
+      },
+      λ program. ap (λ (w : World). w .chip .held) closed ∙ cond-yes (isProgram (f .opcode)) load blankLoad (ap isProgram (at .opcode-is) ∙ program),
+    )
+
+  -- ---- the places
+
+  -- an address rounded down, on a part as long as the memory
+  rounds : (size A : ℕ) → roundedDown size (A % lengthOf S) ≡ roundedDown size (A % length m)
+  rounds size A = ap (λ (n : ℕ). roundedDown size (A % n)) (as-long c m area fit)
+
+  -- rounded down inside its sector, an address is as free as it was
+  free-start : (size A : ℕ) → ((x : ℕ) → roundedDown size x / 65536 ≡ x / 65536) → FreeAt c m A → startProtected S (c .core) (roundedDown size (A % lengthOf S)) ≡ false
+  free-start size A same free = ap (protectedSector (c .core .level) (c .core .tb) S) (same (A % lengthOf S) ∙ ap (λ (n : ℕ). A % n / 65536) (as-long c m area fit)) ∙ free
+
+  -- ---- command by command
+
+  -- a program, with its data bytes in its load
+  program-begins : (opcode A first : ℕ) (more : List ℕ) → length (c .load) ≡ 256 → among (0x02 ∷ 0x0A ∷ []) opcode ≡ true → A < 2 ^ 24 → AllBytes (first ∷ more) → FreeAt c m A
+      → Begins ours c m area (opcode ∷ (address A ++ (first ∷ more))) Program (roundedDown 256 (A % length m))
+      × LoadOf A (first ∷ more) (framed ours c m area (opcode ∷ (address A ++ (first ∷ more))) .chip .held)
+  unfolding AllBytes dataFrame fitsRule isProgram
+  program-begins opcode A first more page program small bytes free =
+      let begun =
+      begins-at bs load f all leaves opcode A 5 5 Program command at (omega arith) (le-leb 5 (f .count) (at .so-many)) refl (free-start 256 A (λ x. omega arith) free) (roundedDown 256 (A % length m)) (rounds 256 A) in (
+        begun .0,
+        subst (LoadOf A (first ∷ more)) (sym (begun .1 (among-two (λ (q : ℕ). isProgram q ≡ true) 0x02 0x0A refl refl opcode program)))
+            (load-of A (first ∷ more) (c .load) page (load-blank c (length m) (fit .state-legal) (ready .quiet .unselected))),
+      )
+    where
+      bs : List ℕ
+      bs = opcode ∷ (address A ++ (first ∷ more))
+
+      load : List ℕ
+      load = loadAfter (first ∷ more) (A % 256) (c .load)
+
+      f : Frame
+      f = dataFrame (first ∷ more) (addressFrame S opcode A)
+
+      all : AllBytes bs
+      all = (among-two (λ (q : ℕ). q ≤ 255) 0x02 0x0A (omega arith) (omega arith) opcode program, address-bytes A (first ∷ more) small bytes)
+
+      command : Command opcode A 5 Program
+      command = programs opcode A program
+
+      leaves : Leaves c m area bs f load
+      leaves =
+          opens-address-and c m area fit (ready .quiet .unselected) opcode A small (among-two (λ (q : ℕ). hasAddress q ≡ true) 0x02 0x0A refl refl opcode program) (ready-takes c m area ready opcode (command .known)) (first ∷ more)
+          ∙ data-runs T (c .core) (c .held) m opcode A program (first ∷ more) (addressFrame S opcode A) (c .load) (replicate 4 0x80) bytes
+          (record { is-open = refl; opcode-is = refl; address-is = refl; unjudged = refl; so-many = omega arith })
+
+      at : Holds opcode A 5 f
+      at = data-keeps opcode A 5 more (loading (addressFrame S opcode A)) (omega arith) (record { is-open = refl; opcode-is = refl; address-is = refl; unjudged = refl; so-many = omega arith })
+
+  -- an erase at an address, which has four bytes
+  erase-begins : (opcode A : ℕ) (kind : JobKind) → Command opcode A 4 kind → hasAddress opcode ≡ true → hasCells kind ≡ true → A < 2 ^ 24 → targetProtected S (c .core) kind (startOf S kind A) ≡ false
+      → (start : ℕ) → startOf S kind A ≡ start → Begins ours c m area (opcode ∷ address A) kind start
+  unfolding AllBytes fitsRule
+  erase-begins opcode A kind command has cells small free start there =
+      begins-at (opcode ∷ address A) (c .load) (addressFrame S opcode A) (leb-true opcode 255 (and-left (leb opcode 255) _ has), address-bytes A [] small _)
+      (opens-address c m area fit (ready .quiet .unselected) opcode A small has (ready-takes c m area ready opcode (command .known)))
+      opcode A 4 4 kind command (record { is-open = refl; opcode-is = refl; address-is = refl; unjudged = refl; so-many = omega arith }) (omega arith) refl
+      (ap (λ (h : Bool). not h && c .core .srwp && not (c .core .wp)) cells) free start there .0
+
+  -- a chip erase, which has its opcode alone
+  chip-erase-begins : (opcode : ℕ) → among (0x60 ∷ 0xC7 ∷ []) opcode ≡ true → c .core .level ≡ 0 → Begins ours c m area (opcode ∷ []) ChipErase 0
+  unfolding AllBytes fitsRule
+  chip-erase-begins opcode is level-none =
+      let small : opcode ≤ 255 = among-two (λ (q : ℕ). q ≤ 255) 0x60 0xC7 (omega arith) (omega arith) opcode is in
+      let command : Command opcode 0 1 ChipErase = chip-erases opcode is in
+      begins-at (opcode ∷ []) (c .load) (opcodeFrame opcode (judge (c .core) opcode)) (small, _) (opens-opcode c m area fit (ready .quiet .unselected) opcode small) opcode 0 1 1 ChipErase command
+      (record { is-open = refl; opcode-is = refl; address-is = refl; unjudged = ready-takes c m area ready opcode (command .known); so-many = omega arith }) (omega arith) refl refl (ap not (eq-eqb _ _ level-none)) 0 refl .0
+
+  -- a write status, with its value
+  write-status-begins : (value : ℕ) → value ≤ 255 → (c .core .srwp && not (c .core .wp)) ≡ false → Begins ours c m area (0x01 ∷ value ∷ []) (WriteStatus value) 0
+  unfolding AllBytes fitsRule
+  write-status-begins value byte unlocked =
+      let command : Command 0x01 value 2 (WriteStatus value) = status-writes value byte in
+      begins-at (0x01 ∷ value ∷ []) (c .load) _ (omega arith, (byte, _)) (opens-value c m area fit (ready .quiet .unselected) value byte (ready-takes c m area ready 0x01 (command .known)))
+      0x01 value 2 2 (WriteStatus value) command (record { is-open = refl; opcode-is = refl; address-is = refl; unjudged = refl; so-many = omega arith }) (omega arith) refl unlocked refl 0 refl .0
+
+  -- Ours begins its jobs from their bytes, as the demand says.
+  pub ours-jobs-from-bytes : JobsFromBytes ours c m area
+  ours-jobs-from-bytes =
+      record {
+        program = program-begins;
+        small-erase = λ opcode A is small free.
+            erase-begins opcode A SmallErase (small-erases opcode A is) (among-two (λ (q : ℕ). hasAddress q ≡ true) 0x20 0xD7 refl refl opcode is) refl small
+            (free-start 4096 A (λ x. omega arith) free) (roundedDown 4096 (A % length m)) (rounds 4096 A);
+        sector-erase = λ A small free.
+            erase-begins 0xD8 A SectorErase (sector-erases A) refl refl small
+            (free-start 65536 A (λ x. omega arith) free) (roundedDown 65536 (A % length m)) (rounds 65536 A);
+        chip-erase = chip-erase-begins;
+        write-status = write-status-begins;
+      }

@@ -1,0 +1,118 @@
+-- The hypotheses of the theorems are met: for each kind of them a closed example. Demand 3's are met in `Examples` (P5, P9) and `LifeExample` (`cut-and-ended`).
+use Prim.Native.Nat.{ℕ, _/_, _%_}
+use mathlib.Core.Bool.{true, false}
+use mathlib.Core.List.{List, [], _∷_}
+use mathlib.Core.Path.{_≡_, refl, ap, _∙_}
+use native.Mathlib.Omega.{arith}
+use lib.ListN.{length, replicate}
+use borrow.Author.Tests.{lt-leb}
+use Rattle.part.specs.Part.{permitted, sectorsIn}
+use Rattle.part.specs.Protection.{protectedCount, protectedSector}
+use Rattle.commands.specs.Table.{rowOf, rowIn}
+use Rattle.chip.specs.declared.Chip.{Chip}
+use Rattle.chip.specs.declared.Frame.{Frame}
+use Rattle.chip.specs.declared.JobKind.the-variants.{Program}
+use Rattle.chip.specs.Fields.{withWen, withSuspended, withJob, withSelected, withOpcode, withPlace, withCount}
+use Rattle.chip.specs.Chip.{whole, emptyFrame, blankLoad, fresh}
+use Rattle.legal.specs.Legal.{legalJob, legalCore, legalFrame, isEmpty, isBlank, legal}
+use Rattle.kinds.specs.Kinds.{SELECT, EXCHANGE, DESELECT, TICK, WP, knownIn, kindRowIn, knownKind, kindRow}
+use Rattle.event.specs.Alone.{refusal}
+use Rattle.script.specs.Run as Run
+use Rattle.script.specs.Script.{faultAt, eventAt, walk, eventsFrom, events, firstBad, room}
+use Rattle.demands.specs.Demand2.{stopOf, Quiet, Ready, FreeAt}
+
+-- a frame of that opcode with so many bytes, selected and not judged
+abbrev framed : ℕ → ℕ → Frame
+framed opcode count = withSelected true (withOpcode opcode (withCount count emptyFrame))
+
+abbrev counted-to-7 : Chip
+counted-to-7 = whole (fresh 0x00 .core) (framed 0x03 7) blankLoad blankLoad
+
+-- `legal-applied`, `legal-runs`, `good-alone`: a fresh state is legal, on the smallest and on the real part
+pub legal-met : (legal (fresh 0x00) 65536 ≡ true) × (legal (fresh 0xFF) 2097152 ≡ true)
+unfolding legal legalCore legalJob legalFrame isEmpty isBlank permitted fresh
+legal-met = (refl, refl)
+
+-- `ours-other-reads`, `ours-jobs-from-bytes`: a chip with WEN and nothing protected is ready and free at every address; `ours-stopped-frame`: FFh is stopped by 3
+abbrev enabled : Chip
+enabled = whole (withWen true (fresh 0x00 .core)) emptyFrame blankLoad blankLoad
+
+pub ready-met : (m : List ℕ) → length m ≡ 65536 → Ready enabled m []
+unfolding legal legalCore legalJob legalFrame isEmpty isBlank permitted fresh
+ready-met m long = record { quiet = record { fit = record { state-legal = ap (legal enabled) long; area-short = omega arith }; resting = refl; awake = refl; unselected = refl }; idle = refl }
+
+pub free-met : (m : List ℕ) (A : ℕ) → length m ≡ 65536 → FreeAt enabled m A
+unfolding fresh protectedSector protectedCount
+free-met m A long = ap (λ (n : ℕ). protectedSector 0 false (sectorsIn n) (A % n / 65536)) long ∙ lt-leb 1 (A % 65536 / 65536) (omega arith)
+
+pub stopped-met : (length (enabled .load) ≡ 256) × (enabled .core .wen ≡ true) × (stopOf (enabled .core) 0xFF ≡ 3)
+unfolding rowOf rowIn
+stopped-met = (refl, refl, refl)
+
+-- `ours-cell-reads`: so reads a chip whose program is suspended
+abbrev waiting : Chip
+waiting = whole (withSuspended true (withJob (record { kind = Program; start = 0; done = 0 }) (enabled .core))) emptyFrame blankLoad blankLoad
+
+pub quiet-met : (m : List ℕ) → length m ≡ 65536 → Quiet waiting m []
+unfolding legal legalCore legalJob legalFrame isEmpty isBlank permitted fresh
+quiet-met m long = record { fit = record { state-legal = ap (legal waiting) long; area-short = omega arith }; resting = refl; awake = refl; unselected = refl }
+
+-- a state with a selected frame of that opcode and that read place
+abbrev reading-at : ℕ → ℕ → Chip
+reading-at opcode place = whole (fresh 0x00 .core) (withPlace place (framed opcode 6)) blankLoad blankLoad
+
+-- the ends of the read places: in a 5Ah frame 2^24 of them whatever the memory's length, in a 9Fh frame 4, in others the cells (RULES, Legal states)
+pub places-met : (legal (reading-at 0x5A 0xFFFFFF) 65536 ≡ true) × (legal (reading-at 0x5A 0x1000000) 65536 ≡ false) × (legal (reading-at 0x5A 0x1000000) 2097152 ≡ false)
+    × (legal (reading-at 0x9F 3) 65536 ≡ true) × (legal (reading-at 0x9F 4) 65536 ≡ false) × (legal (reading-at 0x0B 65535) 65536 ≡ true) × (legal (reading-at 0x0B 65536) 65536 ≡ false)
+unfolding legal legalCore legalJob legalFrame isEmpty isBlank permitted fresh
+places-met = (refl, refl, refl, refl, refl, refl, refl)
+
+-- `event-refused-when`: each number occurs; a byte count of 7 is in no legal frame
+pub refusals-met : (refusal (fresh 0x00) 65537 0 TICK 0 ≡ 1) × (refusal (fresh 0x00) 65536 257 TICK 0 ≡ 13) × (refusal counted-to-7 65536 0 TICK 0 ≡ 2) × (refusal (fresh 0x00) 65536 0 9 0 ≡ 5) × (refusal (fresh 0x00) 65536 0 EXCHANGE 256 ≡ 6) × (refusal (fresh 0x00) 65536 256 TICK 0 ≡ 0)
+unfolding refusal legal legalCore legalJob legalFrame isEmpty isBlank permitted fresh knownKind knownIn kindRow kindRowIn
+refusals-met = (refl, refl, refl, refl, refl, refl)
+
+-- where several fit, 1 comes before 13, and 13 before 2, 5 and 3 (RULES, Refusals)
+pub thirteen-met : (refusal counted-to-7 65537 257 9 0 ≡ 1) × (refusal counted-to-7 65536 257 9 0 ≡ 13) × (Run.refusal counted-to-7 65537 257 (9 ∷ []) 0 .number ≡ 1) × (Run.refusal counted-to-7 65536 257 (replicate 65537 TICK) 0 .number ≡ 13)
+unfolding refusal Run.refusal legal legalCore legalJob legalFrame isEmpty isBlank permitted fresh
+thirteen-met = (refl, refl, refl, refl)
+
+-- an event alone, by what refuses it on a fresh state of the smallest part
+abbrev refuses : ℕ → ℕ → ℕ
+refuses kind body = refusal (fresh 0x00) 65536 0 kind body
+
+-- the least and the greatest body of each kind are taken, and what lies next to them is not (RULES, Events)
+pub ranges-met : (refuses 0x02 0 ≡ 0) × (refuses 0x02 255 ≡ 0) × (refuses 0x02 256 ≡ 6) × (refuses 0x05 0 ≡ 6) × (refuses 0x05 1 ≡ 0) × (refuses 0x05 65535 ≡ 0) × (refuses 0x05 65536 ≡ 6)
+    × (refuses 0x06 0 ≡ 0) × (refuses 0x06 1 ≡ 0) × (refuses 0x06 2 ≡ 6) × (refuses 0x08 0 ≡ 6) × (refuses 0x08 1 ≡ 0) × (refuses 0x08 7 ≡ 0) × (refuses 0x08 8 ≡ 6)
+unfolding refusal legal legalCore legalJob legalFrame isEmpty isBlank permitted fresh knownKind knownIn kindRow kindRowIn
+ranges-met = (refl, refl, refl, refl, refl, refl, refl, refl, refl, refl, refl, refl, refl, refl)
+
+-- a kind without a body takes any number for one, and no number beside 1 to 8 is a kind (RULES, Events)
+pub bodiless-met : (body : ℕ) → (refuses 0x01 body ≡ 0) × (refuses 0x03 body ≡ 0) × (refuses 0x04 body ≡ 0) × (refuses 0x07 body ≡ 0) × (refuses 0x00 body ≡ 5) × (refuses 0x09 body ≡ 5) × (refuses 0x101 body ≡ 5)
+unfolding refusal legal legalCore legalJob legalFrame isEmpty isBlank permitted fresh knownKind knownIn kindRow kindRowIn
+bodiless-met body = (refl, refl, refl, refl, refl, refl, refl)
+
+-- `run-refused-when`: so does each number of a run; 65,537 ticks are too many bytes, and a deselect needs two of output
+pub run-refusals-met : (Run.refusal (fresh 0x00) 65537 0 [] 0 .number ≡ 1) × (Run.refusal (fresh 0x00) 65536 257 [] 0 .number ≡ 13) × (Run.refusal counted-to-7 65536 0 [] 0 .number ≡ 2) × (Run.refusal (fresh 0x00) 65536 0 (replicate 65537 TICK) 0 .number ≡ 3) × (Run.refusal (fresh 0x00) 65536 0 (DESELECT ∷ []) 1 .number ≡ 7)
+    × (Run.refusal (fresh 0x00) 65536 256 (DESELECT ∷ []) 2 .number ≡ 0)
+unfolding Run.refusal firstBad room eventsFrom walk faultAt legal legalCore legalJob legalFrame isEmpty isBlank permitted fresh knownKind knownIn kindRow kindRowIn
+run-refusals-met = (refl, refl, refl, refl, refl, refl)
+
+-- `pieces`, `first-bad-decides`: a script without a bad event, and one for each fault
+pub scripts-met : (firstBad (events (SELECT ∷ EXCHANGE ∷ 0x06 ∷ DESELECT ∷ [])) .number ≡ 0) × (firstBad (events (TICK ∷ EXCHANGE ∷ [])) .number ≡ 4) × (firstBad (events (TICK ∷ 9 ∷ [])) .number ≡ 5) × (firstBad (events (WP ∷ 2 ∷ [])) .number ≡ 6)
+unfolding firstBad eventsFrom walk faultAt knownKind knownIn kindRow kindRowIn
+scripts-met = (refl, refl, refl, refl)
+
+-- `room-cut`, `bad-first`: two pieces for which an output has room, one by one, and has none for the whole; a piece that ends in an event, which the next completes
+pub cut-met : (Run.refusal (fresh 0x00) 65536 0 (DESELECT ∷ []) 2 .number ≡ 0) × (Run.refusal (fresh 0x00) 65536 0 (DESELECT ∷ DESELECT ∷ []) 2 .number ≡ 7) × (firstBad (events (TICK ∷ EXCHANGE ∷ [])) .number ≡ 4) × (firstBad (events (TICK ∷ EXCHANGE ∷ 0x06 ∷ [])) .number ≡ 0)
+unfolding Run.refusal firstBad room eventsFrom walk faultAt legal legalCore legalJob legalFrame isEmpty isBlank permitted fresh knownKind knownIn kindRow kindRowIn
+cut-met = (refl, refl, refl, refl)
+
+-- the table of kinds, worked through on bytes: each kind once, its ticks 102h with the high byte first (RULES, Events)
+abbrev each-kind : List ℕ
+each-kind = 0x01 ∷ 0x02 ∷ 0x9F ∷ 0x03 ∷ 0x04 ∷ 0x05 ∷ 0x01 ∷ 0x02 ∷ 0x06 ∷ 0x01 ∷ 0x07 ∷ 0x08 ∷ 0x07 ∷ []
+
+-- nothing is wrong with it; it has an exchange and two deselects to say, of two bytes each (RULES, Refusals)
+pub kinds-met : (firstBad (events each-kind) .number ≡ 0) × (room (events each-kind) ≡ 6) × (eventAt each-kind 5 .body ≡ 258)
+unfolding firstBad room eventsFrom walk faultAt knownKind knownIn kindRow kindRowIn
+kinds-met = (refl, refl, refl)

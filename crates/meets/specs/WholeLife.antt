@@ -1,0 +1,157 @@
+-- A script that holds a job's whole life: the run's own memory is the job's whole image on the memory that the job found, its chip has no job, and its working ticks
+-- are those before and the job's steps. Of any runner over any model that meet the demands (`whole-life`), and of `script::run` (`script-whole-life`).
+use Prim.Native.Nat.{ℕ, _+_}
+use mathlib.Core.Bool.{Bool, true}
+use mathlib.Core.List.{List, [], _∷_, _++_}
+use mathlib.Core.Path.{_≡_, refl, sym, ap, subst, _∙_}
+use native.Mathlib.Nat.{add-zero, zero-add, add-assoc}
+use lib.ListN.{length}
+use Rattle.part.specs.Part.{sectorsIn}
+use Rattle.chip.specs.declared.Chip.{Chip}
+use Rattle.chip.specs.declared.Job.{Job}
+use Rattle.chip.specs.Job.{total, wholeImage, noJob}
+use Rattle.script.specs.Script.{Event, events}
+use Rattle.script.specs.Run.{World, world}
+use Rattle.demands.specs.Model.{Model, ours, Good, AllGood, Fit, doesBy, onwardBy, runsBy, workingTicks, workedBy}
+use Rattle.demands.specs.Demand1.{RunReply, Runner, Demand1Run}
+use Rattle.demands.specs.Demand2.{Closing, on-a-byte, inside-a-byte}
+use Rattle.demands.specs.Demand3.{Started, UnderWay, AllSpare, stepsOf, Outlook, Demand3}
+use Rattle.meets.specs.Ours.{fit-next}
+use Rattle.meets.specs.OursFrames.{runsBy-add}
+use Rattle.meets.specs.Meets1.{ourRun, all-good, meets-1-run}
+use Rattle.meets.specs.Meets3.{meets-3}
+
+-- ---- the words
+
+-- the job that stands in a world
+abbrev pub jobIn : World → Job
+jobIn w = w .chip .core .job
+
+-- from a world on: some events, then a deselect that begins a job, then events that spare it, with as many working ticks as it has steps
+pub record HoldsLife (M : Model) (area : List ℕ) (w : World) (before : List Event) (begins : Event) (life : List Event) : Type 0 where
+  pub loose : Bool
+  pub closing : Closing (begins .kind) (begins .body) loose
+  pub selected : runsBy M area before w .chip .frame .selected ≡ true
+  pub says-two : doesBy M area begins (runsBy M area before w) .says ≡ 0x82 ∷ 2 ∷ []
+  pub spared : AllSpare M area life (onwardBy M area begins (runsBy M area before w))
+  pub all-ticks : workedBy M area life (onwardBy M area begins (runsBy M area before w)) ≡ stepsOf (jobIn (onwardBy M area begins (runsBy M area before w)) .kind) (onwardBy M area begins (runsBy M area before w))
+
+-- what a run answers after it, if the job found the world w₀ and began in w₁
+pub record LifeRun (r : RunReply) (w₀ w₁ : World) : Type 0 where
+  pub memory-is : r .memory ≡ wholeImage (jobIn w₁ .kind) (sectorsIn (length (w₀ .memory))) (jobIn w₁ .start) (w₁ .chip .held) (w₀ .memory)
+  pub job-gone : r .chip .core .job ≡ noJob
+  pub ticks-are : r .ticks ≡ w₀ .ticks + stepsOf (jobIn w₁ .kind) w₀
+
+-- a good event leaves a legal chip
+abbrev pub LegalityKept : Model → Type 0
+LegalityKept M = (area : List ℕ) (e : Event) (w : World) → Fit (w .chip) (w .memory) area → Good e → Fit (onwardBy M area e w .chip) (onwardBy M area e w .memory) area
+
+-- ---- rows of events
+
+-- both parts of a good row are good
+pub good-split : (es fs : List Event) → AllGood (es ++ fs) → AllGood es × AllGood fs
+unfolding AllGood
+good-split [] fs g = (tt, g)
+good-split (e ∷ es) fs g = let rest = good-split es fs (g .1) in ((g .0, rest .0), rest .1)
+
+module _ (M : Model) (kept : LegalityKept M) (D : Demand3 M) (area : List ℕ) where
+  -- legality is kept, and the working ticks are counted, over a row of events
+  row-kept : (es : List Event) (w : World) → Fit (w .chip) (w .memory) area → AllGood es
+      → Fit (runsBy M area es w .chip) (runsBy M area es w .memory) area × (runsBy M area es w .ticks ≡ w .ticks + workedBy M area es w)
+  unfolding runsBy workedBy AllGood
+  row-kept [] w fit good = (fit, sym (add-zero (w .ticks)))
+  row-kept (e ∷ es) w fit good =
+      let next : World = onwardBy M area e w in
+      let rest = row-kept es next (kept area e w fit (good .0)) (good .1) in
+      (rest .0, rest .1 ∙ ap (λ (n : ℕ). w .ticks + n + workedBy M area es next) (D .counts area e w fit (good .0)) ∙ add-assoc (w .ticks) _ _)
+
+  -- a deselect has no working tick
+  closing-rests : (e : Event) (w : World) (loose : Bool) → Closing (e .kind) (e .body) loose → workingTicks w e ≡ 0
+  closing-rests e w loose h = go h
+    where
+      go : {kind body : ℕ} {loose : Bool} → Closing kind body loose → workingTicks w (record { offset = 0; kind = kind; body = body; fault = 0 }) ≡ 0
+      go (on-a-byte body) = refl
+      go (inside-a-byte bits least most) = refl
+
+  module _ (w : World) (fit : Fit (w .chip) (w .memory) area) (before : List Event) (begins : Event) (life : List Event) (good : AllGood (before ++ (begins ∷ life)))
+      (h : HoldsLife M area w before begins life) where
+    -- the world that the job found, the world that it began in, and the world after its life
+    abbrev w₀ : World
+    w₀ = runsBy M area before w
+
+    abbrev w₁ : World
+    w₁ = onwardBy M area begins w₀
+
+    abbrev w₂ : World
+    w₂ = runsBy M area life w₁
+
+    -- each part of the row is good, and those worlds' chips are legal
+    good-before : AllGood before
+    good-before = good-split before (begins ∷ life) good .0
+
+    good-begins : Good begins × AllGood life
+    unfolding AllGood
+    good-begins = good-split before (begins ∷ life) good .1
+
+    fit-found : Fit (w₀ .chip) (w₀ .memory) area
+    fit-found = row-kept before w fit good-before .0
+
+    fit-begun : Fit (w₁ .chip) (w₁ .memory) area
+    fit-begun = kept area begins w₀ fit-found (good-begins .0)
+
+    -- the job starts, stands at its step 0, and lives
+    started : Started (w₀ .chip) (w₀ .memory) (doesBy M area begins w₀)
+    started = D .starts (w₀ .chip) (w₀ .memory) area (begins .kind) (begins .body) (h .loose) (record { fit = fit-found; selected = h .selected; closing = h .closing }) (h .says-two)
+
+    under-way : UnderWay area (jobIn w₁ .kind) (jobIn w₁ .start) (w₁ .chip .held) 0 w₁
+    under-way =
+        record {
+          fit = fit-begun;
+          a-job = started .a-job;
+          job-is = λ i. record { kind = jobIn w₁ .kind; start = jobIn w₁ .start; done = started .at-step-0 i };
+          load-is = refl;
+        }
+
+    lived : Outlook (jobIn w₁ .kind) (jobIn w₁ .start) (w₁ .chip .held) 0 (workedBy M area life w₁) w₁ w₂
+    lived = D .lives area (jobIn w₁ .kind) (jobIn w₁ .start) (w₁ .chip .held) 0 w₁ life (record { under-way = under-way; good = good-begins .1; spared = h .spared })
+
+    -- what the life leaves: the whole image on the memory that the job found, no job, and its steps counted
+    life-memory : w₂ .memory ≡ wholeImage (jobIn w₁ .kind) (sectorsIn (length (w₀ .memory))) (jobIn w₁ .start) (w₁ .chip .held) (w₀ .memory)
+    life-memory = lived .whole-image refl (h .all-ticks) ∙ ap (λ (m : List ℕ). wholeImage (jobIn w₁ .kind) (sectorsIn (length m)) (jobIn w₁ .start) (w₁ .chip .held) m) (started .cells-same)
+
+    life-gone : w₂ .chip .core .job ≡ noJob
+    life-gone = lived .gone-when .1 (zero-add _ ∙ h .all-ticks)
+
+    life-ticks : w₂ .ticks ≡ w₀ .ticks + stepsOf (jobIn w₁ .kind) w₀
+    life-ticks =
+        row-kept life w₁ fit-begun (good-begins .1) .1
+        ∙ ap (λ (n : ℕ). w₀ .ticks + n + workedBy M area life w₁) (D .counts area begins w₀ fit-found (good-begins .0) ∙ closing-rests begins w₀ (h .loose) (h .closing))
+        ∙ ap (λ (n : ℕ). n + workedBy M area life w₁) (add-zero (w₀ .ticks))
+        ∙ ap (λ (n : ℕ). w₀ .ticks + n) (h .all-ticks ∙ ap (λ (m : List ℕ). total (jobIn w₁ .kind) (sectorsIn (length m))) (started .cells-same))
+
+-- ---- the run
+
+-- A done run of a script that holds a job's whole life: its own memory, chip and count of working ticks.
+pub whole-life : (M : Model) (R : Runner) → LegalityKept M → Demand1Run M R → Demand3 M
+    → (c : Chip) (m area s out : List ℕ) → R c m area s out .refusal ≡ 0
+    → (before : List Event) (begins : Event) (life : List Event) → events s ≡ before ++ (begins ∷ life) → HoldsLife M area (world c m [] 0) before begins life
+    → LifeRun (R c m area s out) (runsBy M area before (world c m [] 0)) (onwardBy M area begins (runsBy M area before (world c m [] 0)))
+unfolding runsBy
+whole-life M R kept D1 D3 c m area s out done before begins life in-order holds =
+    let w : World = world c m [] 0 in
+    let ok = D1 .numbers c m area s out .none .0 done in
+    let fit : Fit c m area = record { state-legal = ok .0 .state-legal; area-short = ok .0 .area-short } in
+    let good : AllGood (before ++ (begins ∷ life)) = subst AllGood in-order (all-good s (events s) (ok .1)) in
+    let after : runsBy M area (events s) w ≡ runsBy M area life (onwardBy M area begins (runsBy M area before w)) = ap (λ (es : List Event). runsBy M area es w) in-order ∙ runsBy-add M area before (begins ∷ life) w in
+    let answer = D1 .done-runs c m area s out done in
+    record {
+      memory-is = ap (λ (r : RunReply). r .memory) answer ∙ ap (λ (v : World). v .memory) after ∙ life-memory M kept D3 area w fit before begins life good holds;
+      job-gone = ap (λ (r : RunReply). r .chip .core .job) answer ∙ ap (λ (v : World). v .chip .core .job) after ∙ life-gone M kept D3 area w fit before begins life good holds;
+      ticks-are = ap (λ (r : RunReply). r .ticks) answer ∙ ap (λ (v : World). v .ticks) after ∙ life-ticks M kept D3 area w fit before begins life good holds;
+    }
+
+-- A script that `script::run` has done, and that holds a job's whole life: its own memory is the job's whole image on the memory that the job found.
+pub script-whole-life : (c : Chip) (m area s out : List ℕ) → ourRun c m area s out .refusal ≡ 0
+    → (before : List Event) (begins : Event) (life : List Event) → events s ≡ before ++ (begins ∷ life) → HoldsLife ours area (world c m [] 0) before begins life
+    → LifeRun (ourRun c m area s out) (runsBy ours area before (world c m [] 0)) (onwardBy ours area begins (runsBy ours area before (world c m [] 0)))
+script-whole-life = whole-life ours ourRun fit-next meets-1-run meets-3
