@@ -348,7 +348,7 @@ pub record Demand2 (M : Model) : Type 0 where
       → M c m area 0x06 body ≡ reply (whole (withWp (eqb body 1) (c .core)) (c .frame) (c .load) (c .held)) m [] 0
   -- a power cut
   pub power-cut : (c : Chip) (m area : List ℕ) (body : ℕ) → Fit c m area → M c m area 0x07 body ≡ reply (whole (poweredUp (c .core)) emptyFrame blankLoad blankLoad) m [] 0
-  -- unselected, an exchange floats and a deselect gives verdict 0, and neither does more
+  -- with no frame open an exchange floats, a deselect is verdict 0, and that is all
   pub unselected-exchange : (c : Chip) (m area : List ℕ) (b : ℕ) → Fit c m area → b ≤ 255 → c .frame .selected ≡ false → M c m area 0x02 b ≡ reply c m (0x80 ∷ []) 0
   pub unselected-deselect : (c : Chip) (m area : List ℕ) (kind body : ℕ) (loose : Bool) → Fit c m area → Closing kind body loose → c .frame .selected ≡ false
       → M c m area kind body ≡ reply c m (0x82 ∷ 0 ∷ []) 0

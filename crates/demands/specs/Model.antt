@@ -97,12 +97,17 @@ runsBy M area (e ∷ es) w = runsBy M area es (onwardBy M area e w)
 
 -- ---- ticks
 
--- how many of an event's ticks find a job running: none of them if none runs, and no more than the job has steps left (RULES, Jobs)
+-- the ticks of an event
+abbrev pub ticksIn : Event → ℕ
+ticksIn e = cond (eqb (e .kind) 0x04) 1 (cond (eqb (e .kind) 0x05) (e .body) 0)
+
+-- how many of n ticks find a job running: none of them if none runs, and no more than the job has steps left, on a part of S sectors (RULES, Jobs)
 abbrev pub finds : ℕ → Core → ℕ → ℕ
 finds S k n = cond (running k) (min n (total (k .job .kind) S - k .job .done)) 0
 
+-- the ticks of an event that find the world's job running
 abbrev pub workingTicks : World → Event → ℕ
-workingTicks w e = cond (eqb (e .kind) 0x04) (finds (sectorsIn (length (w .memory))) (w .chip .core) 1) (cond (eqb (e .kind) 0x05) (finds (sectorsIn (length (w .memory))) (w .chip .core) (e .body)) 0)
+workingTicks w e = finds (sectorsIn (length (w .memory))) (w .chip .core) (ticksIn e)
 
 -- over a row of events: each of them in the world that it finds
 unfoldable pub workedBy : Model → List ℕ → List Event → World → ℕ

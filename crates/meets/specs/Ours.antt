@@ -134,15 +134,19 @@ finds-worked S k n l = go (running k) refl (decLt n (ticksLeft S k))
     go true r (yes h) = worked-go S k r n (omega arith) ∙ omega (arith, l .job-unfinished (running-job k r))
     go true r (no h) = worked-over S k r n (omega arith) ∙ omega (arith, l .job-unfinished (running-job k r))
 
+-- no ticks find none
+pub finds-none : (S : ℕ) (k : Core) → finds S k 0 ≡ 0
+finds-none S k = cond-either (λ (n : ℕ). n ≡ 0) (running k) _ _ (λ _. omega arith) (λ _. refl)
+
 pub ticks-ours : (area : List ℕ) (e : Event) (w : World) → Fit (w .chip) (w .memory) area → does (settingOf (length (w .memory)) area) e w .ticks ≡ workingTicks w e
 unfolding applied
 ticks-ours area e w fit =
-    cond-either (λ (n : ℕ). does T e w .ticks ≡ n) (eqb (e .kind) 0x04) _ _
+    cond-either (λ (n : ℕ). does T e w .ticks ≡ finds S (w .chip .core) n) (eqb (e .kind) 0x04) _ _
     (λ one. ap (λ (kind : ℕ). applied T (w .chip) (w .memory) kind (e .body) .ticks) (eqb-true (e .kind) 0x04 one) ∙ finds-worked S (w .chip .core) 1 core)
     (λ not-one.
-    cond-either (λ (n : ℕ). does T e w .ticks ≡ n) (eqb (e .kind) 0x05) _ _
+    cond-either (λ (n : ℕ). does T e w .ticks ≡ finds S (w .chip .core) n) (eqb (e .kind) 0x05) _ _
     (λ many. ap (λ (kind : ℕ). applied T (w .chip) (w .memory) kind (e .body) .ticks) (eqb-true (e .kind) 0x05 many) ∙ finds-worked S (w .chip .core) (e .body) core)
-    (λ not-many. works-none T (w .chip) (w .memory) (e .kind) (e .body) (eqb-false _ _ not-one) (eqb-false _ _ not-many)))
+    (λ not-many. works-none T (w .chip) (w .memory) (e .kind) (e .body) (eqb-false _ _ not-one) (eqb-false _ _ not-many) ∙ sym (finds-none S (w .chip .core))))
   where
     T : Setting
     T = settingOf (length (w .memory)) area

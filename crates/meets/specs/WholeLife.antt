@@ -16,7 +16,7 @@ use Rattle.demands.specs.Model.{Model, ours, Good, AllGood, Fit, doesBy, onward
 use Rattle.demands.specs.Demand1.{RunReply, Runner, Demand1Run}
 use Rattle.demands.specs.Demand2.{Closing, on-a-byte, inside-a-byte}
 use Rattle.demands.specs.Demand3.{Started, UnderWay, AllSpare, stepsOf, Outlook, Demand3}
-use Rattle.meets.specs.Ours.{fit-next}
+use Rattle.meets.specs.Ours.{finds-none, fit-next}
 use Rattle.meets.specs.OursFrames.{runsBy-add}
 use Rattle.meets.specs.Meets1.{ourRun, all-good, meets-1-run}
 use Rattle.meets.specs.Meets3.{meets-3}
@@ -70,8 +70,8 @@ module _ (M : Model) (kept : LegalityKept M) (D : Demand3 M) (area : List ℕ) w
   closing-rests e w loose h = go h
     where
       go : {kind body : ℕ} {loose : Bool} → Closing kind body loose → workingTicks w (record { offset = 0; kind = kind; body = body; fault = 0 }) ≡ 0
-      go (on-a-byte body) = refl
-      go (inside-a-byte bits least most) = refl
+      go (on-a-byte body) = finds-none (sectorsIn (length (w .memory))) (w .chip .core)
+      go (inside-a-byte bits least most) = finds-none (sectorsIn (length (w .memory))) (w .chip .core)
 
   module _ (w : World) (fit : Fit (w .chip) (w .memory) area) (before : List Event) (begins : Event) (life : List Event) (good : AllGood (before ++ (begins ∷ life)))
       (h : HoldsLife M area w before begins life) where
