@@ -1,14 +1,14 @@
 -- The three demands decide a model: two models that meet them give the same answer to every event. So whoever believes the demands believes ours (`Meets`).
 use Prim.Native.Nat.{ℕ, _+_, _<_, _≤_}
-use mathlib.Core.Bool.{Bool, true, false, cond, not, true≢false, false≢true}
+use mathlib.Core.Bool.{Bool, true, false, cond, not, _&&_, _||_, true≢false, false≢true}
 use mathlib.Core.List.{List, [], _∷_}
 use mathlib.Core.Path.{_≡_, refl, sym, ap, subst, _∙_}
 use native.Mathlib.Decide.{ℕ-discrete, decLt}
 use native.Mathlib.Omega.{arith}
 use lib.Dec.{eqb, leb}
 use lib.ListN.{length, getD}
-use borrow.Author.Tests.{ne-eqb, leb-true}
-use Rattle.cells.specs.Choice.{cond-yes, cond-no, and-left, and-right}
+use borrow.Author.Tests.{ne-eqb, leb-true, eqb-false, not-true}
+use Rattle.cells.specs.Choice.{cond-yes, cond-no, means-holds, and-left, and-right}
 use Rattle.part.specs.Part.{permitted}
 use Rattle.commands.specs.declared.Row.{Row}
 use Rattle.commands.specs.Table.{rows, rowIn, rowOf}
@@ -52,35 +52,53 @@ one-number c n extent kind body r s p q = go (permitted n) (decLt 256 extent) (l
 
 -- ---- which commands get verdicts 1 and 2
 
--- what holds of the opcode of each row holds of every known opcode
-abbrev EachRow : (ℕ → Type 0) → List (List ℕ) → Type 0
-EachRow P [] = Unit {0}
-EachRow P (r ∷ rs) = P (getD r 0 0) × EachRow P rs
+-- a test that holds of the opcode of each row holds of every known opcode
+abbrev everyRow : (ℕ → Bool) → List (List ℕ) → Bool
+everyRow P [] = true
+everyRow P (r ∷ rs) = P (getD r 0 0) && everyRow P rs
 
-known-each : (P : ℕ → Type 0) (rs : List (List ℕ)) → EachRow P rs → (opcode : ℕ) → rowIn rs opcode .known ≡ true → P opcode
+known-test : (P : ℕ → Bool) (rs : List (List ℕ)) → everyRow P rs ≡ true → (opcode : ℕ) → rowIn rs opcode .known ≡ true → P opcode ≡ true
 unfolding rowIn
-known-each P [] each opcode known = absurd (false≢true known)
-known-each P (r ∷ rs) each opcode known = go (λ h. known-each P rs (each .1) opcode h) (ℕ-discrete (getD r 0 0) opcode)
+known-test P [] every opcode known = absurd (false≢true known)
+known-test P (r ∷ rs) every opcode known = go (λ h. known-test P rs (and-right (P (getD r 0 0)) (everyRow P rs) every) opcode h) (ℕ-discrete (getD r 0 0) opcode)
   where
-    go : (rowIn rs opcode .known ≡ true → P opcode) → Dec (getD r 0 0 ≡ opcode) → P opcode
-    go rest (yes e) = subst P e (each .0)
+    go : (rowIn rs opcode .known ≡ true → P opcode ≡ true) → Dec (getD r 0 0 ≡ opcode) → P opcode ≡ true
+    go rest (yes e) = ap P (sym e) ∙ and-left (P (getD r 0 0)) (everyRow P rs) every
     go rest (no n) = rest (sym (ap (λ (row : Row). row .known) (cond-no (eqb (getD r 0 0) opcode) _ _ (ne-eqb _ _ n))) ∙ known)
 
--- tests whose numbers are other ones do not apply, if the first that applies has this number
-abbrev OtherNumbers : ℕ → List Test → Type 0
-OtherNumbers x [] = Unit {0}
-OtherNumbers x (t ∷ ts) = (t .number ≡ x → ⊥) × OtherNumbers x ts
+-- what holds of each of some numbers holds of a number that is among them
+abbrev Each : (ℕ → Type 0) → List ℕ → Type 0
+Each P [] = Unit {0}
+Each P (y ∷ ys) = P y × Each P ys
 
+among-each : (P : ℕ → Type 0) (ys : List ℕ) → Each P ys → (x : ℕ) → among ys x ≡ true → P x
+among-each P [] each x is = absurd (false≢true is)
+among-each P (y ∷ ys) each x is = go (λ h. among-each P ys (each .1) x h) (ℕ-discrete x y)
+  where
+    go : (among ys x ≡ true → P x) → Dec (x ≡ y) → P x
+    go rest (yes e) = subst P (sym e) (each .0)
+    go rest (no n) = rest (sym (ap (λ (b : Bool). b || among ys x) (ne-eqb x y n)) ∙ is)
+
+-- whether a number is none of some tests'
+abbrev isNoneOf : ℕ → List Test → Bool
+isNoneOf x [] = true
+isNoneOf x (t ∷ ts) = not (eqb (t .number) x) && isNoneOf x ts
+
+-- no test applies
 abbrev NoneApply : List Test → Type 0
 NoneApply [] = Unit {0}
 NoneApply (t ∷ ts) = (t .applies ≡ false) × NoneApply ts
 
-none-apply : (x : ℕ) (ts : List Test) (otherwise : ℕ) → OtherNumbers x ts → firstOf ts otherwise ≡ x → NoneApply ts × (otherwise ≡ x)
+-- if the first that applies has a number that is none of theirs, none of them applies
+none-apply : (x : ℕ) (ts : List Test) (otherwise : ℕ) → isNoneOf x ts ≡ true → firstOf ts otherwise ≡ x → NoneApply ts × (otherwise ≡ x)
 none-apply x [] otherwise others is = (tt, is)
-none-apply x (t ∷ ts) otherwise others is = go (λ h. none-apply x ts otherwise (others .1) h) (t .applies) refl
+none-apply x (t ∷ ts) otherwise others is = go (λ h. none-apply x ts otherwise (and-right (not (eqb (t .number) x)) (isNoneOf x ts) others) h) (t .applies) refl
   where
+    another : t .number ≡ x → ⊥
+    another = eqb-false (t .number) x (not-true (eqb (t .number) x) (and-left (not (eqb (t .number) x)) (isNoneOf x ts) others))
+
     go : (firstOf ts otherwise ≡ x → NoneApply ts × (otherwise ≡ x)) → (b : Bool) → t .applies ≡ b → NoneApply (t ∷ ts) × (otherwise ≡ x)
-    go rest true e = absurd (others .0 (sym (cond-yes (t .applies) (t .number) (firstOf ts otherwise) e) ∙ is))
+    go rest true e = absurd (another (sym (cond-yes (t .applies) (t .number) (firstOf ts otherwise) e) ∙ is))
     go rest false e =
         let more = rest (sym (cond-no (t .applies) (t .number) (firstOf ts otherwise) e) ∙ is) in
         ((e, more .0), more .1)
@@ -143,14 +161,6 @@ module _ (M N : Model) (p : Meets M) (q : Meets N) (c : Chip) (m area : List ℕ
     judgement-not : (u : ℕ) → judgementKnown u ≡ false → f .judgement ≡ u → ⊥
     judgement-not u other is = false≢true (sym other ∙ subst (λ (w : ℕ). judgementKnown w ≡ true) is (chip-facts c (length m) (fit .state-legal) .frame-part .judgement-known))
 
-    -- an opcode of which a test does not hold is none of which it holds
-    clash : (P : ℕ → Bool) (opcode : ℕ) (b : Bool) → P opcode ≡ not b → P (f .opcode) ≡ b → f .opcode ≡ opcode → Acts
-    clash P opcode b other holds is = absurd (differ b (sym holds ∙ ap P is ∙ other))
-      where
-        differ : (b : Bool) → b ≡ not b → ⊥
-        differ true e = true≢false e
-        differ false e = false≢true e
-
     -- a row that both meet, for the verdict that both say
     both : (u opcode : ℕ) {core : Chip → List ℕ → Core} {held : Chip → List ℕ} → v ≡ u → After M u opcode core held → After N u opcode core held → f .opcode ≡ opcode → Acts
     both u opcode is a b of-it = same-act (a c m area kind body loose e of-it (says-x u is)) (b c m area kind body loose e of-it (says-y u is))
@@ -163,37 +173,85 @@ module _ (M N : Model) (p : Meets M) (q : Meets N) (c : Chip) (m area : List ℕ
     tests = butLast (rulesList (length m) (c .core) f loose)
 
     -- a verdict of 1 or 2 comes from the list, with none of these tests
-    from-list : (u : ℕ) → v ≡ u → (0 ≡ u → ⊥) → judgementKnown u ≡ false → OtherNumbers u tests → NoneApply tests × (_≡_ {A = ℕ} (cond (beginsJob (f .opcode)) 2 1) u)
+    from-list : (u : ℕ) → v ≡ u → (0 ≡ u → ⊥) → judgementKnown u ≡ false → isNoneOf u tests ≡ true → NoneApply tests × (_≡_ {A = ℕ} (cond (beginsJob (f .opcode)) 2 1) u)
     from-list u is some unjudged others = none-apply u tests (cond (beginsJob (f .opcode)) 2 1) others (listed-as (length m) (c .core) f loose u is some (judgement-not u unjudged))
 
-    -- verdict 1: a known opcode, no read and no job's
+    -- the commands that are done at once, and those that begin a job
+    abbrev atOnce : List ℕ
+    atOnce = 0x06 ∷ 0x04 ∷ 0xB0 ∷ 0x30 ∷ 0xAB ∷ 0xB9 ∷ 0x66 ∷ 0x99 ∷ []
+
+    abbrev jobs : List ℕ
+    jobs = 0x01 ∷ 0x02 ∷ 0x0A ∷ 0x20 ∷ 0xD7 ∷ 0xD8 ∷ 0x60 ∷ 0xC7 ∷ []
+
+    -- verdict 1: a known opcode that is no read and no job's
     done : v ≡ 1 → Acts
     unfolding rowOf
     done one =
-        let off = from-list 1 one (λ z. omega arith) refl (λ z. omega arith, (λ z. omega arith, (λ z. omega arith, (λ z. omega arith, (λ z. omega arith, (λ z. omega arith, (λ z. omega arith, (λ z. omega arith, (λ z. omega arith, (λ z. omega arith, (λ z. omega arith, (λ z. omega arith, (λ z. omega arith, (λ z. omega arith, tt)))))))))))))) in
-        let ones-x = p .second .done-at-once in
-        let ones-y = q .second .done-at-once in
-        let no-read : reads (f .opcode) ≡ false = off .0 .1 .1 .1 .1 .0 in
+        let off = from-list 1 one (λ z. omega arith) refl refl in
+        let a = p .second .done-at-once in
+        let b = q .second .done-at-once in
         let no-job : beginsJob (f .opcode) ≡ false = never (beginsJob (f .opcode)) (off .1) in
-        known-each (λ opcode. f .opcode ≡ opcode → Acts) rows
-        (both 1 0x06 one (ones-x .0) (ones-y .0), (both 1 0x04 one (ones-x .1 .0) (ones-y .1 .0), (clash reads 0x05 false refl no-read, (clash beginsJob 0x01 false refl no-job, (clash reads 0x03 false refl no-read, (clash reads 0x0B false refl no-read, (clash beginsJob 0x20 false refl no-job, (clash beginsJob 0xD7 false refl no-job, (clash beginsJob 0xD8 false refl no-job, (clash beginsJob 0x60 false refl no-job, (clash beginsJob 0xC7 false refl no-job, (clash beginsJob 0x02 false refl no-job, (clash beginsJob 0x0A false refl no-job, (both 1 0xB0 one (ones-x .1 .1 .0) (ones-y .1 .1 .0), (both 1 0x30 one (ones-x .1 .1 .1 .0) (ones-y .1 .1 .1 .0), (clash reads 0x9F false refl no-read, (both 1 0xAB one (ones-x .1 .1 .1 .1 .0) (ones-y .1 .1 .1 .1 .0), (clash reads 0x5A false refl no-read, (both 1 0xB9 one (ones-x .1 .1 .1 .1 .1 .0) (ones-y .1 .1 .1 .1 .1 .0), (both 1 0x66 one (ones-x .1 .1 .1 .1 .1 .1 .0) (ones-y .1 .1 .1 .1 .1 .1 .0), (both 1 0x99 one (ones-x .1 .1 .1 .1 .1 .1 .1 .0) (ones-y .1 .1 .1 .1 .1 .1 .1 .0), tt)))))))))))))))))))))
-        (f .opcode) (known-so (rowOf (f .opcode) .known) (off .0 .0)) refl
+        let one-of : among atOnce (f .opcode) ≡ true =
+        third _ _ _ (off .0 .1 .1 .1 .1 .0) no-job (known-test (λ o. reads o || (beginsJob o || among atOnce o)) rows refl (f .opcode) (known-so (rowOf (f .opcode) .known) (off .0 .0))) in
+        among-each (λ opcode. f .opcode ≡ opcode → Acts) atOnce (
+          both 1 0x06 one (a .0) (b .0),
+          (
+            both 1 0x04 one (a .1 .0) (b .1 .0),
+            (
+              both 1 0xB0 one (a .1 .1 .0) (b .1 .1 .0),
+              (
+                both 1 0x30 one (a .1 .1 .1 .0) (b .1 .1 .1 .0),
+                (
+                  both 1 0xAB one (a .1 .1 .1 .1 .0) (b .1 .1 .1 .1 .0),
+                  (
+                    both 1 0xB9 one (a .1 .1 .1 .1 .1 .0) (b .1 .1 .1 .1 .1 .0),
+                    (both 1 0x66 one (a .1 .1 .1 .1 .1 .1 .0) (b .1 .1 .1 .1 .1 .1 .0), (both 1 0x99 one (a .1 .1 .1 .1 .1 .1 .1 .0) (b .1 .1 .1 .1 .1 .1 .1 .0), tt)),
+                  ),
+                ),
+              ),
+            ),
+          ),
+        )
+        (f .opcode) one-of refl
       where
         never : (b : Bool) → _≡_ {A = ℕ} (cond b 2 1) 1 → b ≡ false
         never true z = absurd (omega arith)
         never false z = refl
 
-    -- verdict 2: a job's
+        third : (a b c : Bool) → a ≡ false → b ≡ false → (a || (b || c)) ≡ true → c ≡ true
+        third true b c h g e = absurd (true≢false h)
+        third false true c h g e = absurd (true≢false g)
+        third false false c h g e = e
+
+    -- verdict 2: a known opcode that is a job's
     begun : v ≡ 2 → Acts
     unfolding rowOf
     begun two =
-        let off = from-list 2 two (λ z. omega arith) refl (λ z. omega arith, (λ z. omega arith, (λ z. omega arith, (λ z. omega arith, (λ z. omega arith, (λ z. omega arith, (λ z. omega arith, (λ z. omega arith, (λ z. omega arith, (λ z. omega arith, (λ z. omega arith, (λ z. omega arith, (λ z. omega arith, (λ z. omega arith, tt)))))))))))))) in
-        let twos-x = p .second .jobs-begun in
-        let twos-y = q .second .jobs-begun in
-        let job : beginsJob (f .opcode) ≡ true = always (beginsJob (f .opcode)) (off .1) in
-        known-each (λ opcode. f .opcode ≡ opcode → Acts) rows
-        (clash beginsJob 0x06 true refl job, (clash beginsJob 0x04 true refl job, (clash beginsJob 0x05 true refl job, (both 2 0x01 two (twos-x .0) (twos-y .0), (clash beginsJob 0x03 true refl job, (clash beginsJob 0x0B true refl job, (both 2 0x20 two (twos-x .1 .1 .1 .0) (twos-y .1 .1 .1 .0), (both 2 0xD7 two (twos-x .1 .1 .1 .1 .0) (twos-y .1 .1 .1 .1 .0), (both 2 0xD8 two (twos-x .1 .1 .1 .1 .1 .0) (twos-y .1 .1 .1 .1 .1 .0), (both 2 0x60 two (twos-x .1 .1 .1 .1 .1 .1 .0) (twos-y .1 .1 .1 .1 .1 .1 .0), (both 2 0xC7 two (twos-x .1 .1 .1 .1 .1 .1 .1 .0) (twos-y .1 .1 .1 .1 .1 .1 .1 .0), (both 2 0x02 two (twos-x .1 .0) (twos-y .1 .0), (both 2 0x0A two (twos-x .1 .1 .0) (twos-y .1 .1 .0), (clash beginsJob 0xB0 true refl job, (clash beginsJob 0x30 true refl job, (clash beginsJob 0x9F true refl job, (clash beginsJob 0xAB true refl job, (clash beginsJob 0x5A true refl job, (clash beginsJob 0xB9 true refl job, (clash beginsJob 0x66 true refl job, (clash beginsJob 0x99 true refl job, tt)))))))))))))))))))))
-        (f .opcode) (known-so (rowOf (f .opcode) .known) (off .0 .0)) refl
+        let off = from-list 2 two (λ z. omega arith) refl refl in
+        let a = p .second .jobs-begun in
+        let b = q .second .jobs-begun in
+        let one-of : among jobs (f .opcode) ≡ true =
+        means-holds (beginsJob (f .opcode)) (among jobs (f .opcode)) (known-test (λ o. not (beginsJob o) || among jobs o) rows refl (f .opcode) (known-so (rowOf (f .opcode) .known) (off .0 .0))) (always (beginsJob (f .opcode)) (off .1)) in
+        among-each (λ opcode. f .opcode ≡ opcode → Acts) jobs (
+          both 2 0x01 two (a .0) (b .0),
+          (
+            both 2 0x02 two (a .1 .0) (b .1 .0),
+            (
+              both 2 0x0A two (a .1 .1 .0) (b .1 .1 .0),
+              (
+                both 2 0x20 two (a .1 .1 .1 .0) (b .1 .1 .1 .0),
+                (
+                  both 2 0xD7 two (a .1 .1 .1 .1 .0) (b .1 .1 .1 .1 .0),
+                  (
+                    both 2 0xD8 two (a .1 .1 .1 .1 .1 .0) (b .1 .1 .1 .1 .1 .0),
+                    (both 2 0x60 two (a .1 .1 .1 .1 .1 .1 .0) (b .1 .1 .1 .1 .1 .1 .0), (both 2 0xC7 two (a .1 .1 .1 .1 .1 .1 .1 .0) (b .1 .1 .1 .1 .1 .1 .1 .0), tt)),
+                  ),
+                ),
+              ),
+            ),
+          ),
+        )
+        (f .opcode) one-of refl
       where
         always : (b : Bool) → _≡_ {A = ℕ} (cond b 2 1) 2 → b ≡ true
         always true z = refl
