@@ -30,6 +30,7 @@ use Rattle.script.specs.Script.{Event, faultAt, walk, eventsFrom, events}
 use Rattle.script.specs.Run.{World, world, runs}
 use Rattle.script.specs.Laws.{runs-add}
 use Rattle.chip.specs.declared.JobKind.the-variants.{Program, SmallErase}
+use Rattle.demands.specs.Demand2.{Rows}
 use Rattle.meets.specs.Stepwise.{UnderWay, AllSpare, workedBy, k-steps}
 
 -- ---- how a row is written
@@ -298,11 +299,6 @@ p3 m =
     )
 
 -- ---- all of them under one claim
-
--- each row of a list holds
-abbrev pub Rows : List (Type 0) → Type 0
-Rows [] = Unit {0}
-Rows (row ∷ rows) = row × Rows rows
 
 -- P1 to P10 hold of the definitions.
 pub worked-examples : Rows (P1 ∷ P2 ∷ P3 ∷ P4 ∷ P5 ∷ P6 ∷ P7 ∷ P8 ∷ P9 ∷ P10 ∷ [])
