@@ -31,3 +31,4 @@ pub mod Examples
 pub mod SfdpExamples
 pub mod Met
 pub mod LifeExample
+pub mod ProgramRuns
