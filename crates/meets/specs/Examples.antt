@@ -26,7 +26,7 @@ use Rattle.frame.specs.Frame.{judge, taken, exchanged}
 use Rattle.verdict.specs.Verdict.{jobOf, jobVerdict, commandVerdict, listed, verdict}
 use Rattle.verdict.specs.Effect.{instantly, acted, settled, heldAfter}
 use Rattle.event.specs.Event.{applied}
-use Rattle.script.specs.Script.{Event, faultAt, walk, eventsFrom, events}
+use Rattle.script.specs.Script.{Event, faultAt, walk, eventsFrom, events, room}
 use Rattle.script.specs.Run.{World, world, runs}
 use Rattle.script.specs.Laws.{runs-add}
 use Rattle.chip.specs.declared.JobKind.the-variants.{Program, SmallErase}
@@ -303,3 +303,18 @@ p3 m =
 -- P1 to P10 hold of the definitions.
 pub worked-examples : Rows (P1 ∷ P2 ∷ P3 ∷ P4 ∷ P5 ∷ P6 ∷ P7 ∷ P8 ∷ P9 ∷ P10 ∷ [])
 worked-examples = (p1, (p2, (p3, (p4, (p5, (p6, (p7, (p8, (p9, (p10, tt))))))))))
+
+-- ---- the rule book's first worked exchange (RULES, Worked exchanges)
+
+-- three bytes are programmed at 0000FEh and read back, with a status read before and after
+abbrev pub workedExchange : List ℕ
+workedExchange =
+    frame (0x06 ∷ [])
+    ++ (frame (0x02 ∷ 0x00 ∷ 0x00 ∷ 0xFE ∷ 0xA1 ∷ 0xA2 ∷ 0xA3 ∷ [])
+    ++ (frame (0x05 ∷ 0 ∷ [])
+    ++ ((TICKS ∷ 0 ∷ 16 ∷ []) ++ (frame (0x05 ∷ 0 ∷ []) ++ (frame (0x03 ∷ 0x00 ∷ 0x00 ∷ 0xFE ∷ 0 ∷ 0 ∷ []) ++ frame (0x03 ∷ 0x00 ∷ 0x00 ∷ 0x00 ∷ 0 ∷ []))))))
+
+-- It writes 40 bytes of output, and has to be lent 58.
+pub worked-exchange : (m : List ℕ) → (length (played 1 0x00 workedExchange m .written) ≡ 40) × (room (events workedExchange) ≡ 58)
+unfolding room runs eventsFrom walk faultAt knownKind knownIn kindRow kindRowIn applied exchanged taken judge fresh rowOf rowIn isProgram verdict listed isRead commandVerdict jobVerdict jobOf fitsRule settled acted heldAfter instantly protectedSector protectedCount statusByte ticksCore tickCore worked
+worked-exchange m = (refl, refl)
