@@ -32,3 +32,4 @@ pub mod SfdpExamples
 pub mod Met
 pub mod LifeExample
 pub mod ProgramRuns
+pub mod AtRest

@@ -147,7 +147,7 @@ module _ (c : Chip) (m area : List ℕ) (ready : Ready c m area) where
 -- ---- the status
 
 -- the status byte has the status bits
-status-bits : (k : Core) → k .level ≤ 7 → StatusByte k (statusByte k)
+pub status-bits : (k : Core) → k .level ≤ 7 → StatusByte k (statusByte k)
 unfolding statusByte
 status-bits k h =
     let r = weight (running k) 1 in
