@@ -28,8 +28,9 @@ use Rattle.script.specs.Script.{Event}
 use Rattle.script.specs.Run.{World, world}
 use Rattle.demands.specs.Model.{Model, event, sends, address, AllGood, Fit, runsBy, workedBy}
 use Rattle.demands.specs.Demand1.{Demand1}
-use Rattle.demands.specs.Demand2.{Demand2, Ending, Quiet, Ready, AllInside, bytesOf, AllBytes, on-a-byte}
-use Rattle.demands.specs.Demand3.{Demand3, Spares, AllSpare, Spared}
+use Rattle.demands.specs.Moments.{Demand2Gives, Demand2Does, Demand2Begins, Demand2LeavesWen, Demand2Reads, Demand2Loads, Demand2Stops, Demand3Starts, Demand3At, Demand3End, Demand3Counts, Demand3Reports}
+use Rattle.demands.specs.Demand2.{Ending, Quiet, Ready, AllInside, bytesOf, AllBytes, on-a-byte}
+use Rattle.demands.specs.Demand3.{Spares, AllSpare, Spared}
 use Rattle.refuted.specs.Wrong.{ignoresAll, refusesEvents, refusesCommands, readsBlank, ticksIdle, wholeJobAtOnce, inventsTicks, laysFromPageStart, laysFromAddress, storesBytes, nineTenCostWen, spoiltLoads, answersLate, firstReads, firstLoads, secondLoads, secondWen, thirdErases, thirdSuspends}
 
 -- ---- the moments
@@ -156,55 +157,59 @@ program-ticked M n ranged is =
 
 pub record WrongAsAWhole : Type 0 where
   -- a write enable is done, and WEN is not set; an erase is begun, and is not there
-  pub ignores-all : Demand2 ignoresAll → ⊥
-  pub ignores-jobs : Demand2 ignoresAll → ⊥
-  -- a tick on a resting chip is refused
+  pub ignores-all : Demand2Does ignoresAll → ⊥
+  pub ignores-jobs : Demand2Begins ignoresAll → ⊥
+  -- a tick on a resting chip is refused; a write enable gets no verdict at all
   pub refuses-events : Demand1 refusesEvents → ⊥
+  pub refuses-deselects : Demand2Gives 1 refusesEvents → ⊥
   -- a write enable gets verdict 3 and not 1; an erase 3 and not 2
-  pub refuses-commands : Demand2 refusesCommands → ⊥
-  pub refuses-jobs : Demand2 refusesCommands → ⊥
+  pub refuses-commands : Demand2Gives 1 refusesCommands → ⊥
+  pub refuses-jobs : Demand2Gives 2 refusesCommands → ⊥
   -- cell 0 of a memory of zeros is driven as FFh
-  pub reads-blank : Demand2 readsBlank → ⊥
+  pub reads-blank : Demand2Reads readsBlank → ⊥
   -- at k = 1 no cell has changed; nor has one at the end
-  pub ticks-idle : Demand3 ticksIdle → ⊥
-  pub ticks-idle-image : Demand3 ticksIdle → ⊥
+  pub ticks-idle : Demand3At 1 ticksIdle → ⊥
+  pub ticks-idle-image : Demand3End ticksIdle → ⊥
   -- at k = 1 the second step's cells have changed
-  pub whole-job-at-once : Demand3 wholeJobAtOnce → ⊥
-  -- the count of one tick is two
-  pub invents-ticks : Demand3 inventsTicks → ⊥
+  pub whole-job-at-once : Demand3At 1 wholeJobAtOnce → ⊥
+  -- the count of one tick is two; and memory has one step
+  pub invents-ticks : Demand3Counts inventsTicks → ⊥
+  pub invents-ticks-memory : Demand3Reports inventsTicks → ⊥
 
 -- The demands refute them.
 pub wrong-as-a-whole : WrongAsAWhole
 unfolding answerOf memoryOf saidOf happens refusal bodyUsed legal legalCore legalJob legalFrame isEmpty isBlank permitted knownKind knownIn kindRow kindRowIn applied exchanged taken judge rowOf rowIn isProgram verdict listed isRead commandVerdict jobVerdict jobOf fitsRule settled acted heldAfter instantly protectedSector protectedCount ticksCore tickCore tickLoad ticksLoad tickMemory ticksMemory worked sweep image imageFrom runsBy workedBy AllGood AllSpare AllInside AllBytes bytesOf
 wrong-as-a-whole =
     record {
-      ignores-all = λ d. false≢true (ap (λ (k : Core). k .wen) (d .done-at-once .0 enabling (cells 0) [] 0x03 0 false (ending enabling refl refl) refl refl .0));
-      ignores-jobs = λ d. false≢true (ap (λ (k : Core). isJob (k .job .kind)) (d .jobs-begun .1 .1 .1 .0 beginning (cells 0) [] 0x03 0 false (ending beginning refl refl) refl refl .0));
+      ignores-all = λ d. false≢true (ap (λ (k : Core). k .wen) (d .0 enabling (cells 0) [] 0x03 0 false (ending enabling refl refl) refl refl .0));
+      ignores-jobs = λ d. false≢true (ap (λ (k : Core). isJob (k .job .kind)) (d .1 .1 .1 .0 beginning (cells 0) [] 0x03 0 false (ending beginning refl refl) refl refl .0));
       refuses-events = λ d. absurd (false≢true (sym (d .numbers (unselected resting) (cells 0) [] 0x04 0 .five .0 refl .3)));
-      refuses-commands = λ d. absurd (omega (arith, second-byte (d .closes enabling (cells 0) [] 0x03 0 false (ending enabling refl refl) .says)));
-      refuses-jobs = λ d. absurd (omega (arith, second-byte (d .closes beginning (cells 0) [] 0x03 0 false (ending beginning refl refl) .says)));
-      reads-blank = λ d. absurd (omega (arith, second-byte (d .cell-reads (unselected resting) (cells 0) [] (quiet resting refl refl refl) .low-power 0 (omega arith) .byte-driven [] tt 0 (omega arith))));
-      ticks-idle = λ d. absurd (omega (arith, ap (λ (m : List ℕ). getD m 0 0) (d .lives [] SmallErase 0 blankLoad 0 erasure (event 0x05 1 ∷ []) (erasure-ticked ticksIdle 1 refl refl) .memory-is)));
-      ticks-idle-image = λ d. absurd (omega (arith, ap (λ (m : List ℕ). getD m 0 0) (d .lives [] SmallErase 0 blankLoad 0 erasure (event 0x05 16 ∷ []) (erasure-ticked ticksIdle 16 refl refl) .whole-image refl refl)));
-      whole-job-at-once = λ d. absurd (omega (arith, ap (λ (m : List ℕ). getD m 16 0) (d .lives [] Program 0 low 0 program (event 0x05 1 ∷ []) (program-ticked wholeJobAtOnce 1 refl refl) .memory-is)));
-      invents-ticks = λ d. absurd (omega (arith, d .counts [] (event 0x05 1) erasure (fitting (unselected (erasing 0)) 0 refl) (refl, refl)));
+      refuses-deselects = λ d. silent (d enabling (cells 0) [] 0x03 0 false (ending enabling refl refl) refl);
+      refuses-commands = λ d. absurd (omega (arith, second-byte (d enabling (cells 0) [] 0x03 0 false (ending enabling refl refl) refl)));
+      refuses-jobs = λ d. absurd (omega (arith, second-byte (d beginning (cells 0) [] 0x03 0 false (ending beginning refl refl) refl)));
+      reads-blank = λ d. absurd (omega (arith, second-byte (d (unselected resting) (cells 0) [] (quiet resting refl refl refl) .low-power 0 (omega arith) .byte-driven [] tt 0 (omega arith))));
+      ticks-idle = λ d. absurd (omega (arith, ap (λ (m : List ℕ). getD m 0 0) (d [] SmallErase 0 blankLoad 0 erasure (event 0x05 1 ∷ []) (erasure-ticked ticksIdle 1 refl refl) refl)));
+      ticks-idle-image = λ d. absurd (omega (arith, ap (λ (m : List ℕ). getD m 0 0) (d [] SmallErase 0 blankLoad erasure (event 0x05 16 ∷ []) (erasure-ticked ticksIdle 16 refl refl) refl)));
+      whole-job-at-once = λ d. absurd (omega (arith, ap (λ (m : List ℕ). getD m 16 0) (d [] Program 0 low 0 program (event 0x05 1 ∷ []) (program-ticked wholeJobAtOnce 1 refl refl) refl)));
+      invents-ticks = λ d. absurd (omega (arith, d [] (event 0x05 1) erasure (fitting (unselected (erasing 0)) 0 refl) (refl, refl)));
+      invents-ticks-memory = λ d. absurd (omega (arith, ap (λ (m : List ℕ). getD m 16 0) (d [] Program 0 low 0 program (event 0x05 1) (program-ticked inventsTicks 1 refl refl))));
     }
 
 -- ---- errors that look right
 
 pub record LookRight : Type 0 where
   -- of 260 bytes for address 250, byte 4 does not stand at offset 254
-  pub lays-from-page-start : Demand2 laysFromPageStart → ⊥
-  pub lays-from-address : Demand2 laysFromAddress → ⊥
+  pub lays-from-page-start : Demand2Loads laysFromPageStart → ⊥
+  pub lays-from-address : Demand2Loads laysFromAddress → ⊥
   -- at k = 1 a cell of F0h programmed with 0Fh holds 0Fh and not 00h
-  pub stores-bytes : Demand3 storesBytes → ⊥
+  pub stores-bytes : Demand3At 1 storesBytes → ⊥
   -- WEN is off after verdict 9, and after 10
-  pub nine-costs-wen : Demand2 nineTenCostWen → ⊥
-  pub ten-costs-wen : Demand2 nineTenCostWen → ⊥
+  pub nine-costs-wen : Demand2LeavesWen 9 nineTenCostWen → ⊥
+  pub ten-costs-wen : Demand2LeavesWen 10 nineTenCostWen → ⊥
   -- a program of 0Fh over F0h is suspended, a 02h frame of FFh ends loose, the job is resumed: its first step leaves F0h
-  pub spoilt-loads : Demand3 spoiltLoads → ⊥
+  pub spoilt-loads : Demand3At 1 spoiltLoads → ⊥
   -- a 03h frame begun in the last step of an erase drives its fifth byte
-  pub answers-late : Demand2 answersLate → ⊥
+  pub answers-late : Demand2Stops answersLate → ⊥
 
 -- the spoiled frame at its loose end, and the events from there on
 abbrev spoiling : World
@@ -222,13 +227,13 @@ pub look-right : LookRight
 unfolding answerOf memoryOf saidOf happens refusal bodyUsed legal legalCore legalJob legalFrame isEmpty isBlank permitted knownKind knownIn kindRow kindRowIn applied exchanged taken judge rowOf rowIn isProgram verdict listed isRead commandVerdict jobVerdict jobOf fitsRule settled acted heldAfter instantly protectedSector protectedCount ticksCore tickCore tickLoad ticksLoad tickMemory ticksMemory worked sweep image imageFrom runsBy workedBy AllGood AllSpare AllInside AllBytes bytesOf
 look-right =
     record {
-      lays-from-page-start = λ d. absurd (omega (arith, d .jobs-from-bytes (unselected enabled) (cells 0) [] ready refl .program 0x02 250 0 (counted 1 259) refl refl (omega arith) (all-bytes 0 260) refl .1 .last-stay 4 (omega arith) (omega arith)));
-      lays-from-address = λ d. absurd (omega (arith, d .jobs-from-bytes (unselected enabled) (cells 0) [] ready refl .program 0x02 250 0 (counted 1 259) refl refl (omega arith) (all-bytes 0 260) refl .1 .last-stay 4 (omega arith) (omega arith)));
-      stores-bytes = λ d. absurd (omega (arith, ap (λ (m : List ℕ). getD m 0 0) (d .lives [] Program 0 low 0 program (event 0x05 1 ∷ []) (program-ticked storesBytes 1 refl refl) .memory-is)));
-      nine-costs-wen = λ d. false≢true (ap (λ (k : Core). k .wen) (d .other-verdicts (protected 0x20 4) (cells 0) [] 0x03 0 false 9 (ending (protected 0x20 4) refl refl) refl (λ e. omega arith) (λ e. omega arith) .0));
-      ten-costs-wen = λ d. false≢true (ap (λ (k : Core). k .wen) (d .other-verdicts locked (cells 0) [] 0x03 0 false 10 (ending locked refl refl) refl (λ e. omega arith) (λ e. omega arith) .0));
-      spoilt-loads = λ d. absurd (omega (arith, ap (λ (m : List ℕ). getD m 0 0) (d .lives [] Program 0 low 0 spoiling spoiled spoiled-spared .memory-is)));
-      answers-late = λ d. absurd (omega (arith, first-byte (d .stopped-frame (unselected (erasing 15)) (cells 0) [] 0x03 (fitting (unselected (erasing 15)) 0 refl) refl (omega arith) (λ e. omega (arith, e)) early inside .0 0 (omega arith))));
+      lays-from-page-start = λ d. absurd (omega (arith, d (unselected enabled) (cells 0) [] ready refl .program 0x02 250 0 (counted 1 259) refl refl (omega arith) (all-bytes 0 260) refl .1 .last-stay 4 (omega arith) (omega arith)));
+      lays-from-address = λ d. absurd (omega (arith, d (unselected enabled) (cells 0) [] ready refl .program 0x02 250 0 (counted 1 259) refl refl (omega arith) (all-bytes 0 260) refl .1 .last-stay 4 (omega arith) (omega arith)));
+      stores-bytes = λ d. absurd (omega (arith, ap (λ (m : List ℕ). getD m 0 0) (d [] Program 0 low 0 program (event 0x05 1 ∷ []) (program-ticked storesBytes 1 refl refl) refl)));
+      nine-costs-wen = λ d. false≢true (d (protected 0x20 4) (cells 0) [] 0x03 0 false (ending (protected 0x20 4) refl refl) refl);
+      ten-costs-wen = λ d. false≢true (d locked (cells 0) [] 0x03 0 false (ending locked refl refl) refl);
+      spoilt-loads = λ d. absurd (omega (arith, ap (λ (m : List ℕ). getD m 0 0) (d [] Program 0 low 0 spoiling spoiled spoiled-spared refl)));
+      answers-late = λ d. absurd (omega (arith, first-byte (d (unselected (erasing 15)) (cells 0) [] 0x03 (fitting (unselected (erasing 15)) 0 refl) refl (omega arith) (λ e. omega (arith, e)) early inside .0 0 (omega arith))));
     }
   where
     inside : AllInside early
@@ -258,24 +263,24 @@ look-right =
 
 pub record EarlierVersions : Type 0 where
   -- the first: of two bytes read at the last address the second is not cell 0; of two loaded at offset 255 the second does not stand at offset 0
-  pub first-reads : Demand2 firstReads → ⊥
-  pub first-loads : Demand2 firstLoads → ⊥
+  pub first-reads : Demand2Reads firstReads → ⊥
+  pub first-loads : Demand2Loads firstLoads → ⊥
   -- the second: of 260 bytes loaded, byte 256 does not stand over byte 0; WEN is off after a protected program
-  pub second-loads : Demand2 secondLoads → ⊥
-  pub second-wen : Demand2 secondWen → ⊥
+  pub second-loads : Demand2Loads secondLoads → ⊥
+  pub second-wen : Demand2LeavesWen 9 secondWen → ⊥
   -- the third: the deselect that begins an erase leaves no job at its step 0; a suspend in an erase gets verdict 11 and not 1
-  pub third-erases : Demand3 thirdErases → ⊥
-  pub third-suspends : Demand2 thirdSuspends → ⊥
+  pub third-erases : Demand3Starts thirdErases → ⊥
+  pub third-suspends : Demand2Gives 1 thirdSuspends → ⊥
 
 -- The demands refute them.
 pub earlier-versions : EarlierVersions
 unfolding answerOf memoryOf saidOf happens refusal bodyUsed legal legalCore legalJob legalFrame isEmpty isBlank permitted knownKind knownIn kindRow kindRowIn applied exchanged taken judge rowOf rowIn isProgram verdict listed isRead commandVerdict jobVerdict jobOf fitsRule settled acted heldAfter instantly protectedSector protectedCount ticksCore tickCore tickLoad ticksLoad tickMemory ticksMemory worked sweep image imageFrom runsBy workedBy AllGood AllSpare AllInside AllBytes bytesOf
 earlier-versions =
     record {
-      first-reads = λ d. absurd (omega (arith, second-byte (d .cell-reads (unselected resting) (cells 0) [] (quiet resting refl refl refl) .low-power 65535 (omega arith) .byte-driven (event 0x02 0 ∷ []) (((refl, refl), refl), tt) 0 (omega arith))));
-      first-loads = λ d. absurd (omega (arith, d .jobs-from-bytes (unselected enabled) (cells 0) [] ready refl .program 0x02 255 1 (2 ∷ []) refl refl (omega arith) (omega arith, (omega arith, tt)) refl .1 .last-stay 1 (omega arith) (omega arith)));
-      second-loads = λ d. absurd (omega (arith, d .jobs-from-bytes (unselected enabled) (cells 0) [] ready refl .program 0x02 250 0 (counted 1 259) refl refl (omega arith) (all-bytes 0 260) refl .1 .last-stay 256 (omega arith) (omega arith)));
-      second-wen = λ d. false≢true (ap (λ (k : Core). k .wen) (d .other-verdicts (protected 0x02 5) (cells 0) [] 0x03 0 false 9 (ending (protected 0x02 5) refl refl) refl (λ e. omega arith) (λ e. omega arith) .0));
-      third-erases = λ d. false≢true (d .starts beginning (cells 0) [] 0x03 0 false (ending beginning refl refl) refl .a-job);
-      third-suspends = λ d. absurd (omega (arith, second-byte (d .closes suspending (cells 0) [] 0x03 0 false (ending suspending refl refl) .says)));
+      first-reads = λ d. absurd (omega (arith, second-byte (d (unselected resting) (cells 0) [] (quiet resting refl refl refl) .low-power 65535 (omega arith) .byte-driven (event 0x02 0 ∷ []) (((refl, refl), refl), tt) 0 (omega arith))));
+      first-loads = λ d. absurd (omega (arith, d (unselected enabled) (cells 0) [] ready refl .program 0x02 255 1 (2 ∷ []) refl refl (omega arith) (omega arith, (omega arith, tt)) refl .1 .last-stay 1 (omega arith) (omega arith)));
+      second-loads = λ d. absurd (omega (arith, d (unselected enabled) (cells 0) [] ready refl .program 0x02 250 0 (counted 1 259) refl refl (omega arith) (all-bytes 0 260) refl .1 .last-stay 256 (omega arith) (omega arith)));
+      second-wen = λ d. false≢true (d (protected 0x02 5) (cells 0) [] 0x03 0 false (ending (protected 0x02 5) refl refl) refl);
+      third-erases = λ d. false≢true (d beginning (cells 0) [] 0x03 0 false (ending beginning refl refl) refl .a-job);
+      third-suspends = λ d. absurd (omega (arith, second-byte (d suspending (cells 0) [] 0x03 0 false (ending suspending refl refl) refl)));
     }

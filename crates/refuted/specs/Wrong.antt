@@ -13,7 +13,7 @@ use Rattle.chip.specs.declared.JobKind.{JobKind}
 use Rattle.chip.specs.declared.JobKind.the-variants.{Idle, WriteStatus, Program, SmallErase, SectorErase, ChipErase}
 use Rattle.chip.specs.Fields.{withWen, withArmed, withJudgement}
 use Rattle.chip.specs.Chip.{whole, running}
-use Rattle.chip.specs.Job.{total}
+use Rattle.chip.specs.Job.{isJob, total}
 use Rattle.demands.specs.Model.{Reply, Model, ours}
 
 -- ---- how a model is changed
@@ -70,7 +70,7 @@ erases c = eqb (c .frame .opcode) 0x20 || eqb (c .frame .opcode) 0xD7 || eqb (c 
 abbrev pub readsCells : Chip → Bool
 readsCells c = eqb (c .frame .opcode) 0x03 || eqb (c .frame .opcode) 0x0B
 
--- a data byte of a page program that is loaded
+-- a data byte of a page program that is loaded, for a frame that was not stopped
 abbrev pub onData : Chip → ℕ → Bool
 onData c kind = eqb kind 0x02 && programs c && not (ltb (c .frame .count) 4) && eqb (c .frame .judgement) 0
 
@@ -116,17 +116,25 @@ abbrev pub row : (ℕ → ℕ) → ℕ → ℕ → List ℕ
 row f i zero = []
 row f i (suc n) = f i ∷ row f (suc i) n
 
--- a program begins with another load, made of the frame's; the oldest of the last 256 data bytes stands at the frame's load place
-abbrev pub laying : (Chip → ℕ → ℕ) → Model
-laying f =
-    except (λ c kind says. ends 2 c says && programs c) (λ c m area kind body. let r : Reply = ours c m area kind body in leaving (withHeld (row (λ q. getD (c .load) (f c q) 0) 0 256) (r .chip)) r)
+-- a load of 256 bytes or more: its load place has come round to the address
+abbrev pub isFull : Chip → Bool
+isFull c = programs c && eqb (c .frame .count) 6 && eqb (c .frame .slot) (c .frame .address % 256)
 
--- the last 256 data bytes are kept, and laid down from the page's start; or from the address on
-abbrev pub laysFromPageStart : Model
-laysFromPageStart = laying (λ c q. (c .frame .slot + q) % 256)
+-- such a load without its oldest byte and with one more behind the youngest, the oldest at the address
+abbrev pub shiftedOn : Chip → ℕ → List ℕ
+shiftedOn c b = row (λ q. cond (eqb q ((c .frame .address + 255) % 256)) b (getD (c .load) ((q + 1) % 256) 0)) 0 256
 
+-- of a longer load the last 256 bytes are kept, and laid down from the address on; shorter ones are right
 abbrev pub laysFromAddress : Model
-laysFromAddress = laying (λ c q. (c .frame .slot + 256 + q - c .frame .address % 256) % 256)
+laysFromAddress = except (λ c kind says. onData c kind && isFull c) (λ c m area kind body. leaving (withLoad (shiftedOn c body) c) (ours c m area kind body))
+
+-- the same, laid down from the page's start when the program begins
+abbrev pub laysFromPageStart : Model
+laysFromPageStart =
+    except (λ c kind says. isFull c && (onData c kind || ends 2 c says))
+    (λ c m area kind body.
+    let r : Reply = ours c m area kind body in
+    cond (eqb kind 0x02) (leaving (withLoad (shiftedOn c body) c) r) (leaving (withHeld (row (λ q. getD (c .load) ((c .frame .address + q) % 256) 0) 0 256) (r .chip)) r))
 
 -- a program stores its byte, where a cell can only lose bits
 abbrev pub stored : List ℕ → Rule
@@ -148,9 +156,9 @@ storesBytes =
     let j : Job = c .core .job in
     keeping (sweep (later (stored (c .held)) (j .done * 16)) m (j .start + j .done * 16) (r .ticks * 16)) r)
 
--- verdict 9 or 10 costs WEN
+-- verdict 9 or 10 costs WEN; not where a job needs it, since a legal state with a job has WEN
 abbrev pub costsWen : (Chip → List ℕ → Bool) → Model
-costsWen here = except (λ c kind says. here c says) (λ c m area kind body. let r : Reply = ours c m area kind body in leaving (withCore (withWen false (r .chip .core)) (r .chip)) r)
+costsWen here = except (λ c kind says. here c says && not (isJob (c .core .job .kind))) (λ c m area kind body. let r : Reply = ours c m area kind body in leaving (withCore (withWen false (r .chip .core)) (r .chip)) r)
 
 abbrev pub nineTenCostWen : Model
 nineTenCostWen = costsWen (λ c says. ends 9 c says || ends 10 c says)
@@ -161,7 +169,7 @@ spoiltLoads =
     except (λ c kind says. ends 4 c says && programs c && c .core .suspended)
     (λ c m area kind body. let r : Reply = ours c m area kind body in leaving (withHeld (c .load) (r .chip)) r)
 
--- a read of cells begun while a job ran is answered once the job has ended
+-- a read of cells begun while a job ran is answered once the job has ended, from the cell where its place stands
 abbrev pub answersLate : Model
 answersLate =
     except (λ c kind says. eqb kind 0x02 && eqb (c .frame .judgement) 6 && readsCells c && not (running (c .core)))
@@ -169,7 +177,7 @@ answersLate =
 
 -- ---- our three earlier versions
 
--- the first: a read that has passed the memory's end gives FFh
+-- the first: a read that has passed the memory's end gives FFh, until it comes back to its address
 abbrev pub firstReads : Model
 firstReads c m area kind body =
     except (λ c′ kind′ says. drives says && readsCells c′ && ltb (c′ .frame .place) (c′ .frame .address % length m)) (λ c′ m′ area′ kind′ body′. saying (0x81 ∷ 0xFF ∷ []) (ours c′ m′ area′ kind′ body′)) c m area kind body
