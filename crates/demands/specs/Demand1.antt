@@ -14,7 +14,7 @@ use Rattle.kinds.specs.Kinds.{knownKind, bodyLength, inRange}
 use Rattle.kinds.specs.Body.{bodyAt}
 use Rattle.script.specs.Script.{Event, eventAt, events}
 use Rattle.script.specs.Run.{World, world}
-use Rattle.demands.specs.Model.{Model, runsBy}
+use Rattle.demands.specs.Model.{Model, Fit, runsBy}
 
 -- ---- one event alone
 
@@ -32,6 +32,9 @@ pub record Demand1 (M : Model) : Type 0 where
   -- refused, the chip and the memory are as they were, nothing is said and no tick works
   pub refused-keeps : (c : Chip) (m area : List ℕ) (kind body : ℕ) → (M c m area kind body .refusal ≡ 0 → ⊥)
       → M c m area kind body ≡ record { chip = c; memory = m; says = []; ticks = 0; refusal = M c m area kind body .refusal }
+  -- done, an event leaves a legal chip on a memory as long as before: the next one gets its answer too
+  pub stays-legal : (c : Chip) (m area : List ℕ) (kind body : ℕ) → M c m area kind body .refusal ≡ 0
+      → Fit (M c m area kind body .chip) (M c m area kind body .memory) area × (length (M c m area kind body .memory) ≡ length m)
 
 -- ---- a script run
 

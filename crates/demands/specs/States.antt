@@ -1,4 +1,4 @@
--- Legal states, and a fresh one, in the rule book's words and numbers (RULES, Legal states; Status). Demand 1's refusal 2 is about these.
+-- Legal states, and a fresh one, in the rule book's words and numbers (RULES, Legal states; Status). Demand 1 says `legal`, and that is this list: `legal-when` (`meets/specs/LegalStates`).
 use Prim.Native.Nat.{ℕ, _+_, _*_, _/_, _%_, _^_, _<_, _≤_}
 use mathlib.Core.Bool.{true, false, cond}
 use mathlib.Core.List.{List, [], _∷_}
@@ -68,6 +68,7 @@ pub record LegalState (c : Chip) (n : ℕ) : Type 0 where
 
 -- what a fresh state of a status byte is: bits 2 to 5 and 7 of the byte and no others; WP high, awake, unselected, unarmed, no job
 pub record FreshState (byte : ℕ) (c : Chip) : Type 0 where
+  pub level-is : c .core .level ≡ byte / 4 % 8
   pub status-is : statusByte (c .core) ≡ byte / 4 % 16 * 4 + byte / 128 % 2 * 128
   pub wp-high : c .core .wp ≡ true
   pub awake : c .core .deep ≡ false

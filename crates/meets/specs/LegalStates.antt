@@ -11,7 +11,7 @@ use lib.Dec.{eqb, leb}
 use borrow.Author.Tests.{eq-eqb, ne-eqb, eqb-true, le-leb, leb-true}
 use Rattle.cells.specs.Choice.{cond-yes, cond-no, and-left, and-right, and-both}
 use Rattle.part.specs.Part.{permitted, sectorsIn, lengthOf}
-use Rattle.part.specs.Laws.{permitted-whole}
+use Rattle.part.specs.Laws.{permitted-whole, permitted-some}
 use Rattle.chip.specs.declared.Chip.{Chip}
 use Rattle.chip.specs.declared.Frame.{Frame}
 use Rattle.chip.specs.declared.Job.{Job}
@@ -20,7 +20,8 @@ use Rattle.chip.specs.declared.JobKind.the-variants.{Idle, WriteStatus, Program
 use Rattle.chip.specs.Job.{isJob, total}
 use Rattle.chip.specs.Chip.{statusByte, fresh}
 use Rattle.legal.specs.Legal.{isEmpty, isBlank, placed, tidy, judgementKnown, legal}
-use Rattle.legal.specs.Legality.{LegalCore, LegalChip, chip-facts, chip-legal}
+use Rattle.legal.specs.Legality.{LegalCore, LegalChip, chip-facts, chip-legal, idle-legal, empty-legal}
+use Rattle.legal.specs.Legality as Legality
 use Rattle.demands.specs.Demand2.{among}
 use Rattle.demands.specs.States.{Placed, JobFits, placesOf, AllBlank, EmptyFrame, LegalState, FreshState}
 use Rattle.meets.specs.Verdicts.{five-tests}
@@ -189,6 +190,7 @@ pub fresh-state : (byte : ℕ) → FreshState byte (fresh byte)
 unfolding fresh statusByte
 fresh-state byte =
     record {
+      level-is = refl;
       status-is = sum (byte / 4 % 8) (byte / 32 % 2) (byte / 128 % 2) _ _ _ (omega arith) (omega arith) (bit (byte / 32 % 2) 32 (omega arith)) (bit (byte / 128 % 2) 128 (omega arith));
       wp-high = refl;
       awake = refl;
@@ -210,3 +212,15 @@ fresh-state byte =
         go (no e) =
             let zero-bit : x ≡ 0 = omega arith in
             cond-no (eqb x 1) weight 0 (ne-eqb x 1 e) ∙ sym (mul-zero weight) ∙ ap (λ (y : ℕ). weight * y) (sym zero-bit)
+
+-- and is legal on every part
+pub fresh-legal : (byte n : ℕ) → permitted n ≡ true → legal (fresh byte) n ≡ true
+unfolding fresh
+fresh-legal byte n part =
+    chip-legal (fresh byte) n
+    (record {
+      length-permitted = part;
+      core-part = idle-legal (sectorsIn n) (fresh byte .core) refl (omega arith) refl (λ asleep. absurd (false≢true asleep));
+      frame-part = empty-legal (sectorsIn n) (permitted-some n part);
+      tidy-part = Legality.empty-tidy;
+    })

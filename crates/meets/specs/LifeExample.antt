@@ -256,7 +256,7 @@ module _ (m out : List ℕ) (smallest : length m ≡ 65536) (roomy : 28 ≤ leng
       subst (λ (n : ℕ). LifeRun answer (runs (settingOf n []) before start) (onward (settingOf n []) begins (runs (settingOf n []) before start))) smallest
       (subst (λ (v : World). LifeRun answer v (onward (settingOf (length m) []) begins (runs (settingOf (length m) []) before start))) (found [] start before begins fit (good .0) (good .1 .0))
       (subst (λ (v : World). LifeRun answer (runsBy ours [] before start) v) (begun-as [] start before begins fit (good .0) (good .1 .0))
-      (script-whole-life (fresh 0x00) m [] erasesCut out done before begins life in-order holds)))
+      (script-whole-life (fresh 0x00) m [] erasesCut out _ _ _ (refl, refl, refl) done before begins life in-order holds)))
 
   -- Sixteen of its nineteen ticks work, and the run's own memory is the whole image: a sector of 4,096 cells FFh, every other cell as it was.
   pub cut-and-ended : (answer .refusal ≡ 0) × (answer .memory ≡ wholeImage SmallErase 1 0 blankLoad m) × (answer .chip .core .job ≡ noJob) × (answer .ticks ≡ 16)

@@ -5,19 +5,31 @@ use mathlib.Core.Path.{_≡_, sym, ap, subst, _∙_}
 use native.Mathlib.Decide.{ℕ-discrete}
 use native.Mathlib.Omega.{arith}
 use lib.ListN.{length, drop}
+use Rattle.part.specs.Part.{settingOf}
 use Rattle.chip.specs.declared.Chip.{Chip}
 use Rattle.event.specs.Laws as EventLaws
+use Rattle.event.specs.Keeps.{length-applied}
 use Rattle.script.specs.declared.Ran.{Ran}
 use Rattle.script.specs.Script.{Event, Refusal, refusalOf, events}
 use Rattle.script.specs.Run.{World, world}
 use Rattle.script.specs.Run as Run
 use Rattle.script.specs.Laws as ScriptLaws
-use Rattle.demands.specs.Model.{replied, ours, AllGood, Fit, runsBy}
+use Rattle.demands.specs.Model.{Reply, replied, ours, event, AllGood, Fit, runsBy}
 use Rattle.demands.specs.Demand1.{RefusedWhen, Demand1, RunReply, Runner, AllSound, RunRefusedWhen, Demand1Run}
 use Rattle.meets.specs.Refusals.{event-refused-when, event-refused-keeps, run-refused-when, run-refused-keeps}
-use Rattle.meets.specs.Ours.{runs-ours}
+use Rattle.meets.specs.Ours.{done-as, fit-next, runs-ours}
 
 -- ---- one event
+
+-- a done event leaves a legal chip, and memory keeps its length
+stays : (c : Chip) (m area : List ℕ) (kind body : ℕ) → ours c m area kind body .refusal ≡ 0
+    → Fit (ours c m area kind body .chip) (ours c m area kind body .memory) area × (length (ours c m area kind body .memory) ≡ length m)
+stays c m area kind body done =
+    let why = event-refused-when c (length m) (length area) kind body .none .0 (sym (EventLaws.answer-number c m area kind body) ∙ done) in
+    let fit : Fit c m area = record { state-legal = why .2; area-short = why .1 } in (
+      fit-next area (event kind body) (world c m [] 0) fit (why .3, why .4),
+      ap (λ (r : Reply). length (r .memory)) (done-as c m area fit kind body (why .3) (why .4)) ∙ length-applied (settingOf (length m) area) c m kind body,
+    )
 
 -- Ours meets Demand 1.
 pub meets-1 : Demand1 ours
@@ -29,6 +41,7 @@ meets-1 =
           let told = EventLaws.answer-number c m area kind body in
           let kept = event-refused-keeps c m area kind body (λ z. some (told ∙ z)) in
           (λ i. replied (kept .0 i) (kept .1 i) (kept .2 i)) ∙ ap (λ (v : ℕ). record { chip = c; memory = m; says = []; ticks = 0; refusal = v }) (sym told);
+      stays-legal = stays;
     }
 
 -- ---- a script run

@@ -10,15 +10,19 @@ use Rattle.part.specs.Part.{sectorsIn}
 use Rattle.chip.specs.declared.Chip.{Chip}
 use Rattle.chip.specs.declared.Job.{Job}
 use Rattle.chip.specs.Job.{total, wholeImage, noJob}
+use Rattle.chip.specs.Chip.{bitsOf}
+use Rattle.legal.specs.Legality.{chip-facts}
 use Rattle.script.specs.Script.{Event, events}
+use Rattle.script.specs.declared.Ran.{Ran}
 use Rattle.script.specs.Run.{World, world}
+use Rattle.script.specs.Run as Run
 use Rattle.demands.specs.Model.{Model, ours, Good, AllGood, Fit, doesBy, onwardBy, runsBy, workingTicks, workedBy}
-use Rattle.demands.specs.Demand1.{RunReply, Runner, Demand1Run}
+use Rattle.demands.specs.Demand1.{Demand1, RunReply, Runner, Demand1Run}
 use Rattle.demands.specs.Demand2.{Closing, on-a-byte, inside-a-byte}
-use Rattle.demands.specs.Demand3.{Started, UnderWay, AllSpare, stepsOf, Outlook, Demand3}
+use Rattle.demands.specs.Demand3.{Started, UnderWay, AllSpare, bitsAfter, stepsOf, Outlook, Demand3}
 use Rattle.meets.specs.Ours.{finds-none, fit-next}
 use Rattle.meets.specs.OursFrames.{runsBy-add}
-use Rattle.meets.specs.Meets1.{ourRun, all-good, meets-1-run}
+use Rattle.meets.specs.Meets1.{ran, ourRun, runner-is-ours, all-good, meets-1, meets-1-run}
 use Rattle.meets.specs.Meets3.{meets-3}
 
 -- ---- the words
@@ -40,11 +44,17 @@ pub record HoldsLife (M : Model) (area : List ℕ) (w : World) (before : List Ev
 pub record LifeRun (r : RunReply) (w₀ w₁ : World) : Type 0 where
   pub memory-is : r .memory ≡ wholeImage (jobIn w₁ .kind) (sectorsIn (length (w₀ .memory))) (jobIn w₁ .start) (w₁ .chip .held) (w₀ .memory)
   pub job-gone : r .chip .core .job ≡ noJob
+  pub bits-are : bitsOf (r .chip .core) ≡ bitsAfter (jobIn w₁ .kind) (bitsOf (w₁ .chip .core))
   pub ticks-are : r .ticks ≡ w₀ .ticks + stepsOf (jobIn w₁ .kind) w₀
 
 -- a good event leaves a legal chip
-abbrev pub LegalityKept : Model → Type 0
+abbrev LegalityKept : Model → Type 0
 LegalityKept M = (area : List ℕ) (e : Event) (w : World) → Fit (w .chip) (w .memory) area → Good e → Fit (onwardBy M area e w .chip) (onwardBy M area e w .memory) area
+
+legality-kept : (M : Model) → Demand1 M → LegalityKept M
+legality-kept M D area e w fit good =
+    D .stays-legal (w .chip) (w .memory) area (e .kind) (e .body)
+    (D .numbers (w .chip) (w .memory) area (e .kind) (e .body) .none .1 (chip-facts (w .chip) (length (w .memory)) (fit .state-legal) .length-permitted, fit .area-short, fit .state-legal, good .0, good .1)) .0
 
 -- ---- rows of events
 
@@ -122,6 +132,9 @@ module _ (M : Model) (kept : LegalityKept M) (D : Demand3 M) (area : List ℕ) w
     life-gone : w₂ .chip .core .job ≡ noJob
     life-gone = lived .gone-when .1 (zero-add _ ∙ h .all-ticks)
 
+    life-bits : bitsOf (w₂ .chip .core) ≡ bitsAfter (jobIn w₁ .kind) (bitsOf (w₁ .chip .core))
+    life-bits = lived .bits-set (zero-add _ ∙ h .all-ticks) .0
+
     life-ticks : w₂ .ticks ≡ w₀ .ticks + stepsOf (jobIn w₁ .kind) w₀
     life-ticks =
         row-kept life w₁ fit-begun (good-begins .1) .1
@@ -132,13 +145,14 @@ module _ (M : Model) (kept : LegalityKept M) (D : Demand3 M) (area : List ℕ) w
 -- ---- the run
 
 -- A done run of a script that holds a job's whole life: its own memory, chip and count of working ticks.
-pub whole-life : (M : Model) (R : Runner) → LegalityKept M → Demand1Run M R → Demand3 M
+pub whole-life : (M : Model) (R : Runner) → Demand1 M → Demand1Run M R → Demand3 M
     → (c : Chip) (m area s out : List ℕ) → R c m area s out .refusal ≡ 0
     → (before : List Event) (begins : Event) (life : List Event) → events s ≡ before ++ (begins ∷ life) → HoldsLife M area (world c m [] 0) before begins life
     → LifeRun (R c m area s out) (runsBy M area before (world c m [] 0)) (onwardBy M area begins (runsBy M area before (world c m [] 0)))
 unfolding runsBy
-whole-life M R kept D1 D3 c m area s out done before begins life in-order holds =
+whole-life M R D D1 D3 c m area s out done before begins life in-order holds =
     let w : World = world c m [] 0 in
+    let kept : LegalityKept M = legality-kept M D in
     let ok = D1 .numbers c m area s out .none .0 done in
     let fit : Fit c m area = record { state-legal = ok .0 .state-legal; area-short = ok .0 .area-short } in
     let good : AllGood (before ++ (begins ∷ life)) = subst AllGood in-order (all-good s (events s) (ok .1)) in
@@ -147,11 +161,16 @@ whole-life M R kept D1 D3 c m area s out done before begins life in-order holds 
     record {
       memory-is = ap (λ (r : RunReply). r .memory) answer ∙ ap (λ (v : World). v .memory) after ∙ life-memory M kept D3 area w fit before begins life good holds;
       job-gone = ap (λ (r : RunReply). r .chip .core .job) answer ∙ ap (λ (v : World). v .chip .core .job) after ∙ life-gone M kept D3 area w fit before begins life good holds;
+      bits-are = ap (λ (r : RunReply). bitsOf (r .chip .core)) answer ∙ ap (λ (v : World). bitsOf (v .chip .core)) after ∙ life-bits M kept D3 area w fit before begins life good holds;
       ticks-are = ap (λ (r : RunReply). r .ticks) answer ∙ ap (λ (v : World). v .ticks) after ∙ life-ticks M kept D3 area w fit before begins life good holds;
     }
 
--- A script that `script::run` has done, and that holds a job's whole life: its own memory is the job's whole image on the memory that the job found.
-pub script-whole-life : (c : Chip) (m area s out : List ℕ) → ourRun c m area s out .refusal ≡ 0
+-- A script that `script::run` has done, and that holds a job's whole life: what it answers, and the memory that it leaves.
+pub script-whole-life : (c : Chip) (m area s out : List ℕ) (r : Ran) (m′ out′ : List ℕ)
+    → (r ≡ Run.answerOf c m area s out) × (m′ ≡ Run.memoryOf c m area s out) × (out′ ≡ Run.outputOf c m area s out) → r .refusal ≡ 0
     → (before : List Event) (begins : Event) (life : List Event) → events s ≡ before ++ (begins ∷ life) → HoldsLife ours area (world c m [] 0) before begins life
-    → LifeRun (ourRun c m area s out) (runsBy ours area before (world c m [] 0)) (onwardBy ours area begins (runsBy ours area before (world c m [] 0)))
-script-whole-life = whole-life ours ourRun fit-next meets-1-run meets-3
+    → LifeRun (ran r m′ out′) (runsBy ours area before (world c m [] 0)) (onwardBy ours area begins (runsBy ours area before (world c m [] 0)))
+script-whole-life c m area s out r m′ out′ contract done before begins life in-order holds =
+    let same : ran r m′ out′ ≡ ourRun c m area s out = runner-is-ours c m area s out r m′ out′ contract in
+    subst (λ (q : RunReply). LifeRun q (runsBy ours area before (world c m [] 0)) (onwardBy ours area begins (runsBy ours area before (world c m [] 0)))) (sym same)
+    (whole-life ours ourRun meets-1 meets-1-run meets-3 c m area s out (ap (λ (q : RunReply). q .refusal) (sym same) ∙ done) before begins life in-order holds)
