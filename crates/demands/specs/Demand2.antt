@@ -1,4 +1,4 @@
--- Demand 2, of any model: each event does what the datasheet says: the byte driven or the line left floating, the status bits, the verdict, the cells.
+-- Demand 2, of any model: each event does what the rule book says: the byte driven or the line left floating, the status bits, the verdict, the cells.
 -- Opcodes, kinds and verdicts stand here as numbers; sizes, the table of commands, protection and a job's kinds are the rule book's own words.
 use Prim.Native.Nat.{ℕ, _+_, _*_, _/_, _%_, _^_, _<_, _≤_, min}
 use mathlib.Core.Bool.{Bool, true, false, cond, not, _&&_, _||_}

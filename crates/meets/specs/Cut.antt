@@ -324,7 +324,7 @@ used-at s at = go (bodyLength (getD s at 0))
     go zero = refl
     go (suc l) = cond-no (eqb (suc l) 0) 0 (numberAt s (at + 1) (suc l)) (ne-eqb (suc l) 0 (λ e. omega arith))
 
--- The event of a script applied alone, where nothing refuses it, gives what the run gives at that event: so a run is its events applied one by one.
+-- The event of a script applied alone, where nothing refuses it, gives what the definitions' run does at that event.
 pub one-by-one : (c : Chip) (m area s : List ℕ) (at : ℕ) → Alone.refusal c (length m) (length area) (getD s at 0) (bodyAt s at) ≡ 0
     → (Alone.answerOf c m area (getD s at 0) (bodyAt s at) ≡ Alone.done (applied (settingOf (length m) area) c m (getD s at 0) (bodyAt s at)))
     × (Alone.memoryOf c m area (getD s at 0) (bodyAt s at) ≡ applied (settingOf (length m) area) c m (getD s at 0) (bodyAt s at) .memory)
