@@ -309,6 +309,12 @@ pub record LoadOf (A : ℕ) (bytes load : List ℕ) : Type 0 where
   pub last-stay : (j : ℕ) → j < length bytes → length bytes ≤ j + 256 → getD load ((A + j) % 256) 0 ≡ getD bytes j 0
   pub rest-blank : (p : ℕ) → p < 256 → ((j : ℕ) → j < length bytes → (A + j) % 256 ≡ p → ⊥) → getD load p 0 ≡ 0xFF
 
+-- a page program's data bytes float, and leave the load that they describe, whatever WEN and protection are; that a load has 256 bytes is what the state's type says
+pub record Loads (M : Model) (c : Chip) (m area : List ℕ) : Type 0 where
+  pub floats-and-loads : (opcode A first : ℕ) (more : List ℕ) → length (c .load) ≡ 256 → among (0x02 ∷ 0x0A ∷ []) opcode ≡ true → A < 2 ^ 24 → AllBytes (first ∷ more)
+      → (opened M c m area (opcode ∷ (address A ++ (first ∷ more))) .written ≡ replicate (length (opcode ∷ (address A ++ (first ∷ more)))) 0x80)
+      × LoadOf A (first ∷ more) (opened M c m area (opcode ∷ (address A ++ (first ∷ more))) .chip .load)
+
 -- the world after a whole frame of these bytes: a select, exchanges, a deselect
 abbrev pub framed : Model → Chip → List ℕ → List ℕ → List ℕ → World
 framed M c m area bs = runsBy M area (event 0x01 0 ∷ (sends bs ++ (event 0x03 0 ∷ []))) (world c m [] 0)
@@ -363,6 +369,7 @@ pub record Demand2 (M : Model) : Type 0 where
   -- so, from the select on: reads, the status, frames that are stopped
   pub cell-reads : (c : Chip) (m area : List ℕ) → Quiet c m area → CellReads M c m area
   pub other-reads : (c : Chip) (m area : List ℕ) → Ready c m area → OtherReads M c m area
+  pub page-loads : (c : Chip) (m area : List ℕ) → Quiet c m area → Loads M c m area
   pub status-read : StatusRead M
   pub stopped-frame : StoppedFrame M
   -- a deselect: its verdict, and what that does

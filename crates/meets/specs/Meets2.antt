@@ -5,7 +5,7 @@ use Rattle.meets.specs.EventRules.{ours-selects, ours-levels, ours-power
 use Rattle.meets.specs.ByteRules.{ours-later-byte}
 use Rattle.meets.specs.Meets2Reads.{ours-cell-reads, ours-other-reads, ours-status-read}
 use Rattle.meets.specs.Meets2Stopped.{ours-stopped-frame}
-use Rattle.meets.specs.Meets2Jobs.{ours-jobs-from-bytes}
+use Rattle.meets.specs.Meets2Jobs.{ours-page-loads, ours-jobs-from-bytes}
 
 pub meets-2 : Demand2 ours
 meets-2 =
@@ -19,6 +19,7 @@ meets-2 =
       later-byte = ours-later-byte;
       cell-reads = ours-cell-reads;
       other-reads = ours-other-reads;
+      page-loads = ours-page-loads;
       status-read = ours-status-read;
       stopped-frame = ours-stopped-frame;
       closes = ours-closes;

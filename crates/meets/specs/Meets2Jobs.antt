@@ -1,4 +1,4 @@
--- Demand 2 of ours: from the bytes of a frame to the job that it begins.
+-- Demand 2 of ours: from the bytes of a frame to its load, and to the job that it begins.
 use Prim.Native.Nat.{ℕ, _/_, _%_, _^_, _<_, _≤_}
 use mathlib.Core.Bool.{Bool, true, false, not, _&&_}
 use mathlib.Core.List.{List, [], _∷_, _++_}
@@ -11,7 +11,7 @@ use Rattle.cells.specs.Choice.{cond-yes, and-left}
 use Rattle.part.specs.Part.{Setting, settingOf, sectorsIn, lengthOf, roundedDown}
 use Rattle.part.specs.Protection.{protectedSector}
 use Rattle.kinds.specs.Kinds.{knownIn, knownKind, kindRowIn, kindRow}
-use Rattle.commands.specs.Table.{fitsRule, isProgram}
+use Rattle.commands.specs.Table.{rowOf, rowIn, fitsRule, isProgram}
 use Rattle.chip.specs.declared.Chip.{Chip}
 use Rattle.chip.specs.declared.Frame.{Frame}
 use Rattle.chip.specs.declared.JobKind.{JobKind}
@@ -25,11 +25,54 @@ use Rattle.event.specs.Event.{closes, applied}
 use Rattle.event.specs.Laws.{deselect-selected}
 use Rattle.script.specs.Run.{World, world, after, runs}
 use Rattle.demands.specs.Model.{ours, event, sends, address, AllGood, Fit}
-use Rattle.demands.specs.Demand2.{among, AllBytes, Ready, LoadOf, framed, Begins, FreeAt, JobsFromBytes}
-use Rattle.meets.specs.Opening.{opcodeFrame, addressFrame, hasAddress, among-two, Leaves, load-blank, ready-takes, opens-opcode, opens-value, opens-address, opens-address-and}
-use Rattle.meets.specs.OursFrames.{as-long, address-bytes, runsBy-add, reached}
+use Rattle.demands.specs.Demand2.{among, AllBytes, Quiet, Ready, opened, LoadOf, Loads, framed, Begins, FreeAt, JobsFromBytes}
+use Rattle.meets.specs.Opening.{opcodeFrame, addressFrame, hasAddress, among-two, Leaves, load-blank, quiet-takes, ready-takes, opens-opcode, opens-value, opens-address, opens-address-and}
+use Rattle.meets.specs.OursFrames.{as-long, address-bytes, opened-as, runsBy-add, reached}
 use Rattle.meets.specs.Load.{loadAfter, load-of}
 use Rattle.meets.specs.JobFrames.{Holds, dataFrame, data-keeps, data-runs, Command, programs, small-erases, sector-erases, chip-erases, status-writes, verdict-begins, settled-job}
+
+-- ---- a page program's load
+
+module _ (c : Chip) (m area : List ℕ) (quiet : Quiet c m area) (opcode A first : ℕ) (more : List ℕ) (program : among (0x02 ∷ 0x0A ∷ []) opcode ≡ true) (small : A < 2 ^ 24) (bytes : AllBytes (first ∷ more)) where
+  -- the bytes of such a frame, what they leave of the frame, and the load
+  abbrev program-bytes : List ℕ
+  program-bytes = opcode ∷ (address A ++ (first ∷ more))
+
+  abbrev program-frame : Frame
+  program-frame = dataFrame (first ∷ more) (addressFrame (sectorsIn (length m)) opcode A)
+
+  abbrev program-load : List ℕ
+  program-load = loadAfter (first ∷ more) (A % 256) (c .load)
+
+  all-bytes : AllBytes program-bytes
+  unfolding AllBytes
+  all-bytes = (among-two (λ (q : ℕ). q ≤ 255) 0x02 0x0A (omega arith) (omega arith) opcode program, address-bytes A (first ∷ more) small bytes)
+
+  -- it is taken, idle or suspended, and its bytes leave these
+  program-leaves : Leaves c m area program-bytes program-frame program-load
+  unfolding rowOf rowIn
+  program-leaves =
+      opens-address-and c m area (quiet .fit) (quiet .unselected) opcode A small (among-two (λ (q : ℕ). hasAddress q ≡ true) 0x02 0x0A refl refl opcode program)
+      (among-two (λ (q : ℕ). judge (c .core) q ≡ 0) 0x02 0x0A (quiet-takes c m area quiet 0x02 refl refl) (quiet-takes c m area quiet 0x0A refl refl) opcode program) (first ∷ more)
+      ∙ data-runs (settingOf (length m) area) (c .core) (c .held) m opcode A program (first ∷ more) (addressFrame (sectorsIn (length m)) opcode A) (c .load) (replicate 4 0x80) bytes
+      (record { is-open = refl; opcode-is = refl; address-is = refl; unjudged = refl; so-many = omega arith })
+
+  -- the load is the one that the demand asks for
+  program-load-of : length (c .load) ≡ 256 → LoadOf A (first ∷ more) program-load
+  program-load-of page = load-of A (first ∷ more) (c .load) page (load-blank c (length m) (quiet .fit .state-legal) (quiet .unselected))
+
+  -- so, of ours
+  program-loads : length (c .load) ≡ 256
+      → (opened ours c m area program-bytes .written ≡ replicate (length program-bytes) 0x80) × LoadOf A (first ∷ more) (opened ours c m area program-bytes .chip .load)
+  program-loads page =
+      let as-left = opened-as c m area program-bytes (quiet .fit) all-bytes ∙ program-leaves in
+      (ap (λ (w : World). w .written) as-left, subst (LoadOf A (first ∷ more)) (sym (ap (λ (w : World). w .chip .load) as-left)) (program-load-of page))
+
+-- Ours takes a page program's data bytes into the load, as the demand says.
+pub ours-page-loads : (c : Chip) (m area : List ℕ) → Quiet c m area → Loads ours c m area
+ours-page-loads c m area quiet = record { floats-and-loads = λ opcode A first more page program small bytes. program-loads c m area quiet opcode A first more program small bytes page }
+
+-- ---- jobs
 
 module _ (c : Chip) (m area : List ℕ) (ready : Ready c m area) (enabled : c .core .wen ≡ true) where
   -- the part's sectors, and its setting
@@ -97,36 +140,18 @@ module _ (c : Chip) (m area : List ℕ) (ready : Ready c m area) (enabled : c .c
       × LoadOf A (first ∷ more) (framed ours c m area (opcode ∷ (address A ++ (first ∷ more))) .chip .held)
   unfolding AllBytes dataFrame fitsRule isProgram
   program-begins opcode A first more page program small bytes free =
+      let quiet : Quiet c m area = ready .quiet in
+      let f : Frame = dataFrame (first ∷ more) (addressFrame S opcode A) in
+      let at : Holds opcode A 5 f =
+      data-keeps opcode A 5 more (loading (addressFrame S opcode A)) (omega arith) (record { is-open = refl; opcode-is = refl; address-is = refl; unjudged = refl; so-many = omega arith }) in
       let begun =
-      begins-at bs load f all leaves opcode A 5 5 Program command at (omega arith) (le-leb 5 (f .count) (at .so-many)) refl (free-start 256 A (λ x. omega arith) free) (roundedDown 256 (A % length m)) (rounds 256 A) in (
+      begins-at (opcode ∷ (address A ++ (first ∷ more))) (loadAfter (first ∷ more) (A % 256) (c .load)) f (all-bytes c m area quiet opcode A first more program small bytes)
+      (program-leaves c m area quiet opcode A first more program small bytes)
+      opcode A 5 5 Program (programs opcode A program) at (omega arith) (le-leb 5 (f .count) (at .so-many)) refl (free-start 256 A (λ x. omega arith) free) (roundedDown 256 (A % length m)) (rounds 256 A) in (
         begun .0,
         subst (LoadOf A (first ∷ more)) (sym (begun .1 (among-two (λ (q : ℕ). isProgram q ≡ true) 0x02 0x0A refl refl opcode program)))
-            (load-of A (first ∷ more) (c .load) page (load-blank c (length m) (fit .state-legal) (ready .quiet .unselected))),
+            (program-load-of c m area quiet opcode A first more program small bytes page),
       )
-    where
-      bs : List ℕ
-      bs = opcode ∷ (address A ++ (first ∷ more))
-
-      load : List ℕ
-      load = loadAfter (first ∷ more) (A % 256) (c .load)
-
-      f : Frame
-      f = dataFrame (first ∷ more) (addressFrame S opcode A)
-
-      all : AllBytes bs
-      all = (among-two (λ (q : ℕ). q ≤ 255) 0x02 0x0A (omega arith) (omega arith) opcode program, address-bytes A (first ∷ more) small bytes)
-
-      command : Command opcode A 5 Program
-      command = programs opcode A program
-
-      leaves : Leaves c m area bs f load
-      leaves =
-          opens-address-and c m area fit (ready .quiet .unselected) opcode A small (among-two (λ (q : ℕ). hasAddress q ≡ true) 0x02 0x0A refl refl opcode program) (ready-takes c m area ready opcode (command .known)) (first ∷ more)
-          ∙ data-runs T (c .core) (c .held) m opcode A program (first ∷ more) (addressFrame S opcode A) (c .load) (replicate 4 0x80) bytes
-          (record { is-open = refl; opcode-is = refl; address-is = refl; unjudged = refl; so-many = omega arith })
-
-      at : Holds opcode A 5 f
-      at = data-keeps opcode A 5 more (loading (addressFrame S opcode A)) (omega arith) (record { is-open = refl; opcode-is = refl; address-is = refl; unjudged = refl; so-many = omega arith })
 
   -- an erase at an address, which has four bytes
   erase-begins : (opcode A : ℕ) (kind : JobKind) → Command opcode A 4 kind → hasAddress opcode ≡ true → hasCells kind ≡ true → A < 2 ^ 24 → targetProtected S (c .core) kind (startOf S kind A) ≡ false

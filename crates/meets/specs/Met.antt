@@ -49,7 +49,7 @@ pub stopped-met : (length (enabled .load) ≡ 256) × (enabled .core .wen ≡ tr
 unfolding rowOf rowIn
 stopped-met = (refl, refl, refl)
 
--- `ours-cell-reads`: so reads a chip whose program is suspended
+-- `ours-cell-reads`, `ours-page-loads`: so reads and loads a chip whose program is suspended
 abbrev waiting : Chip
 waiting = whole (withSuspended true (withJob (record { kind = Program; start = 0; done = 0 }) (enabled .core))) emptyFrame blankLoad blankLoad
 
