@@ -6,7 +6,7 @@ use mathlib.Core.List.{List, [], _∷_, _++_}
 use mathlib.Core.Path.{_≡_}
 use lib.Dec.{eqb, leb}
 use lib.ListN.{length, getD, set, replicate}
-use Rattle.part.specs.Part.{sectorsIn, roundedDown}
+use Rattle.part.specs.Part.{sectorsIn}
 use Rattle.part.specs.Protection.{protectedSector}
 use Rattle.commands.specs.Table.{rowOf, fitsRule}
 use Rattle.chip.specs.declared.Chip.{Chip}
@@ -138,7 +138,7 @@ Begun M opcode kind start load =
 
 -- the address, on a memory of n cells, rounded down to a size
 abbrev pub rounded : ℕ → ℕ → Frame → ℕ
-rounded size n f = roundedDown size (f .address % n)
+rounded size n f = f .address % n / size * size
 
 -- command by command: kind, place and load of the job; a write status takes the byte that came last into the address
 abbrev pub JobsBegun : Model → Type 0
@@ -332,11 +332,11 @@ FreeAt c m A = protectedSector (c .core .level) (c .core .tb) (sectorsIn (length
 -- the jobs that a ready chip with WEN begins, from their bytes, at every address below 2^24; that a load has 256 bytes is what the state's type says
 pub record JobsFromBytes (M : Model) (c : Chip) (m area : List ℕ) : Type 0 where
   pub program : (opcode A first : ℕ) (more : List ℕ) → length (c .load) ≡ 256 → among (0x02 ∷ 0x0A ∷ []) opcode ≡ true → A < 2 ^ 24 → AllBytes (first ∷ more) → FreeAt c m A
-      → Begins M c m area (opcode ∷ (address A ++ (first ∷ more))) Program (roundedDown 256 (A % length m))
+      → Begins M c m area (opcode ∷ (address A ++ (first ∷ more))) Program (A % length m / 256 * 256)
       × LoadOf A (first ∷ more) (framed M c m area (opcode ∷ (address A ++ (first ∷ more))) .chip .held)
   pub small-erase : (opcode A : ℕ) → among (0x20 ∷ 0xD7 ∷ []) opcode ≡ true → A < 2 ^ 24 → FreeAt c m A
-      → Begins M c m area (opcode ∷ address A) SmallErase (roundedDown 4096 (A % length m))
-  pub sector-erase : (A : ℕ) → A < 2 ^ 24 → FreeAt c m A → Begins M c m area (0xD8 ∷ address A) SectorErase (roundedDown 65536 (A % length m))
+      → Begins M c m area (opcode ∷ address A) SmallErase (A % length m / 4096 * 4096)
+  pub sector-erase : (A : ℕ) → A < 2 ^ 24 → FreeAt c m A → Begins M c m area (0xD8 ∷ address A) SectorErase (A % length m / 65536 * 65536)
   pub chip-erase : (opcode : ℕ) → among (0x60 ∷ 0xC7 ∷ []) opcode ≡ true → c .core .level ≡ 0 → Begins M c m area (opcode ∷ []) ChipErase 0
   pub write-status : (value : ℕ) → value ≤ 255 → (c .core .srwp && not (c .core .wp)) ≡ false → Begins M c m area (0x01 ∷ value ∷ []) (WriteStatus value) 0
 

@@ -1,5 +1,5 @@
 -- What Demand 2 says of single events, of ours: select, WP, power cut, exchange and deselect, and what a verdict does.
-use Prim.Native.Nat.{ℕ, _≤_, zero-le}
+use Prim.Native.Nat.{ℕ, _*_, _/_, _%_, _≤_, zero-le}
 use mathlib.Core.Bool.{Bool, true, false, cond, _&&_}
 use mathlib.Core.List.{List, [], _∷_}
 use mathlib.Core.Path.{_≡_, refl, sym, ap, _∙_}
@@ -8,7 +8,7 @@ use lib.Dec.{eqb, leb}
 use lib.ListN.{length, getD}
 use borrow.Author.Tests.{le-leb, eqb-true, ne-eqb}
 use Rattle.cells.specs.Choice.{cond-yes, cond-no, and-left, and-right, and-both, and-four}
-use Rattle.part.specs.Part.{Setting, sectorsIn, lengthOf, settingOf}
+use Rattle.part.specs.Part.{Setting, sectorsIn, lengthOf, settingOf, roundedDown}
 use Rattle.part.specs.Laws.{permitted-whole}
 use Rattle.commands.specs.Table.{isProgram}
 use Rattle.chip.specs.declared.Chip.{Chip}
@@ -196,14 +196,27 @@ begun opcode c m area kind body loose e is-opcode said =
       held-after c m area kind body loose e 2 said ∙ ap (λ (o : ℕ). cond (isProgram o) (c .load) blankLoad) is-opcode,
     )
 
+-- rounded down to each of the three sizes, a number is so many of them
+pub down-256 : (x : ℕ) → roundedDown 256 x ≡ x / 256 * 256
+down-256 x = omega arith
+
+pub down-4096 : (x : ℕ) → roundedDown 4096 x ≡ x / 4096 * 4096
+down-4096 x = omega arith
+
+pub down-65536 : (x : ℕ) → roundedDown 65536 x ≡ x / 65536 * 65536
+down-65536 x = omega arith
+
 -- a place counted on the part is one counted on the memory
-on-memory : (opcode : ℕ) (kind : JobKind) (size : ℕ) (load : Chip → List ℕ)
-    → After ours 2 opcode (λ c m. withArmed false (withSuspended false (withJob (record { kind = kind; start = rounded size (lengthOf (sectorsIn (length m))) (c .frame); done = 0 }) (c .core)))) load
+on-memory : (opcode : ℕ) (kind : JobKind) (size : ℕ) (load : Chip → List ℕ) → ((x : ℕ) → roundedDown size x ≡ x / size * size)
+    → After ours 2 opcode
+    (λ c m. withArmed false (withSuspended false (withJob (record { kind = kind; start = roundedDown size (c .frame .address % lengthOf (sectorsIn (length m))); done = 0 }) (c .core)))) load
     → Begun ours opcode (λ f. kind) (rounded size) load
-on-memory opcode kind size load row c m area kind′ body loose e is-opcode said =
+on-memory opcode kind size load down row c m area kind′ body loose e is-opcode said =
     let told-so = row c m area kind′ body loose e is-opcode said in
-    let whole-sectors : lengthOf (sectorsIn (length m)) ≡ length m = permitted-whole (length m) (chip-facts c (length m) (e .fit .state-legal) .length-permitted) in (
-      told-so .0 ∙ ap (λ (n : ℕ). withArmed false (withSuspended false (withJob (record { kind = kind; start = rounded size n (c .frame); done = 0 }) (c .core)))) whole-sectors,
+    let whole-sectors : lengthOf (sectorsIn (length m)) ≡ length m = permitted-whole (length m) (chip-facts c (length m) (e .fit .state-legal) .length-permitted) in
+    let there : roundedDown size (c .frame .address % lengthOf (sectorsIn (length m))) ≡ rounded size (length m) (c .frame) =
+    down (c .frame .address % lengthOf (sectorsIn (length m))) ∙ ap (λ (n : ℕ). rounded size n (c .frame)) whole-sectors in (
+      told-so .0 ∙ ap (λ (start : ℕ). withArmed false (withSuspended false (withJob (record { kind = kind; start = start; done = 0 }) (c .core)))) there,
       told-so .1,
     )
 
@@ -212,12 +225,12 @@ unfolding jobOf isProgram
 ours-jobs-begun = (
   begun 0x01,
   (
-    on-memory 0x02 Program 256 (λ c. c .load) (begun 0x02),
+    on-memory 0x02 Program 256 (λ c. c .load) down-256 (begun 0x02),
     (
-      on-memory 0x0A Program 256 (λ c. c .load) (begun 0x0A),
+      on-memory 0x0A Program 256 (λ c. c .load) down-256 (begun 0x0A),
       (
-        on-memory 0x20 SmallErase 4096 (λ c. blankLoad) (begun 0x20),
-        (on-memory 0xD7 SmallErase 4096 (λ c. blankLoad) (begun 0xD7), (on-memory 0xD8 SectorErase 65536 (λ c. blankLoad) (begun 0xD8), (begun 0x60, (begun 0xC7, tt)))),
+        on-memory 0x20 SmallErase 4096 (λ c. blankLoad) down-4096 (begun 0x20),
+        (on-memory 0xD7 SmallErase 4096 (λ c. blankLoad) down-4096 (begun 0xD7), (on-memory 0xD8 SectorErase 65536 (λ c. blankLoad) down-65536 (begun 0xD8), (begun 0x60, (begun 0xC7, tt)))),
       ),
     ),
   ),

@@ -1,5 +1,5 @@
 -- Demand 2 of ours: from the bytes of a frame to its load, and to the job that it begins.
-use Prim.Native.Nat.{ℕ, _/_, _%_, _^_, _<_, _≤_}
+use Prim.Native.Nat.{ℕ, _*_, _/_, _%_, _^_, _<_, _≤_}
 use mathlib.Core.Bool.{Bool, true, false, not, _&&_}
 use mathlib.Core.List.{List, [], _∷_, _++_}
 use mathlib.Core.Path.{_≡_, refl, sym, ap, subst, _∙_}
@@ -26,6 +26,7 @@ use Rattle.event.specs.Laws.{deselect-selected}
 use Rattle.script.specs.Run.{World, world, after, runs}
 use Rattle.demands.specs.Model.{ours, event, sends, address, AllGood, Fit}
 use Rattle.demands.specs.Demand2.{among, AllBytes, Quiet, Ready, opened, LoadOf, Loads, framed, Begins, FreeAt, JobsFromBytes}
+use Rattle.meets.specs.EventRules.{down-256, down-4096, down-65536}
 use Rattle.meets.specs.Opening.{opcodeFrame, addressFrame, hasAddress, among-two, Leaves, load-blank, quiet-takes, ready-takes, opens-opcode, opens-value, opens-address, opens-address-and}
 use Rattle.meets.specs.OursFrames.{as-long, address-bytes, opened-as, runsBy-add, reached}
 use Rattle.meets.specs.Load.{loadAfter, load-of}
@@ -125,8 +126,8 @@ module _ (c : Chip) (m area : List ℕ) (ready : Ready c m area) (enabled : c .c
   -- ---- the places
 
   -- an address rounded down, on a part as long as the memory
-  rounds : (size A : ℕ) → roundedDown size (A % lengthOf S) ≡ roundedDown size (A % length m)
-  rounds size A = ap (λ (n : ℕ). roundedDown size (A % n)) (as-long c m area fit)
+  rounds : (size A : ℕ) → ((x : ℕ) → roundedDown size x ≡ x / size * size) → roundedDown size (A % lengthOf S) ≡ A % length m / size * size
+  rounds size A down = down (A % lengthOf S) ∙ ap (λ (n : ℕ). A % n / size * size) (as-long c m area fit)
 
   -- rounded down inside its sector, an address is as free as it was
   free-start : (size A : ℕ) → ((x : ℕ) → roundedDown size x / 65536 ≡ x / 65536) → FreeAt c m A → startProtected S (c .core) (roundedDown size (A % lengthOf S)) ≡ false
@@ -136,7 +137,7 @@ module _ (c : Chip) (m area : List ℕ) (ready : Ready c m area) (enabled : c .c
 
   -- a program, with its data bytes in its load
   program-begins : (opcode A first : ℕ) (more : List ℕ) → length (c .load) ≡ 256 → among (0x02 ∷ 0x0A ∷ []) opcode ≡ true → A < 2 ^ 24 → AllBytes (first ∷ more) → FreeAt c m A
-      → Begins ours c m area (opcode ∷ (address A ++ (first ∷ more))) Program (roundedDown 256 (A % length m))
+      → Begins ours c m area (opcode ∷ (address A ++ (first ∷ more))) Program (A % length m / 256 * 256)
       × LoadOf A (first ∷ more) (framed ours c m area (opcode ∷ (address A ++ (first ∷ more))) .chip .held)
   unfolding AllBytes dataFrame fitsRule isProgram
   program-begins opcode A first more page program small bytes free =
@@ -147,7 +148,7 @@ module _ (c : Chip) (m area : List ℕ) (ready : Ready c m area) (enabled : c .c
       let begun =
       begins-at (opcode ∷ (address A ++ (first ∷ more))) (loadAfter (first ∷ more) (A % 256) (c .load)) f (all-bytes c m area quiet opcode A first more program small bytes)
       (program-leaves c m area quiet opcode A first more program small bytes)
-      opcode A 5 5 Program (programs opcode A program) at (omega arith) (le-leb 5 (f .count) (at .so-many)) refl (free-start 256 A (λ x. omega arith) free) (roundedDown 256 (A % length m)) (rounds 256 A) in (
+      opcode A 5 5 Program (programs opcode A program) at (omega arith) (le-leb 5 (f .count) (at .so-many)) refl (free-start 256 A (λ x. omega arith) free) (A % length m / 256 * 256) (rounds 256 A down-256) in (
         begun .0,
         subst (LoadOf A (first ∷ more)) (sym (begun .1 (among-two (λ (q : ℕ). isProgram q ≡ true) 0x02 0x0A refl refl opcode program)))
             (program-load-of c m area quiet opcode A first more program small bytes page),
@@ -187,10 +188,10 @@ module _ (c : Chip) (m area : List ℕ) (ready : Ready c m area) (enabled : c .c
         program = program-begins;
         small-erase = λ opcode A is small free.
             erase-begins opcode A SmallErase (small-erases opcode A is) (among-two (λ (q : ℕ). hasAddress q ≡ true) 0x20 0xD7 refl refl opcode is) refl small
-            (free-start 4096 A (λ x. omega arith) free) (roundedDown 4096 (A % length m)) (rounds 4096 A);
+            (free-start 4096 A (λ x. omega arith) free) (A % length m / 4096 * 4096) (rounds 4096 A down-4096);
         sector-erase = λ A small free.
             erase-begins 0xD8 A SectorErase (sector-erases A) refl refl small
-            (free-start 65536 A (λ x. omega arith) free) (roundedDown 65536 (A % length m)) (rounds 65536 A);
+            (free-start 65536 A (λ x. omega arith) free) (A % length m / 65536 * 65536) (rounds 65536 A down-65536);
         chip-erase = chip-erase-begins;
         write-status = write-status-begins;
       }
