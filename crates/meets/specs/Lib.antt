@@ -33,3 +33,4 @@ pub mod Met
 pub mod LifeExample
 pub mod ProgramRuns
 pub mod AtRest
+pub mod ScriptWords
