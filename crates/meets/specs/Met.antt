@@ -8,18 +8,20 @@ use lib.ListN.{length, replicate}
 use borrow.Author.Tests.{lt-leb}
 use Rattle.part.specs.Part.{permitted, sectorsIn}
 use Rattle.part.specs.Protection.{protectedCount, protectedSector}
-use Rattle.commands.specs.Table.{rowOf, rowIn}
+use Rattle.commands.specs.Table.{rowOf, rowIn, fitsRule}
 use Rattle.chip.specs.declared.Chip.{Chip}
+use Rattle.chip.specs.declared.Core.{Core}
 use Rattle.chip.specs.declared.Frame.{Frame}
-use Rattle.chip.specs.declared.JobKind.the-variants.{Program}
-use Rattle.chip.specs.Fields.{withWen, withSuspended, withJob, withSelected, withOpcode, withPlace, withCount}
-use Rattle.chip.specs.Chip.{whole, emptyFrame, blankLoad, fresh}
+use Rattle.chip.specs.declared.JobKind.{JobKind}
+use Rattle.chip.specs.declared.JobKind.the-variants.{Program, SmallErase}
+use Rattle.chip.specs.Fields.{withWen, withSuspended, withDeep, withArmed, withJob, withSelected, withOpcode, withPlace, withCount}
+use Rattle.chip.specs.Chip.{whole, emptyFrame, blankLoad, resting, fresh}
 use Rattle.legal.specs.Legal.{legalJob, legalCore, legalFrame, isEmpty, isBlank, legal}
 use Rattle.kinds.specs.Kinds.{SELECT, EXCHANGE, DESELECT, TICK, WP, knownIn, kindRowIn, knownKind, kindRow}
 use Rattle.event.specs.Alone.{refusal}
 use Rattle.script.specs.Run as Run
 use Rattle.script.specs.Script.{faultAt, eventAt, walk, eventsFrom, events, firstBad, room}
-use Rattle.demands.specs.Demand2.{stopOf, Quiet, Ready, FreeAt}
+use Rattle.demands.specs.Demand2.{Rows, stopOf, verdictOf, Quiet, Ready, FreeAt}
 
 -- a frame of that opcode with so many bytes, selected and not judged
 abbrev framed : ℕ → ℕ → Frame
@@ -116,3 +118,76 @@ each-kind = 0x01 ∷ 0x02 ∷ 0x9F ∷ 0x03 ∷ 0x04 ∷ 0x05 ∷ 0x01 ∷ 0x02 
 pub kinds-met : (firstBad (events each-kind) .number ≡ 0) × (room (events each-kind) ≡ 6) × (eventAt each-kind 5 .body ≡ 258)
 unfolding firstBad room eventsFrom walk faultAt knownKind knownIn kindRow kindRowIn
 kinds-met = (refl, refl, refl)
+
+-- ---- verdicts 1 and 2
+
+-- a core at rest with WEN; one with a job at step 0, running or suspended; one asleep; one armed
+abbrev with-wen : Core
+with-wen = withWen true resting
+
+abbrev busy : JobKind → Core
+busy kind = withJob (record { kind = kind; start = 0; done = 0 }) with-wen
+
+abbrev held-up : JobKind → Core
+held-up kind = withSuspended true (busy kind)
+
+abbrev asleep : Core
+asleep = withDeep true resting
+
+abbrev armed : Core → Core
+armed = withArmed true
+
+-- on a memory of 65,536 cells a legal state with this core and a frame of that opcode and so many bytes; its clean deselect has this verdict
+abbrev Gives : ℕ → Core → ℕ → ℕ → Type 0
+Gives number k opcode count = (legal (whole k (framed opcode count) blankLoad blankLoad) 65536 ≡ true) × (verdictOf 65536 k (framed opcode count) false ≡ number)
+
+-- `DoneAtOnce`, `JobsBegun`: each command comes to its verdict 1 or 2; so do a reset of a suspended job, and an erase begun while a program is suspended (RULES, Verdicts)
+pub verdicts-met : Rows
+    (Gives 1 resting 0x06 1
+    ∷ Gives 1 resting 0x04 1
+    ∷ Gives 1 (busy SmallErase) 0xB0 1
+    ∷ Gives 1 (held-up SmallErase) 0x30 1
+    ∷ Gives 1 asleep 0xAB 1
+    ∷ Gives 1 resting 0xB9 1
+    ∷ Gives 1 resting 0x66 1
+    ∷ Gives 1 (armed resting) 0x99 1
+    ∷ Gives 1 (armed (held-up Program)) 0x99 1
+    ∷ Gives 2 with-wen 0x01 2
+    ∷ Gives 2 with-wen 0x02 5
+    ∷ Gives 2 with-wen 0x0A 5
+    ∷ Gives 2 with-wen 0x20 4
+    ∷ Gives 2 with-wen 0xD7 4
+    ∷ Gives 2 with-wen 0xD8 4
+    ∷ Gives 2 with-wen 0x60 1
+    ∷ Gives 2 with-wen 0xC7 1
+    ∷ Gives 2 (held-up Program) 0x20 4
+    ∷ [])
+unfolding rowOf rowIn fitsRule protectedSector protectedCount legal legalCore legalJob legalFrame isEmpty isBlank permitted
+verdicts-met = (
+  (refl, refl),
+  (
+    (refl, refl),
+    (
+      (refl, refl),
+      (
+        (refl, refl),
+        (
+          (refl, refl),
+          (
+            (refl, refl),
+            (
+              (refl, refl),
+              (
+                (refl, refl),
+                (
+                  (refl, refl),
+                  ((refl, refl), ((refl, refl), ((refl, refl), ((refl, refl), ((refl, refl), ((refl, refl), ((refl, refl), ((refl, refl), ((refl, refl), tt))))))))),
+                ),
+              ),
+            ),
+          ),
+        ),
+      ),
+    ),
+  ),
+)
