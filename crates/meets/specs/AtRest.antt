@@ -1,4 +1,4 @@
--- States at rest show themselves: two of them that give the same records to every row of events are equal (RULES, Jobs). Four short rows are enough.
+-- States at rest show themselves: two of them that give the same records to every script are equal (RULES, Jobs). Four short scripts are enough.
 use Prim.Native.Nat.{ℕ, _/_, _%_, _≤_}
 use mathlib.Core.Bool.{Bool, true, false, cond}
 use mathlib.Core.List.{List, [], _∷_, _++_}
@@ -6,7 +6,9 @@ use mathlib.Core.Path.{_≡_, refl, sym, ap, _∙_}
 use native.Mathlib.Omega.{arith}
 use lib.ListN.{getD}
 use Rattle.part.specs.Part.{Setting}
+use Rattle.kinds.specs.Kinds.{TICK, knownIn, kindRowIn, knownKind, kindRow}
 use Rattle.commands.specs.Table.{rowOf, rowIn, fitsRule, isRead, isProgram}
+use Rattle.chip.specs.declared.Chip.{Chip}
 use Rattle.chip.specs.declared.Core.{Core}
 use Rattle.chip.specs.Job.{noJob}
 use Rattle.chip.specs.Chip.{whole, emptyFrame, blankLoad, statusByte}
@@ -15,10 +17,10 @@ use Rattle.frame.specs.Frame.{judge, taken, exchanged}
 use Rattle.verdict.specs.Verdict.{jobOf, jobVerdict, commandVerdict, listed, verdict}
 use Rattle.verdict.specs.Effect.{instantly, acted, settled, heldAfter}
 use Rattle.event.specs.Event.{applied}
-use Rattle.script.specs.Script.{Event}
+use Rattle.script.specs.Script.{faultAt, walk, eventsFrom, events}
 use Rattle.script.specs.Run.{World, world, runs}
-use Rattle.demands.specs.Model.{event, sends}
 use Rattle.demands.specs.Demand2.{StatusByte}
+use Rattle.meets.specs.Examples.{frame}
 use Rattle.meets.specs.Meets2Reads.{status-bits}
 
 -- ---- a state at rest
@@ -35,45 +37,45 @@ pub record Rest : Type 0 where
   pub level-small : level ≤ 7
   pub asleep-unarmed : deep ≡ true → armed ≡ false
 
--- its core, and the world of its chip with this memory
+-- its core, its chip, and the world of that chip with this memory
 abbrev pub coreOf : Rest → Core
 coreOf r = record { level = r .level; tb = r .tb; srwp = r .srwp; wen = r .wen; suspended = false; wp = r .wp; deep = r .deep; armed = r .armed; job = noJob }
 
+abbrev pub chipOf : Rest → Chip
+chipOf r = whole (coreOf r) emptyFrame blankLoad blankLoad
+
 abbrev pub worldOf : Rest → List ℕ → World
-worldOf r m = world (whole (coreOf r) emptyFrame blankLoad blankLoad) m [] 0
+worldOf r m = world (chipOf r) m [] 0
 
--- what it says to a row of events
-abbrev pub recordsOf : Setting → Rest → List ℕ → List Event → List ℕ
-recordsOf T r m es = runs T es (worldOf r m) .written
+-- what it says to a script
+abbrev pub recordsOf : Setting → Rest → List ℕ → List ℕ → List ℕ
+recordsOf T r m s = runs T (events s) (worldOf r m) .written
 
--- ---- four rows
-
-abbrev frame : List ℕ → List Event
-frame bs = event 0x01 0 ∷ (sends bs ++ (event 0x03 0 ∷ []))
+-- ---- four scripts
 
 -- a status read; one after a wake; a reset; two write status of 80h after a wake, each enabled
-abbrev reading : List Event
+abbrev reading : List ℕ
 reading = frame (0x05 ∷ 0 ∷ [])
 
-abbrev waking : List Event
+abbrev waking : List ℕ
 waking = frame (0xAB ∷ []) ++ frame (0x05 ∷ 0 ∷ [])
 
-abbrev resetting : List Event
+abbrev resetting : List ℕ
 resetting = frame (0x99 ∷ [])
 
-abbrev locking : List Event
-locking = frame (0xAB ∷ []) ++ (frame (0x06 ∷ []) ++ (frame (0x01 ∷ 0x80 ∷ []) ++ (event 0x04 0 ∷ (frame (0x06 ∷ []) ++ frame (0x01 ∷ 0x80 ∷ [])))))
+abbrev locking : List ℕ
+locking = frame (0xAB ∷ []) ++ (frame (0x06 ∷ []) ++ (frame (0x01 ∷ 0x80 ∷ []) ++ (TICK ∷ (frame (0x06 ∷ []) ++ frame (0x01 ∷ 0x80 ∷ [])))))
 
 -- ---- what each shows, by the seven values
 
 module _ (T : Setting) (m : List ℕ) where
-  abbrev says : ℕ → Bool → Bool → Bool → Bool → Bool → Bool → List Event → List ℕ
-  says level tb srwp wen wp deep armed es =
-      runs T es (world (whole (record { level = level; tb = tb; srwp = srwp; wen = wen; suspended = false; wp = wp; deep = deep; armed = armed; job = noJob }) emptyFrame blankLoad blankLoad) m [] 0) .written
+  abbrev says : ℕ → Bool → Bool → Bool → Bool → Bool → Bool → List ℕ → List ℕ
+  says level tb srwp wen wp deep armed s =
+      runs T (events s) (world (whole (record { level = level; tb = tb; srwp = srwp; wen = wen; suspended = false; wp = wp; deep = deep; armed = armed; job = noJob }) emptyFrame blankLoad blankLoad) m [] 0) .written
 
   -- the second byte of a status read floats asleep, and is driven awake
   shows-deep : (level : ℕ) (tb srwp wen wp deep armed : Bool) → getD (says level tb srwp wen wp deep armed reading) 1 0 ≡ cond deep 0x80 0x81
-  unfolding runs applied exchanged taken judge rowOf rowIn isProgram verdict listed isRead commandVerdict jobVerdict jobOf fitsRule settled acted heldAfter instantly ticksCore tickCore worked
+  unfolding runs eventsFrom walk faultAt knownKind knownIn kindRow kindRowIn applied exchanged taken judge rowOf rowIn isProgram verdict listed isRead commandVerdict jobVerdict jobOf fitsRule settled acted heldAfter instantly ticksCore tickCore worked
   shows-deep level tb srwp wen wp true armed = refl
   shows-deep level tb srwp wen wp false armed = refl
 
@@ -81,19 +83,19 @@ module _ (T : Setting) (m : List ℕ) where
   shows-status : (level : ℕ) (tb srwp wen wp deep armed : Bool)
       → getD (says level tb srwp wen wp deep armed waking) 5 0
       ≡ statusByte (record { level = level; tb = tb; srwp = srwp; wen = wen; suspended = false; wp = wp; deep = false; armed = false; job = noJob })
-  unfolding runs applied exchanged taken judge rowOf rowIn isProgram verdict listed isRead commandVerdict jobVerdict jobOf fitsRule settled acted heldAfter instantly ticksCore tickCore worked
+  unfolding runs eventsFrom walk faultAt knownKind knownIn kindRow kindRowIn applied exchanged taken judge rowOf rowIn isProgram verdict listed isRead commandVerdict jobVerdict jobOf fitsRule settled acted heldAfter instantly ticksCore tickCore worked
   shows-status level tb srwp wen wp true armed = refl
   shows-status level tb srwp wen wp false armed = refl
 
   -- a reset of a chip that is awake is done if it is armed, and otherwise 11
   shows-armed : (level : ℕ) (tb srwp wen wp armed : Bool) → getD (says level tb srwp wen wp false armed resetting) 2 0 ≡ cond armed 1 11
-  unfolding runs applied exchanged taken judge rowOf rowIn isProgram verdict listed isRead commandVerdict jobVerdict jobOf fitsRule settled acted heldAfter instantly ticksCore tickCore worked
+  unfolding runs eventsFrom walk faultAt knownKind knownIn kindRow kindRowIn applied exchanged taken judge rowOf rowIn isProgram verdict listed isRead commandVerdict jobVerdict jobOf fitsRule settled acted heldAfter instantly ticksCore tickCore worked
   shows-armed level tb srwp wen wp true = refl
   shows-armed level tb srwp wen wp false = refl
 
   -- the second write status begins with WP high, and is 10 with WP low
   shows-wp : (level : ℕ) (tb srwp wen wp deep armed : Bool) → getD (says level tb srwp wen wp deep armed locking) 16 0 ≡ cond wp 2 10
-  unfolding runs applied exchanged taken judge rowOf rowIn isProgram verdict listed isRead commandVerdict jobVerdict jobOf fitsRule settled acted heldAfter instantly ticksCore tickCore worked
+  unfolding runs eventsFrom walk faultAt knownKind knownIn kindRow kindRowIn applied exchanged taken judge rowOf rowIn isProgram verdict listed isRead commandVerdict jobVerdict jobOf fitsRule settled acted heldAfter instantly ticksCore tickCore worked
   shows-wp level tb true wen true true armed = refl
   shows-wp level tb true wen true false armed = refl
   shows-wp level tb true wen false true armed = refl
@@ -112,10 +114,10 @@ tells x y true false differ e = absurd (differ e)
 tells x y false true differ e = absurd (differ (sym e))
 tells x y false false differ e = refl
 
-module _ (T : Setting) (m : List ℕ) (r r′ : Rest) (same : (es : List Event) → recordsOf T r m es ≡ recordsOf T r′ m es) where
-  -- one byte of the records to a row
-  byte-same : (es : List Event) (i : ℕ) → getD (recordsOf T r m es) i 0 ≡ getD (recordsOf T r′ m es) i 0
-  byte-same es i = ap (λ (bytes : List ℕ). getD bytes i 0) (same es)
+module _ (T : Setting) (m : List ℕ) (r r′ : Rest) (same : (s : List ℕ) → recordsOf T r m s ≡ recordsOf T r′ m s) where
+  -- one byte of the records to a script
+  byte-same : (s : List ℕ) (i : ℕ) → getD (recordsOf T r m s) i 0 ≡ getD (recordsOf T r′ m s) i 0
+  byte-same s i = ap (λ (bytes : List ℕ). getD bytes i 0) (same s)
 
   -- the status bytes of the two, awake and unarmed
   abbrev awake : Rest → Core
@@ -164,12 +166,12 @@ module _ (T : Setting) (m : List ℕ) (r r′ : Rest) (same : (es : List Event) 
       go true e = r .asleep-unarmed e ∙ sym (r′ .asleep-unarmed (sym deep-same ∙ e))
       go false e = tells 1 11 (r .armed) (r′ .armed) (λ z. omega arith) (sym (resets-as r e) ∙ byte-same resetting 2 ∙ resets-as r′ (sym deep-same ∙ e))
 
-  -- Two states at rest that give the same records to every row of events are equal.
-  pub rest-shows : coreOf r ≡ coreOf r′
+  -- Two states at rest that give the same records to every script are equal.
+  pub rest-shows : chipOf r ≡ chipOf r′
   rest-shows =
       let tb-same : r .tb ≡ r′ .tb = tells 1 0 (r .tb) (r′ .tb) (λ z. omega arith) (bit (λ n. n / 32 % 2) (bits .tb) (bits′ .tb)) in
       let srwp-same : r .srwp ≡ r′ .srwp = tells 1 0 (r .srwp) (r′ .srwp) (λ z. omega arith) (bit (λ n. n / 128) (bits .srwp) (bits′ .srwp)) in
       let wen-same : r .wen ≡ r′ .wen = tells 1 0 (r .wen) (r′ .wen) (λ z. omega arith) (bit (λ n. n / 2 % 2) (bits .wen) (bits′ .wen)) in
       let level-same : r .level ≡ r′ .level = bit (λ n. n / 4 % 8) (bits .bp) (bits′ .bp) in
       λ i.
-      record { level = level-same i; tb = tb-same i; srwp = srwp-same i; wen = wen-same i; suspended = false; wp = wp-same i; deep = deep-same i; armed = armed-same i; job = noJob }
+      whole (record { level = level-same i; tb = tb-same i; srwp = srwp-same i; wen = wen-same i; suspended = false; wp = wp-same i; deep = deep-same i; armed = armed-same i; job = noJob }) emptyFrame blankLoad blankLoad

@@ -141,8 +141,10 @@ armed = withArmed true
 abbrev Gives : ℕ → Core → ℕ → ℕ → Type 0
 Gives number k opcode count = (legal (whole k (framed opcode count) blankLoad blankLoad) 65536 ≡ true) × (verdictOf 65536 k (framed opcode count) false ≡ number)
 
--- `DoneAtOnce`, `JobsBegun`: each command comes to its verdict 1 or 2; so do a reset of a suspended job, and an erase begun while a program is suspended (RULES, Verdicts)
-pub verdicts-met : Rows
+-- `DoneAtOnce`, `JobsBegun`: each command comes to its verdict 1 or 2 (RULES, Verdicts)
+abbrev At-once : Type 0
+At-once =
+    Rows
     (Gives 1 resting 0x06 1
     ∷ Gives 1 resting 0x04 1
     ∷ Gives 1 (busy SmallErase) 0xB0 1
@@ -151,8 +153,12 @@ pub verdicts-met : Rows
     ∷ Gives 1 resting 0xB9 1
     ∷ Gives 1 resting 0x66 1
     ∷ Gives 1 (armed resting) 0x99 1
-    ∷ Gives 1 (armed (held-up Program)) 0x99 1
-    ∷ Gives 2 with-wen 0x01 2
+    ∷ [])
+
+abbrev Begun : Type 0
+Begun =
+    Rows
+    (Gives 2 with-wen 0x01 2
     ∷ Gives 2 with-wen 0x02 5
     ∷ Gives 2 with-wen 0x0A 5
     ∷ Gives 2 with-wen 0x20 4
@@ -160,34 +166,16 @@ pub verdicts-met : Rows
     ∷ Gives 2 with-wen 0xD8 4
     ∷ Gives 2 with-wen 0x60 1
     ∷ Gives 2 with-wen 0xC7 1
-    ∷ Gives 2 (held-up Program) 0x20 4
     ∷ [])
+
+-- a suspended job can be reset, and while a program is suspended an erase can begin (RULES, Verdicts)
+abbrev Suspended : Type 0
+Suspended = Rows (Gives 1 (armed (held-up Program)) 0x99 1 ∷ Gives 2 (held-up Program) 0x20 4 ∷ [])
+
+pub verdicts-met : At-once × Begun × Suspended
 unfolding rowOf rowIn fitsRule protectedSector protectedCount legal legalCore legalJob legalFrame isEmpty isBlank permitted
 verdicts-met = (
-  (refl, refl),
-  (
-    (refl, refl),
-    (
-      (refl, refl),
-      (
-        (refl, refl),
-        (
-          (refl, refl),
-          (
-            (refl, refl),
-            (
-              (refl, refl),
-              (
-                (refl, refl),
-                (
-                  (refl, refl),
-                  ((refl, refl), ((refl, refl), ((refl, refl), ((refl, refl), ((refl, refl), ((refl, refl), ((refl, refl), ((refl, refl), ((refl, refl), tt))))))))),
-                ),
-              ),
-            ),
-          ),
-        ),
-      ),
-    ),
-  ),
+  ((refl, refl), ((refl, refl), ((refl, refl), ((refl, refl), ((refl, refl), ((refl, refl), ((refl, refl), ((refl, refl), tt)))))))),
+  ((refl, refl), ((refl, refl), ((refl, refl), ((refl, refl), ((refl, refl), ((refl, refl), ((refl, refl), ((refl, refl), tt)))))))),
+  ((refl, refl), ((refl, refl), tt)),
 )
