@@ -1,17 +1,25 @@
 -- States at rest show themselves: two of them that give the same records to every script are equal (RULES, Jobs). Four short scripts are enough.
 use Prim.Native.Nat.{ℕ, _/_, _%_, _≤_}
-use mathlib.Core.Bool.{Bool, true, false, cond}
+use mathlib.Core.Bool.{Bool, true, false, cond, _&&_, false≢true}
 use mathlib.Core.List.{List, [], _∷_, _++_}
 use mathlib.Core.Path.{_≡_, refl, sym, ap, _∙_}
 use native.Mathlib.Omega.{arith}
-use lib.ListN.{getD}
-use Rattle.part.specs.Part.{Setting}
+use lib.Dec.{eqb}
+use lib.ListN.{length, getD, replicate}
+use borrow.Author.Tests.{eqb-true}
+use Rattle.cells.specs.Choice.{and-left, and-right}
+use Rattle.part.specs.Part.{Setting, sectorsIn}
 use Rattle.kinds.specs.Kinds.{TICK, knownIn, kindRowIn, knownKind, kindRow}
 use Rattle.commands.specs.Table.{rowOf, rowIn, fitsRule, isRead, isProgram}
 use Rattle.chip.specs.declared.Chip.{Chip}
 use Rattle.chip.specs.declared.Core.{Core}
-use Rattle.chip.specs.Job.{noJob}
-use Rattle.chip.specs.Chip.{whole, emptyFrame, blankLoad, statusByte}
+use Rattle.chip.specs.declared.JobKind.{JobKind}
+use Rattle.chip.specs.declared.JobKind.the-variants.{Idle, WriteStatus, Program, SmallErase, SectorErase, ChipErase}
+use Rattle.chip.specs.Fields.{withSuspended, withJob}
+use Rattle.chip.specs.Job.{isJob, noJob}
+use Rattle.chip.specs.Chip.{whole, emptyFrame, blankLoad, statusByte, NoLeftovers}
+use Rattle.legal.specs.Legal.{isBlank, legal}
+use Rattle.legal.specs.Legality.{LegalCore, chip-facts}
 use Rattle.job.specs.Tick.{tickCore, ticksCore, worked}
 use Rattle.frame.specs.Frame.{judge, taken, exchanged}
 use Rattle.verdict.specs.Verdict.{jobOf, jobVerdict, commandVerdict, listed, verdict}
@@ -20,6 +28,7 @@ use Rattle.event.specs.Event.{applied}
 use Rattle.script.specs.Script.{faultAt, walk, eventsFrom, events}
 use Rattle.script.specs.Run.{World, world, runs}
 use Rattle.demands.specs.Demand2.{StatusByte}
+use Rattle.meets.specs.Opening.{frame-empty, load-blank, not-suspended}
 use Rattle.meets.specs.Examples.{frame}
 use Rattle.meets.specs.Meets2Reads.{status-bits}
 
@@ -175,3 +184,81 @@ module _ (T : Setting) (m : List ℕ) (r r′ : Rest) (same : (s : List ℕ) →
       let level-same : r .level ≡ r′ .level = bit (λ n. n / 4 % 8) (bits .bp) (bits′ .bp) in
       λ i.
       whole (record { level = level-same i; tb = tb-same i; srwp = srwp-same i; wen = wen-same i; suspended = false; wp = wp-same i; deep = deep-same i; armed = armed-same i; job = noJob }) emptyFrame blankLoad blankLoad
+
+-- ---- any legal chip at rest
+
+-- a legal chip without a job, a frame or leftovers, its load a page long
+pub record Rests (c : Chip) (n : ℕ) : Type 0 where
+  pub state-legal : legal c n ≡ true
+  pub no-job : isJob (c .core .job .kind) ≡ false
+  pub unselected : c .frame .selected ≡ false
+  pub no-leftovers : NoLeftovers (c .core) (c .held)
+  pub load-long : length (c .load) ≡ 256
+
+-- a chip as a state at rest
+pub record AsRest (c : Chip) : Type 0 where
+  pub rest : Rest
+  pub is-rest : c ≡ chipOf rest
+
+-- a kind that is no job is `Idle`
+idle-kind : (kind : JobKind) → isJob kind ≡ false → kind ≡ Idle
+idle-kind Idle h = refl
+idle-kind (WriteStatus value) h = absurd (false≢true (sym h))
+idle-kind Program h = absurd (false≢true (sym h))
+idle-kind SmallErase h = absurd (false≢true (sym h))
+idle-kind SectorErase h = absurd (false≢true (sym h))
+idle-kind ChipErase h = absurd (false≢true (sym h))
+
+-- a blank load is a row of FFh
+blank-is : (load : List ℕ) → isBlank load ≡ true → load ≡ replicate (length load) 255
+unfolding isBlank
+blank-is [] h = refl
+blank-is (b ∷ load) h =
+    λ i. eqb-true b 255 (and-left (eqb b 255) (isBlank load) h) i ∷ blank-is load (and-right (eqb b 255) (isBlank load) h) i
+
+module _ (c : Chip) (n : ℕ) (rests : Rests c n) where
+  -- what it knows
+  abbrev restOf : Rest
+  restOf =
+      let k : LegalCore (sectorsIn n) (c .core) = chip-facts c n (rests .state-legal) .core-part in
+      record {
+        level = c .core .level;
+        tb = c .core .tb;
+        srwp = c .core .srwp;
+        wen = c .core .wen;
+        wp = c .core .wp;
+        deep = c .core .deep;
+        armed = c .core .armed;
+        level-small = k .level-small;
+        asleep-unarmed = k .deep-unarmed;
+      }
+
+  -- its core has no job and is not suspended
+  rest-core : c .core ≡ coreOf restOf
+  rest-core =
+      let job-gone : c .core .job ≡ noJob = rests .no-leftovers .job-none (idle-kind (c .core .job .kind) (rests .no-job)) in
+      λ i. withSuspended (not-suspended c n (rests .state-legal) (rests .no-job) i) (withJob (job-gone i) (c .core))
+
+  -- both its loads are blank
+  rest-load : c .load ≡ blankLoad
+  rest-load = blank-is (c .load) (load-blank c n (rests .state-legal) (rests .unselected)) ∙ ap (λ (size : ℕ). replicate size 255) (rests .load-long)
+
+  rest-held : c .held ≡ blankLoad
+  rest-held = rests .no-leftovers .load-blank (λ e. false≢true (sym (rests .no-job) ∙ ap isJob e))
+
+  -- A legal chip at rest without leftovers is a state at rest.
+  pub as-rest : AsRest c
+  as-rest = record { rest = restOf; is-rest = λ i. whole (rest-core i) (frame-empty c n (rests .state-legal) (rests .unselected) i) (rest-load i) (rest-held i) }
+
+-- what a chip says to a script
+abbrev pub recordsFrom : Setting → Chip → List ℕ → List ℕ → List ℕ
+recordsFrom T c m s = runs T (events s) (world c m [] 0) .written
+
+-- Two legal chips at rest without leftovers that give the same records to every script are equal.
+pub rest-equal : (T : Setting) (m : List ℕ) (n : ℕ) (c c′ : Chip) → Rests c n → Rests c′ n → ((s : List ℕ) → recordsFrom T c m s ≡ recordsFrom T c′ m s) → c ≡ c′
+rest-equal T m n c c′ rests rests′ same =
+    let r : AsRest c = as-rest c n rests in
+    let r′ : AsRest c′ = as-rest c′ n rests′ in
+    let through : (s : List ℕ) → recordsOf T (r .rest) m s ≡ recordsOf T (r′ .rest) m s =
+    λ s. ap (λ (q : Chip). recordsFrom T q m s) (sym (r .is-rest)) ∙ same s ∙ ap (λ (q : Chip). recordsFrom T q m s) (r′ .is-rest) in
+    r .is-rest ∙ rest-shows T m (r .rest) (r′ .rest) through ∙ sym (r′ .is-rest)

@@ -151,7 +151,7 @@ cells-job SectorErase h = refl
 cells-job ChipErase h = refl
 
 -- a legal chip without a job is not suspended
-not-suspended : (c : Chip) (n : ℕ) → legal c n ≡ true → isJob (c .core .job .kind) ≡ false → c .core .suspended ≡ false
+pub not-suspended : (c : Chip) (n : ℕ) → legal c n ≡ true → isJob (c .core .job .kind) ≡ false → c .core .suspended ≡ false
 not-suspended c n l idle = not-so (c .core .suspended) (λ e. false≢true (sym idle ∙ cells-job (c .core .job .kind) (chip-facts c n l .core-part .suspended-cells e)))
 
 -- A chip at rest, idle or suspended, takes the opcodes that are allowed while suspended.
