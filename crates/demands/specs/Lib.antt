@@ -5,3 +5,4 @@ pub mod Demand2
 pub mod Demand3
 pub mod Moments
 pub mod Scripts
+pub mod Commands

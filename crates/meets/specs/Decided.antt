@@ -53,11 +53,11 @@ one-number c n extent kind body r s p q = go (permitted n) (decLt 256 extent) (l
 -- ---- which commands get verdicts 1 and 2
 
 -- a test that holds of the opcode of each row holds of every known opcode
-abbrev everyRow : (ℕ → Bool) → List (List ℕ) → Bool
+abbrev pub everyRow : (ℕ → Bool) → List (List ℕ) → Bool
 everyRow P [] = true
 everyRow P (r ∷ rs) = P (getD r 0 0) && everyRow P rs
 
-known-test : (P : ℕ → Bool) (rs : List (List ℕ)) → everyRow P rs ≡ true → (opcode : ℕ) → rowIn rs opcode .known ≡ true → P opcode ≡ true
+pub known-test : (P : ℕ → Bool) (rs : List (List ℕ)) → everyRow P rs ≡ true → (opcode : ℕ) → rowIn rs opcode .known ≡ true → P opcode ≡ true
 unfolding rowIn
 known-test P [] every opcode known = absurd (false≢true known)
 known-test P (r ∷ rs) every opcode known = go (λ h. known-test P rs (and-right (P (getD r 0 0)) (everyRow P rs) every) opcode h) (ℕ-discrete (getD r 0 0) opcode)
@@ -67,11 +67,11 @@ known-test P (r ∷ rs) every opcode known = go (λ h. known-test P rs (and-righ
     go rest (no n) = rest (sym (ap (λ (row : Row). row .known) (cond-no (eqb (getD r 0 0) opcode) _ _ (ne-eqb _ _ n))) ∙ known)
 
 -- what holds of each of some numbers holds of a number that is among them
-abbrev Each : (ℕ → Type 0) → List ℕ → Type 0
+abbrev pub Each : (ℕ → Type 0) → List ℕ → Type 0
 Each P [] = Unit {0}
 Each P (y ∷ ys) = P y × Each P ys
 
-among-each : (P : ℕ → Type 0) (ys : List ℕ) → Each P ys → (x : ℕ) → among ys x ≡ true → P x
+pub among-each : (P : ℕ → Type 0) (ys : List ℕ) → Each P ys → (x : ℕ) → among ys x ≡ true → P x
 among-each P [] each x is = absurd (false≢true is)
 among-each P (y ∷ ys) each x is = go (λ h. among-each P ys (each .1) x h) (ℕ-discrete x y)
   where

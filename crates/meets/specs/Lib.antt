@@ -34,3 +34,4 @@ pub mod LifeExample
 pub mod ProgramRuns
 pub mod AtRest
 pub mod ScriptWords
+pub mod TableWords
