@@ -2,10 +2,9 @@
 -- (`Demand2`); here a wrong row is noticed.
 use Prim.Native.Nat.{ℕ, _≤_}
 use mathlib.Core.Bool.{Bool, true, false}
-use mathlib.Core.List.{List, [], _∷_}
+use mathlib.Core.List.{[], _∷_}
 use mathlib.Core.Path.{_≡_}
 use mathlib.Core.Logic.{_↔_}
-use Rattle.commands.specs.declared.Row.{Row}
 use Rattle.commands.specs.Table.{rowOf, fitsRule}
 use Rattle.demands.specs.Demand2.{among, Rows}
 

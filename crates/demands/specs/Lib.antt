@@ -6,3 +6,5 @@ pub mod Demand3
 pub mod Moments
 pub mod Scripts
 pub mod Commands
+pub mod Jobs
+pub mod Words

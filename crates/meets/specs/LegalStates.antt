@@ -30,7 +30,7 @@ use Rattle.meets.specs.EventRules.{empty-frame-is}
 -- ---- the definitions say the same, part by part
 
 -- the six lengths, and the judgements
-length-among : (n : ℕ) → permitted n ≡ among (65536 ∷ 131072 ∷ 262144 ∷ 524288 ∷ 1048576 ∷ 2097152 ∷ []) n
+pub length-among : (n : ℕ) → permitted n ≡ among (65536 ∷ 131072 ∷ 262144 ∷ 524288 ∷ 1048576 ∷ 2097152 ∷ []) n
 unfolding permitted
 length-among n = six (eqb n 65536) (eqb n 131072) (eqb n 262144) (eqb n 524288) (eqb n 1048576) (eqb n 2097152)
   where

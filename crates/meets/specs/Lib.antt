@@ -35,3 +35,4 @@ pub mod ProgramRuns
 pub mod AtRest
 pub mod ScriptWords
 pub mod TableWords
+pub mod JobWords

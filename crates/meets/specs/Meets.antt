@@ -13,10 +13,47 @@ use Rattle.script.specs.Laws as ScriptLaws
 use Rattle.demands.specs.Model.{Model, ours}
 use Rattle.demands.specs.Demand1.{Demand1Run, Runner, RunReply, RunRefusedWhen}
 use Rattle.meets.specs.Refusals.{run-numbers}
+use Rattle.demands.specs.Words.{SmallWords, Words}
+use Rattle.meets.specs.Array.{protection-in-numbers}
+use Rattle.meets.specs.LegalStates.{length-among, legal-when, fresh-state}
+use Rattle.meets.specs.ScriptWords.{kinds-in-numbers, events-in-numbers}
+use Rattle.meets.specs.TableWords.{table-in-numbers}
+use Rattle.meets.specs.JobWords.{jobs-in-numbers}
+use Rattle.meets.specs.Meets2Reads.{status-bits}
 use Rattle.meets.specs.Meets1.{meets-1, ourRun, meets-1-run}
 use Rattle.meets.specs.Meets2.{meets-2}
 use Rattle.meets.specs.Meets3.{meets-3}
 use Rattle.meets.specs.Decided.{Meets, decided}
+
+small : SmallWords
+small =
+    record {
+      is-job = (refl, (λ value. refl, (refl, (refl, (refl, (refl, tt))))));
+      has-cells = (refl, (λ value. refl, (refl, (refl, (refl, (refl, tt))))));
+      runs = λ k. refl;
+      bits-in = λ byte. refl;
+      bits-of = λ k. refl;
+      no-job = refl;
+      blank-load = refl;
+      empty-frame = refl;
+    }
+
+-- The words that the demands take from the definitions mean what `demands/specs/Words` says.
+pub words : Words
+words =
+    record {
+      lengths = length-among;
+      sectors = λ n. refl;
+      states = legal-when;
+      fresh-states = fresh-state;
+      kinds = kinds-in-numbers;
+      events = events-in-numbers;
+      table = table-in-numbers;
+      protection = protection-in-numbers;
+      status = status-bits;
+      jobs = jobs-in-numbers;
+      small = small;
+    }
 
 -- Ours meets the three demands.
 pub meets : Meets ours
