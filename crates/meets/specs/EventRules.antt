@@ -7,7 +7,7 @@ use native.Mathlib.Omega.{arith}
 use lib.Dec.{eqb, leb}
 use lib.ListN.{length, getD}
 use borrow.Author.Tests.{le-leb, eqb-true, ne-eqb}
-use Rattle.cells.specs.Choice.{cond-yes, cond-no, and-left, and-right, and-both, and-four}
+use Rattle.cells.specs.Choice.{and-left, and-right, and-both, and-four}
 use Rattle.part.specs.Part.{Setting, sectorsIn, lengthOf, settingOf, roundedDown}
 use Rattle.part.specs.Laws.{permitted-whole}
 use Rattle.commands.specs.Table.{isProgram}
@@ -31,7 +31,7 @@ use Rattle.event.specs.Laws.{deselect-unselected, deselect-selected}
 use Rattle.demands.specs.Model.{Reply, reply, ours, event, Good, Fit}
 use Rattle.demands.specs.Demand2.{Closing, on-a-byte, inside-a-byte, stopOf, Ending, After, DoneAtOnce, rounded, Begun, JobsBegun, OtherVerdicts, Closes, poweredUp}
 use Rattle.meets.specs.Ours.{told, done-as}
-use Rattle.meets.specs.Verdicts.{verdict-as}
+use Rattle.meets.specs.Verdicts.{verdict-as, settled-acts}
 
 -- ---- select, WP, power cut
 
@@ -145,23 +145,11 @@ module _ (c : Chip) (m area : List ℕ) (kind body : ℕ) (loose : Bool) (e : En
   pub verdict-said : (x : ℕ) → ours c m area kind body .says ≡ 0x82 ∷ x ∷ [] → v ≡ x
   verdict-said x said = ap (λ (bytes : List ℕ). getD bytes 1 0) (sym (ap (λ (r : Reply). r .says) closes-as) ∙ said)
 
-  -- a verdict other than 0 has a byte to speak of
-  some-byte : (v ≡ 0 → ⊥) → eqb (c .frame .count) 0 ≡ false
-  unfolding verdict
-  some-byte n = go (eqb (c .frame .count) 0) refl
-    where
-      go : (b : Bool) → eqb (c .frame .count) 0 ≡ b → b ≡ false
-      go true p = absurd (n (cond-yes (eqb (c .frame .count) 0) _ _ p))
-      go false p = refl
-
   -- the core and the job's load after a verdict of which this is known
   core-after : (x : ℕ) → ours c m area kind body .says ≡ 0x82 ∷ x ∷ [] → (x ≡ 0 → ⊥)
       → ours c m area kind body .chip .core ≡ withArmed (eqb (c .frame .opcode) 0x66 && eqb x 1) (acted S (c .core) (c .frame) x)
-  unfolding settled
   core-after x said some =
-      ap (λ (r : Reply). r .chip .core) closes-as
-      ∙ cond-no (eqb (c .frame .count) 0) _ _ (some-byte (λ z. some (sym (verdict-said x said) ∙ z)))
-      ∙ ap (λ (y : ℕ). withArmed (eqb (c .frame .opcode) 0x66 && eqb y 1) (acted S (c .core) (c .frame) y)) (verdict-said x said)
+      ap (λ (r : Reply). r .chip .core) closes-as ∙ ap (λ (y : ℕ). settled S (c .core) (c .frame) y) (verdict-said x said) ∙ settled-acts S (c .core) (c .frame) loose x (verdict-said x said) some
 
   held-after : (x : ℕ) → ours c m area kind body .says ≡ 0x82 ∷ x ∷ [] → ours c m area kind body .chip .held ≡ heldAfter (c .frame) x (c .load) (c .held)
   held-after x said = ap (λ (r : Reply). r .chip .held) closes-as ∙ ap (λ (y : ℕ). heldAfter (c .frame) y (c .load) (c .held)) (verdict-said x said)

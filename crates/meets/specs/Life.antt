@@ -39,6 +39,7 @@ use Rattle.script.specs.Script.{Event}
 use Rattle.script.specs.Run.{World, does, onward}
 use Rattle.demands.specs.Model.{Reply, ours, Good, AllGood, Fit, doesBy}
 use Rattle.demands.specs.Demand3.{Started, Spares, AllSpare, resetCore}
+use Rattle.meets.specs.Verdicts.{settled-acts}
 use Rattle.meets.specs.Ours.{told, done-as, onward-ours, setting-same, fit-onward}
 use Rattle.meets.specs.JobSteps.{LeavesJob}
 use Rattle.meets.specs.JobSteps as JobSteps
@@ -118,10 +119,7 @@ module _ (T : Setting) (c : Chip) (m : List ℕ) (v : ℕ) (some : v ≡ 0 → �
 module _ (T : Setting) (c : Chip) (m : List ℕ) (v : ℕ) (o : Outcome) (by : ClosedWith T c m v o) where
   -- a verdict other than 0 acts, and then arms or disarms
   closed-core : (v ≡ 0 → ⊥) → o .chip .core ≡ withArmed (eqb (c .frame .opcode) resetEnable && eqb v 1) (acted (T .sectors) (c .core) (c .frame) v)
-  unfolding verdict settled
-  closed-core some =
-      ap (λ (o : Outcome). o .chip .core) (by .closed)
-      ∙ cond-no (eqb (c .frame .count) 0) _ _ (not-so (eqb (c .frame .count) 0) (λ e. some (sym (by .verdict-is) ∙ cond-yes (eqb (c .frame .count) 0) _ _ e)))
+  closed-core some = ap (λ (o : Outcome). o .chip .core) (by .closed) ∙ settled-acts (T .sectors) (c .core) (c .frame) (by .loose) v (by .verdict-is) some
 
   -- and no cell changes
   pub closed-memory : o .memory ≡ m

@@ -7,17 +7,19 @@ use native.Mathlib.Decide.{ℕ-discrete}
 use native.Mathlib.Omega.{arith}
 use lib.Dec.{eqb}
 use borrow.Author.Tests.{ne-eqb}
-use Rattle.cells.specs.Choice.{cond-yes, cond-no}
+use Rattle.cells.specs.Choice.{cond-yes, cond-no, not-so}
 use Rattle.part.specs.Part.{permitted, sectorsIn, lengthOf, page, smallSector, sector, roundedDown}
 use Rattle.part.specs.Protection.{protectedSector}
 use Rattle.part.specs.Laws.{permitted-whole}
 use Rattle.commands.specs.Table.{rowOf, fitsRule, isRead, isProgram}
 use Rattle.chip.specs.declared.Core.{Core}
 use Rattle.chip.specs.declared.Frame.{Frame}
+use Rattle.chip.specs.Fields.{withArmed}
 use Rattle.chip.specs.Job.{isJob, hasCells}
 use Rattle.chip.specs.Chip.{running}
 use Rattle.frame.specs.Frame.{judge}
 use Rattle.verdict.specs.Verdict.{jobOf, startOf, pointless, jobVerdict, commandVerdict, listed, verdict}
+use Rattle.verdict.specs.Effect.{acted, settled}
 use Rattle.demands.specs.Demand2.{among, inOneSector, ofTheChip, changesCells, beginsJob, verdictOf}
 
 -- ---- the commands that begin a job
@@ -138,3 +140,8 @@ verdict-as n k f loose p =
 pub verdict-judged : (S : ℕ) (k : Core) (f : Frame) (loose : Bool) → (f .count ≡ 0 → ⊥) → (f .judgement ≡ 0 → ⊥) → verdict S k f loose ≡ f .judgement
 unfolding verdict
 verdict-judged S k f loose c j = cond-no (eqb (f .count) 0) _ _ (ne-eqb _ _ c) ∙ cond-yes (not (eqb (f .judgement) 0)) _ _ (ap not (ne-eqb _ _ j))
+
+-- A verdict other than 0 has a byte to speak of, so it acts, and then arms or disarms.
+pub settled-acts : (S : ℕ) (k : Core) (f : Frame) (loose : Bool) (v : ℕ) → verdict S k f loose ≡ v → (v ≡ 0 → ⊥) → settled S k f v ≡ withArmed (eqb (f .opcode) 0x66 && eqb v 1) (acted S k f v)
+unfolding verdict settled
+settled-acts S k f loose v is some = cond-no (eqb (f .count) 0) _ _ (not-so (eqb (f .count) 0) (λ none. some (sym is ∙ cond-yes (eqb (f .count) 0) _ _ none)))
