@@ -3,7 +3,7 @@ use Prim.Native.Nat.{_≤_}
 use native.Mathlib.Omega.{arith}
 use lib.ListN.{length}
 use Rattle.chip.specs.declared.Record.{Record}
-use Rattle.chip.specs.declared.Record.the-variants.{Nothing, Floating, Driven, Verdict}
+use Rattle.chip.specs.declared.Record.the-variants.{Nothing, Floating, Driven, Verdict, InTheWay}
 use Rattle.chip.specs.Record.{recordBytes, longestRecord}
 
 -- no record is longer than the longest
@@ -12,3 +12,4 @@ recordBytes-most Nothing = omega arith
 recordBytes-most Floating = omega arith
 recordBytes-most (Driven b) = omega arith
 recordBytes-most (Verdict v) = omega arith
+recordBytes-most (InTheWay first last) = omega arith

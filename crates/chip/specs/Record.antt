@@ -2,15 +2,16 @@
 use Prim.Native.Nat.{ℕ}
 use mathlib.Core.List.{List, [], _∷_}
 use Rattle.chip.specs.declared.Record.{Record}
-use Rattle.chip.specs.declared.Record.the-variants.{Nothing, Floating, Driven, Verdict}
+use Rattle.chip.specs.declared.Record.the-variants.{Nothing, Floating, Driven, Verdict, InTheWay}
 
--- a record's bytes: the first tells how many follow
+-- a record's bytes: the first tells how many follow; a verdict is 82h and its number, but for verdict 9, which is 83h and the two ends of the protected sectors
 abbrev pub recordBytes : Record → List ℕ
 recordBytes Nothing = []
 recordBytes Floating = 0x80 ∷ []
 recordBytes (Driven b) = 0x81 ∷ b ∷ []
 recordBytes (Verdict v) = 0x82 ∷ v ∷ []
+recordBytes (InTheWay first last) = 0x83 ∷ first ∷ last ∷ []
 
 -- the most bytes that a record has
 abbrev pub longestRecord : ℕ
-longestRecord = 2
+longestRecord = 3

@@ -57,14 +57,16 @@ pub struct Chip {
 }
 
 // The most bytes that a record has.
-pub const LONGEST_RECORD: usize = 2;
+pub const LONGEST_RECORD: usize = 3;
 
-// What an event says: nothing, the line left floating, the byte driven, or the verdict.
+// What an event says: nothing, the line left floating, the byte driven, or the verdict; verdict 9 is
+// said by the first and the last protected sector, which were in the way.
 pub enum Record {
     Nothing,
     Floating,
     Driven(u8),
     Verdict(u8),
+    InTheWay(u8, u8),
 }
 
 impl Chip {
@@ -189,6 +191,7 @@ pub fn record_length(said: Record) -> usize
         Record::Floating => 1,
         Record::Driven(_) => 2,
         Record::Verdict(_) => 2,
+        Record::InTheWay(_, _) => 3,
     }
 }
 

@@ -9,12 +9,12 @@ use Rattle.chip.specs.declared.Chip.{Chip}
 use Rattle.chip.specs.declared.Core.{Core}
 use Rattle.chip.specs.declared.Frame.{Frame}
 use Rattle.chip.specs.declared.Record.{Record}
-use Rattle.chip.specs.declared.Record.the-variants.{Nothing, Floating, Driven, Verdict}
+use Rattle.chip.specs.declared.Record.the-variants.{Nothing, Floating, Driven, Verdict, InTheWay}
 use Rattle.chip.specs.Fields.{withWp, withDeep, withArmed, withSelected}
 use Rattle.chip.specs.Chip.{whole, emptyFrame, blankLoad}
 use Rattle.job.specs.Tick.{ticksCore, ticksLoad, ticksMemory, worked}
 use Rattle.frame.specs.Frame.{Exchange, exchanged}
-use Rattle.verdict.specs.Verdict.{verdict}
+use Rattle.verdict.specs.Verdict.{verdict, recordOf}
 use Rattle.verdict.specs.Effect.{resets, settled, heldAfter}
 
 -- what an event leaves, says and works
@@ -38,10 +38,10 @@ settleExchange c m e = outcome (c .core) (e .frame) (e .load) (c .held) m (e .sa
 abbrev pub exchangeByte : Setting → Chip → List ℕ → ℕ → Outcome
 exchangeByte T c m b = settleExchange c m (exchanged T (c .core) (c .frame) (c .load) m b)
 
--- a deselect, clean or loose: the verdict and what it does, and the empty frame; with no frame open verdict 0 and no more
+-- a deselect, clean or loose: the verdict, what it does and what is said of it, and the empty frame; with no frame open verdict 0 and no more
 abbrev pub closes : Setting → Chip → List ℕ → ℕ → Outcome
 closes T c m v =
-    outcome (settled (T .sectors) (c .core) (c .frame) v) emptyFrame blankLoad (heldAfter (c .frame) v (c .load) (c .held)) m (Verdict v) 0
+    outcome (settled (T .sectors) (c .core) (c .frame) v) emptyFrame blankLoad (heldAfter (c .frame) v (c .load) (c .held)) m (recordOf (T .sectors) (c .core) v) 0
 
 abbrev pub deselect : Setting → Chip → List ℕ → Bool → Outcome
 deselect T c m loose =
@@ -83,3 +83,4 @@ sortOf Nothing = Says.silent
 sortOf Floating = Says.line
 sortOf (Driven b) = Says.line
 sortOf (Verdict v) = Says.verdict
+sortOf (InTheWay first last) = Says.verdict

@@ -12,6 +12,9 @@ use borrow.Author.Tests.{eq-eqb, ne-eqb, eqb-true, eqb-false, ltb-false}
 use Rattle.cells.specs.Choice.{cond-yes, cond-no, cond-either, chosen-number}
 use Rattle.part.specs.Part.{permitted, Setting, setting, sectorsIn}
 use Rattle.part.specs.Area.{longestArea}
+use Rattle.part.specs.declared.Protected.{Protected}
+use Rattle.part.specs.declared.Protected.the-variants.{NoSector, Sectors}
+use Rattle.part.specs.Protection.{protectedSectors}
 use Rattle.kinds.specs.Kinds.{SELECT, EXCHANGE, DESELECT, TICK, TICKS, WP, POWER, LOOSE, Says, KindRow, kindRowIn, kindRow, knownKind, bodyLength, inRange, saysOf, isSaid, roomOf}
 use Rattle.kinds.specs.Laws.{kind-each, last-kind, range-small}
 use Rattle.chip.specs.declared.Chip.{Chip}
@@ -19,12 +22,12 @@ use Rattle.legal.specs.Legal.{legal}
 use Rattle.chip.specs.declared.Core.{Core}
 use Rattle.chip.specs.declared.Frame.{Frame}
 use Rattle.chip.specs.declared.Record.{Record}
-use Rattle.chip.specs.declared.Record.the-variants.{Nothing, Floating, Driven, Verdict}
+use Rattle.chip.specs.declared.Record.the-variants.{Nothing, Floating, Driven, Verdict, InTheWay}
 use Rattle.chip.specs.Record.{recordBytes}
 use Rattle.chip.specs.Laws.{recordBytes-most}
 use Rattle.frame.specs.Frame.{Exchange, exchanged}
 use Rattle.frame.specs.Legality.{taken-each, exchanged-each}
-use Rattle.verdict.specs.Verdict.{verdict}
+use Rattle.verdict.specs.Verdict.{verdict, inTheWay, recordOf}
 use Rattle.event.specs.declared.Answer.{Answer}
 use Rattle.event.specs.Event.{Outcome, outcome, select, exchangeByte, deselect, closes, tick, setWp, cutPower, applied, sortOf}
 use Rattle.event.specs.Alone.{bodyUsed, refusal, refused, done, happens, answerOf, memoryOf, saidOf}
@@ -158,8 +161,17 @@ exchange-sort T k f load m b =
     exchanged-each T k f load m b (λ (e : Exchange). sortOf (e .said) ≡ Says.line) (λ _. refl) (λ _ _. refl) (λ _. refl)
     (λ _. taken-each T k f load m b (λ (e : Exchange). sortOf (e .said) ≡ Says.line) (λ _. refl) (λ _. refl) (λ _. refl) (λ _. refl) refl (λ _. refl) (λ _. refl))
 
+-- whatever the verdict, it is one that is said
+record-sort : (S : ℕ) (k : Core) (v : ℕ) → sortOf (recordOf S k v) ≡ Says.verdict
+unfolding recordOf
+record-sort S k v = cond-either (λ (r : Record). sortOf r ≡ Says.verdict) (eqb v 9) _ _ (λ _. at (protectedSectors (k .level) (k .tb) S)) (λ _. refl)
+  where
+    at : (range : Protected) → sortOf (inTheWay range) ≡ Says.verdict
+    at NoSector = refl
+    at (Sectors first last) = refl
+
 deselect-sort : (T : Setting) (c : Chip) (m : List ℕ) (loose : Bool) → sortOf (deselect T c m loose .said) ≡ Says.verdict
-deselect-sort T c m loose = cond-either (λ (o : Outcome). sortOf (o .said) ≡ Says.verdict) (c .frame .selected) _ _ (λ _. refl) (λ _. refl)
+deselect-sort T c m loose = cond-either (λ (o : Outcome). sortOf (o .said) ≡ Says.verdict) (c .frame .selected) _ _ (λ _. record-sort (T .sectors) (c .core) _) (λ _. refl)
 
 -- an event says what the table has for its kind
 pub says-its-kind : (T : Setting) (c : Chip) (m : List ℕ) (kind body : ℕ) → knownKind kind ≡ true → sortOf (applied T c m kind body .said) ≡ saysOf kind
@@ -180,14 +192,27 @@ sort-room : (kind : ℕ) (r : Record) → sortOf r ≡ saysOf kind → length (r
 unfolding kindRow kindRowIn
 sort-room kind r =
     kind-each (λ kind. sortOf r ≡ saysOf kind → length (recordBytes r) ≤ roomOf kind)
-    (silent-room r) (λ _. recordBytes-most r) (λ _. recordBytes-most r) (silent-room r) (silent-room r) (silent-room r) (silent-room r) (λ _. recordBytes-most r)
-    (λ kind o e. subst (λ (w : KindRow). length (recordBytes r) ≤ w .room) (sym (o .no-row)) (silent-room r (e ∙ ap (λ (w : KindRow). w .says) (o .no-row)))) kind
+    (silent r) (line r) (λ _. recordBytes-most r) (silent r) (silent r) (silent r) (silent r) (λ _. recordBytes-most r)
+    (λ kind o e. subst (λ (w : KindRow). length (recordBytes r) ≤ w .room) (sym (o .no-row)) (silent r (e ∙ ap (λ (w : KindRow). w .says) (o .no-row)))) kind
   where
-    silent-room : (r : Record) → sortOf r ≡ Says.silent → length (recordBytes r) ≤ 0
-    silent-room Nothing e = omega arith
-    silent-room Floating e = absurd (false≢true (sym (ap isSaid e)))
-    silent-room (Driven b) e = absurd (false≢true (sym (ap isSaid e)))
-    silent-room (Verdict v) e = absurd (false≢true (sym (ap isSaid e)))
+    isVerdict : Says → Bool
+    isVerdict Says.silent = false
+    isVerdict Says.line = false
+    isVerdict Says.verdict = true
+
+    silent : (r : Record) → sortOf r ≡ Says.silent → length (recordBytes r) ≤ 0
+    silent Nothing e = omega arith
+    silent Floating e = absurd (false≢true (sym (ap isSaid e)))
+    silent (Driven b) e = absurd (false≢true (sym (ap isSaid e)))
+    silent (Verdict v) e = absurd (false≢true (sym (ap isSaid e)))
+    silent (InTheWay first last) e = absurd (false≢true (sym (ap isSaid e)))
+
+    line : (r : Record) → sortOf r ≡ Says.line → length (recordBytes r) ≤ 2
+    line Nothing e = omega arith
+    line Floating e = omega arith
+    line (Driven b) e = omega arith
+    line (Verdict v) e = absurd (false≢true (sym (ap isVerdict e)))
+    line (InTheWay first last) e = absurd (false≢true (sym (ap isVerdict e)))
 
 pub said-room : (T : Setting) (c : Chip) (m : List ℕ) (kind body : ℕ) → knownKind kind ≡ true → length (recordBytes (applied T c m kind body .said)) ≤ roomOf kind
 said-room T c m kind body known = sort-room kind (applied T c m kind body .said) (says-its-kind T c m kind body known)

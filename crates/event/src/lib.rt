@@ -89,7 +89,7 @@ fn deselect(
     stays(
         verdict::settle(sectors, core, frame, v),
         chip::empty_frame(),
-        Record::Verdict(v),
+        verdict::record_of(sectors, core, v),
     )
 }
 

@@ -63,12 +63,12 @@ abbrev pub kindRows : List KindRow
 kindRows =
     row SELECT 0 0 0 silent 0
     ∷ row EXCHANGE 1 0 255 line 2
-    ∷ row DESELECT 0 0 0 verdict 2
+    ∷ row DESELECT 0 0 0 verdict 3
     ∷ row TICK 0 0 0 silent 0
     ∷ row TICKS 2 1 65535 silent 0
     ∷ row WP 1 0 1 silent 0
     ∷ row POWER 0 0 0 silent 0
-    ∷ row LOOSE 1 1 7 verdict 2
+    ∷ row LOOSE 1 1 7 verdict 3
     ∷ []
 
 -- whether some row has a kind
@@ -118,4 +118,4 @@ abbrev pub roomOf : ℕ → ℕ
 roomOf kind = kindRow kind .room
 
 abbrev pub mostRoom : ℕ
-mostRoom = 2
+mostRoom = 3

@@ -1,16 +1,19 @@
 -- What is true of the part: its lengths, how many sectors are protected, and the bytes inside an area.
-use Prim.Native.Nat.{ℕ, zero, suc, _≤_, _<_}
-use mathlib.Core.Bool.{Bool, true, false, cond, _||_}
+use Prim.Native.Nat.{ℕ, zero, suc, _≤_, _<_, _-_, _^_}
+use mathlib.Core.Bool.{Bool, true, false, cond, not, _||_}
 use mathlib.Core.List.{List, [], _∷_}
-use mathlib.Core.Path.{_≡_, refl, _∙_}
+use mathlib.Core.Path.{_≡_, refl, sym, ap, _∙_}
+use native.Mathlib.Nat.{one-le-pow}
 use native.Mathlib.Omega.{arith}
+use native.Mathlib.Decide.{ℕ-discrete}
 use lib.Dec.{eqb, ltb}
 use lib.ListN.{length, getD}
-use borrow.Author.Tests.{eqb-true}
+use borrow.Author.Tests.{eqb-true, eq-eqb, ne-eqb}
 use Rattle.cells.specs.Choice.{cond-yes, cond-no, cond-either}
 use Rattle.part.specs.Part.{permitted, sectorsIn, lengthOf}
 use Rattle.part.specs.Area.{areaByte}
-use Rattle.part.specs.Protection.{protectedCount}
+use Rattle.part.specs.declared.Protected.the-variants.{NoSector, Sectors}
+use Rattle.part.specs.Protection.{protectedCount, protectedSectors, protectsAny, anyProtected}
 
 -- ---- protection
 
@@ -19,6 +22,38 @@ unfolding protectedCount
 protectedCount-le L S =
     cond-either (λ (n : ℕ). n ≤ S) (eqb L 0) _ _ (λ _. omega arith)
     (λ _. cond-either (λ (n : ℕ). n ≤ S) (ltb L 6) _ _ (λ _. omega arith) (λ _. omega arith))
+
+-- on a part that has sectors every level but 0 protects some
+pub protectedCount-some : (L S : ℕ) → 1 ≤ S → (L ≡ 0 → ⊥) → 1 ≤ protectedCount L S
+unfolding protectedCount
+protectedCount-some L S some other =
+    cond-either (λ (n : ℕ). 1 ≤ n) (eqb L 0) _ _ (λ z. absurd (other (eqb-true L 0 z)))
+    (λ _. cond-either (λ (n : ℕ). 1 ≤ n) (ltb L 6) _ _ (λ _. let power : 1 ≤ 2 ^ (L - 1) = one-le-pow (L - 1) 2 (omega arith) in omega arith) (λ _. some))
+
+-- the ends by the count: none for none, and for some the first and the last of so many
+module _ (L : ℕ) (tb : Bool) (S : ℕ) where
+  pub no-ends : protectedCount L S ≡ 0 → protectedSectors L tb S ≡ NoSector
+  unfolding protectedSectors
+  no-ends none = cond-yes _ _ _ (eq-eqb (protectedCount L S) 0 none)
+
+  pub two-ends : (protectedCount L S ≡ 0 → ⊥) → protectedSectors L tb S ≡ Sectors (cond tb 0 (S - protectedCount L S)) (cond tb (protectedCount L S - 1) (S - 1))
+  unfolding protectedSectors
+  two-ends some = cond-no _ _ _ (ne-eqb (protectedCount L S) 0 some) ∙ at tb
+    where
+      at : (b : Bool) → cond b (Sectors 0 (protectedCount L S - 1)) (Sectors (S - protectedCount L S) (S - 1)) ≡ Sectors (cond b 0 (S - protectedCount L S)) (cond b (protectedCount L S - 1) (S - 1))
+      at true = refl
+      at false = refl
+
+-- so there is a protected sector exactly where the level is not 0
+pub any-by-level : (L : ℕ) (tb : Bool) (S : ℕ) → 1 ≤ S → anyProtected L tb S ≡ not (eqb L 0)
+unfolding protectedCount
+any-by-level L tb S some = go (ℕ-discrete L 0)
+  where
+    go : Dec (L ≡ 0) → anyProtected L tb S ≡ not (eqb L 0)
+    go (yes z) = ap protectsAny (no-ends L tb S (ap (λ (l : ℕ). protectedCount l S) z)) ∙ sym (ap not (eq-eqb L 0 z))
+    go (no n) =
+        let count : 1 ≤ protectedCount L S = protectedCount-some L S some n in
+        ap protectsAny (two-ends L tb S (λ z. omega (arith, count, z))) ∙ sym (ap not (ne-eqb L 0 n))
 
 -- ---- the six lengths
 

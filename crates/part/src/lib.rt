@@ -4,13 +4,19 @@ ghost use mathlib.Core.Bool.{cond};
 ghost use Prim.Native.Nat.{_≤_, min};
 ghost use Rattle.part.specs.Part.{permitted, reduced, sectorsIn, lengthOf, jedecByte};
 ghost use Rattle.part.specs.Area.{areaByte, ownArea};
-ghost use Rattle.part.specs.Protection.{protectedCount, protectedSector};
+ghost use Rattle.part.specs.Protection.{protectedCount, protectedSectors, protects, protectsAny};
 
 mod sfdp;
 
 // An SFDP area of the part's own length.
 pub struct OwnArea {
     pub bytes: [u8; 208],
+}
+
+// Which sectors are protected: none, or all from the first to the last.
+pub enum Protected {
+    NoSector,
+    Sectors(u8, u8),
 }
 
 // The part's own numbers are constants of this type; it holds nothing.
@@ -120,13 +126,36 @@ fn protected_count(level: u8, sectors: u8) -> u8
     }
 }
 
-// Whether sector x is protected: the range's end is computed and compared.
-pub fn protected_sector(level: u8, tb: bool, sectors: u8, x: usize) -> bool
-    ensures { λ r. ⌜ r ≡ protectedSector level tb sectors x ⌝ }
+// The protect test: the first and the last protected sector, from level, TB and the number of sectors.
+pub fn protected_sectors(level: u8, tb: bool, sectors: u8) -> Protected
+    ensures { λ r. ⌜ r ≡ protectedSectors level tb sectors ⌝ }
 {
     let count = protected_count(level, sectors);
-    if tb {
-        return x < (count as usize);
+    if count == 0 {
+        return Protected::NoSector;
     }
-    ((sectors - count) as usize) <= x
+    if tb {
+        return Protected::Sectors(0, count - 1);
+    }
+    Protected::Sectors(sectors - count, sectors - 1)
+}
+
+// Whether sector x is among the protected ones: it lies between their two ends.
+pub fn protects(range: Protected, x: usize) -> bool
+    ensures { λ r. ⌜ r ≡ protects range x ⌝ }
+{
+    match range {
+        Protected::NoSector => false,
+        Protected::Sectors(first, last) => ((first as usize) <= x) & (x <= (last as usize)),
+    }
+}
+
+// Whether there is any protected sector.
+pub fn protects_any(range: Protected) -> bool
+    ensures { λ r. ⌜ r ≡ protectsAny range ⌝ }
+{
+    match range {
+        Protected::NoSector => false,
+        Protected::Sectors(_, _) => true,
+    }
 }

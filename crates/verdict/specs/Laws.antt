@@ -1,5 +1,5 @@
--- What is true of verdicts: what 1 and 2 say of the frame and the state, and that the others change no job and no status bit.
-use Prim.Native.Nat.{ℕ}
+-- What is true of verdicts: what 1, 2 and 9 say of the frame and the state, what is said of them, and that the others change no job and no status bit.
+use Prim.Native.Nat.{ℕ, _-_, _/_}
 use mathlib.Core.Bool.{Bool, true, false, cond, not, _&&_, _||_, false≢true}
 use mathlib.Core.List.{List}
 use mathlib.Core.Path.{_≡_, refl, sym, ap, subst, _∙_}
@@ -8,18 +8,25 @@ use native.Mathlib.Decide.{ℕ-discrete}
 use lib.Dec.{eqb}
 use borrow.Author.Tests.{eq-eqb, ne-eqb, eqb-true}
 use Rattle.cells.specs.Choice.{cond-yes, cond-no, cond-either, and-left, and-right, and-both, not-so}
+use Rattle.part.specs.Part.{sector}
+use Rattle.part.specs.declared.Protected.{Protected}
+use Rattle.part.specs.declared.Protected.the-variants.{NoSector}
+use Rattle.part.specs.Protection.{protectedCount, protectedSectors, protects, protectsAny, protectedSector}
+use Rattle.part.specs.Laws.{no-ends, two-ends}
 use Rattle.commands.specs.Table.{rowOf, fitsRule, isRead, isProgram, writeEnable, writeDisable, suspend, resume, wake, deepPowerDown, reset}
 use Rattle.chip.specs.declared.Core.{Core}
 use Rattle.chip.specs.declared.Frame.{Frame}
 use Rattle.chip.specs.declared.Job.{Job}
 use Rattle.chip.specs.declared.JobKind.{JobKind}
+use Rattle.chip.specs.declared.JobKind.the-variants.{Idle, WriteStatus, Program, SmallErase, SectorErase, ChipErase}
+use Rattle.chip.specs.declared.Record.the-variants.{Verdict, InTheWay}
 use Rattle.chip.specs.Fields.{withWen, withSuspended, withDeep}
 use Rattle.chip.specs.Job.{isJob, hasCells}
 use Rattle.chip.specs.Chip.{bitsOf, blankLoad}
 use Rattle.legal.specs.Legal.{judgementKnown}
 use Rattle.frame.specs.Frame.{judge}
 use Rattle.frame.specs.Legality.{judge-known}
-use Rattle.verdict.specs.Verdict.{jobOf, jobAsked, targetProtected, pointless, jobVerdict, commandVerdict, listed, verdict}
+use Rattle.verdict.specs.Verdict.{jobOf, jobAsked, targetProtected, pointless, jobVerdict, commandVerdict, listed, verdict, inTheWay, recordOf}
 use Rattle.verdict.specs.Effect.{resets, instantly, acted, settled, heldAfter}
 
 -- what verdict 2 says: the frame begins a job, WEN is 1 and the target is free
@@ -95,6 +102,53 @@ module _ (S : ℕ) (k : Core) (f : Frame) (loose : Bool) (known : judgementKnown
       go z false true false true false true pe je e = absurd (omega arith)
       go z false true false true false false pe je e = absurd (omega arith)
       go z true j a w t q pe je e = absurd (omega arith)
+
+  -- verdict 9 finds the target protected
+  verdict-nine : verdict S k f loose ≡ 9 → targetProtected S k kind start ≡ true
+  unfolding commandVerdict jobVerdict
+  verdict-nine h =
+      let c = listed-command 9 false≢true (λ e. omega arith) h in
+      go (pointless k (f .opcode)) (isJob kind) (hasCells kind && k .suspended && not (k .wen)) (k .wen) (not (hasCells kind) && k .srwp && not (k .wp)) (targetProtected S k kind start) refl (c .1)
+    where
+      go : (p j a w t q : Bool) → targetProtected S k kind start ≡ q
+          → _≡_ {A = ℕ} (cond p 11 (cond j (cond a 12 (cond (not w) 8 (cond t 10 (cond q 9 2)))) 1)) 9
+          → targetProtected S k kind start ≡ true
+      go false true false true false true qe e = qe
+      go false true false true false false qe e = absurd (omega arith)
+      go false true false true true q qe e = absurd (omega arith)
+      go false true false false t q qe e = absurd (omega arith)
+      go false true true w t q qe e = absurd (omega arith)
+      go false false a w t q qe e = absurd (omega arith)
+      go true j a w t q qe e = absurd (omega arith)
+
+  -- so there are protected sectors to tell of
+  pub nine-finds : verdict S k f loose ≡ 9 → protectedCount (k .level) S ≡ 0 → ⊥
+  nine-finds h none = false≢true (sym (free kind) ∙ verdict-nine h)
+    where
+      nothing : protectedSectors (k .level) (k .tb) S ≡ NoSector
+      nothing = no-ends (k .level) (k .tb) S none
+
+      at : (x : ℕ) → protectedSector (k .level) (k .tb) S x ≡ false
+      at x = ap (λ (range : Protected). protects range x) nothing
+
+      free : (kind : JobKind) → targetProtected S k kind start ≡ false
+      free Idle = refl
+      free (WriteStatus value) = refl
+      free Program = at (start / sector)
+      free SmallErase = at (start / sector)
+      free SectorErase = at (start / sector)
+      free ChipErase = ap protectsAny nothing
+
+-- the record of a verdict other than 9 is its number
+pub record-plain : (S : ℕ) (k : Core) (v : ℕ) → (v ≡ 9 → ⊥) → recordOf S k v ≡ Verdict v
+unfolding recordOf
+record-plain S k v other = cond-no (eqb v 9) _ _ (ne-eqb _ _ other)
+
+-- and that of 9 the two ends of what is protected, where something is
+pub record-nine : (S : ℕ) (k : Core) → (protectedCount (k .level) S ≡ 0 → ⊥)
+    → recordOf S k 9 ≡ InTheWay (cond (k .tb) 0 (S - protectedCount (k .level) S)) (cond (k .tb) (protectedCount (k .level) S - 1) (S - 1))
+unfolding recordOf
+record-nine S k some = ap inTheWay (two-ends (k .level) (k .tb) S some)
 
 -- the verdict on a command with something to act on, by the job that it asks for
 pub command-as : (S : ℕ) (k : Core) (f : Frame) (j : Job) → pointless k (f .opcode) ≡ false → j ≡ jobAsked S f → commandVerdict S k f ≡ cond (isJob (j .kind)) (jobVerdict S k j) 1

@@ -4,12 +4,16 @@ use mathlib.Core.Bool.{Bool, false, cond, not, _&&_, _||_}
 use lib.Dec.{eqb}
 use Rattle.part.specs.Part.{page, smallSector, sector, reduced, roundedDown}
 use Rattle.commands.specs.Table.{rowOf, fitsRule, isRead, isProgram, writeStatus, smallSectorErase, smallSectorErase′, sectorErase, chipErase, chipErase′, suspend, resume, reset}
-use Rattle.part.specs.Protection.{protectedSector}
+use Rattle.part.specs.declared.Protected.{Protected}
+use Rattle.part.specs.declared.Protected.the-variants.{NoSector, Sectors}
+use Rattle.part.specs.Protection.{protectedSectors, protectedSector, anyProtected}
 use Rattle.chip.specs.declared.Core.{Core}
 use Rattle.chip.specs.declared.Frame.{Frame}
 use Rattle.chip.specs.declared.Job.{Job}
 use Rattle.chip.specs.declared.JobKind.{JobKind}
 use Rattle.chip.specs.declared.JobKind.the-variants.{Idle, WriteStatus, Program, SmallErase, SectorErase, ChipErase}
+use Rattle.chip.specs.declared.Record.{Record}
+use Rattle.chip.specs.declared.Record.the-variants.{Verdict, InTheWay}
 use Rattle.chip.specs.Job.{isJob, hasCells}
 use Rattle.chip.specs.Chip.{running}
 use Rattle.frame.specs.Frame.{judge}
@@ -42,14 +46,14 @@ jobAsked S f = record { kind = jobOf (f .opcode) (f .address); start = startOf S
 abbrev pub startProtected : ℕ → Core → ℕ → Bool
 startProtected S k start = protectedSector (k .level) (k .tb) S (start / sector)
 
--- whether protection keeps a job off: a job in one sector by that sector, a chip erase by any level at all (RULES, Protection)
+-- whether protection keeps a job off: a job in one sector by that sector, a chip erase by any sector at all (RULES, Protection)
 abbrev pub targetProtected : ℕ → Core → JobKind → ℕ → Bool
 targetProtected S k Idle start = false
 targetProtected S k (WriteStatus value) start = false
 targetProtected S k Program start = startProtected S k start
 targetProtected S k SmallErase start = startProtected S k start
 targetProtected S k SectorErase start = startProtected S k start
-targetProtected S k ChipErase start = not (eqb (k .level) 0)
+targetProtected S k ChipErase start = anyProtected (k .level) (k .tb) S
 
 -- ---- the list
 
@@ -83,3 +87,14 @@ listed S k f loose =
 -- the verdict of a selected frame: 0 without a whole byte; its judgement, if it has one; otherwise the list
 unfoldable pub verdict : ℕ → Core → Frame → Bool → ℕ
 verdict S k f loose = cond (eqb (f .count) 0) 0 (cond (not (eqb (f .judgement) 0)) (f .judgement) (listed S k f loose))
+
+-- ---- what is said of it
+
+-- the protected sectors, as verdict 9 says them; on a legal state that verdict finds some (`nine-finds`)
+abbrev pub inTheWay : Protected → Record
+inTheWay NoSector = Verdict 9
+inTheWay (Sectors first last) = InTheWay first last
+
+-- the record of a verdict: its number, and for 9 the two ends of all that is protected, whatever the target was (RULES, Records)
+unfoldable pub recordOf : ℕ → Core → ℕ → Record
+recordOf S k v = cond (eqb v 9) (inTheWay (protectedSectors (k .level) (k .tb) S)) (Verdict v)

@@ -2,16 +2,19 @@
 ghost use mathlib.Core.Path.{_≡_};
 ghost use Prim.Native.Nat.{_%_, _<_};
 ghost use Rattle.part.specs.Part.{roundedDown, reduced};
+ghost use Rattle.part.specs.Protection.{protectedSectors};
 ghost use Rattle.chip.specs.declared.JobKind.{JobKind};
 ghost use Rattle.chip.specs.Fields.{withWen, withSuspended, withDeep};
-ghost use Rattle.verdict.specs.Verdict.{jobOf, startOf, jobAsked, startProtected, targetProtected, pointless, jobVerdict, commandVerdict, listed, verdict};
+ghost use Rattle.verdict.specs.Verdict.{jobOf, startOf, jobAsked, startProtected, targetProtected, pointless, jobVerdict, commandVerdict, listed, verdict, inTheWay, recordOf};
 ghost use Rattle.verdict.specs.Effect.{begins, resets, instantly, acted, settled, heldAfter};
 use chip::Core;
 use chip::Frame;
 use chip::Job;
 use chip::JobKind;
+use chip::Record;
 use commands::Command;
 use part::Part;
+use part::Protected;
 
 // The job that an opcode begins, Idle for none.
 fn job_of(opcode: u8, address: u32) -> JobKind
@@ -66,16 +69,18 @@ fn job_asked(sectors: u8, f: Frame) -> Job
     }
 }
 
+// The protected sectors.
+fn protected_sectors(sectors: u8, core: Core) -> Protected
+    ensures { λ r. ⌜ r ≡ protectedSectors (core .level) (core .tb) sectors ⌝ }
+{
+    part::protected_sectors(core.level, core.tb, sectors)
+}
+
 // Whether the sector of a start is protected.
 fn start_protected(sectors: u8, core: Core, start: u32) -> bool
     ensures { λ r. ⌜ r ≡ startProtected sectors core start ⌝ }
 {
-    part::protected_sector(
-        core.level,
-        core.tb,
-        sectors,
-        (start as usize) / Part::SECTOR,
-    )
+    part::protects(protected_sectors(sectors, core), (start as usize) / Part::SECTOR)
 }
 
 // Whether a job's target is protected.
@@ -88,7 +93,7 @@ fn target_protected(sectors: u8, core: Core, kind: JobKind, start: u32) -> bool
         JobKind::Program => start_protected(sectors, core, start),
         JobKind::SmallErase => start_protected(sectors, core, start),
         JobKind::SectorErase => start_protected(sectors, core, start),
-        JobKind::ChipErase => !(core.level == 0),
+        JobKind::ChipErase => part::protects_any(protected_sectors(sectors, core)),
     }
 }
 
@@ -170,6 +175,26 @@ pub fn verdict(sectors: u8, core: Core, f: Frame, loose: bool) -> u8
         return f.judgement;
     }
     list(sectors, core, f, loose)
+}
+
+// The record of verdict 9: the protected sectors.
+fn in_the_way(range: Protected) -> Record
+    ensures { λ r. ⌜ r ≡ inTheWay range ⌝ }
+{
+    match range {
+        Protected::NoSector => Record::Verdict(9),
+        Protected::Sectors(first, last) => Record::InTheWay(first, last),
+    }
+}
+
+// The record of a verdict.
+pub fn record_of(sectors: u8, core: Core, v: u8) -> Record
+    ensures { λ r. ⌜ r ≡ recordOf sectors core v ⌝ }
+{
+    if v == 9 {
+        return in_the_way(protected_sectors(sectors, core));
+    }
+    Record::Verdict(v)
 }
 
 // The core with the frame's job begun.

@@ -30,15 +30,18 @@ settle-requires c κs = search needs
 empty-frame-requires : tie.Need-empty-frame-requires
 empty-frame-requires c κs = search needs
 
+record-of-requires : tie.Need-record-of-requires
+record-of-requires c κs = search needs
+
 stays-requires-2 : tie.Need-stays-requires-2
 stays-requires-2 c κs = search needs
 
 returns-2 : tie.Need-returns-2
 returns-2 c =
     λ area m.
-    let h : c .before .before .before .before .before .before .before .before .before .before .args .frame .selected ≡ true = not-false (c .before .before .before .before .before .before .before .before .before .before .args .frame .selected) (c .before .before .before .before .before .before .before .before .if1 .left) in
-    rw (c .stays2 .ensures, c .before .empty-frame .ensures, c .before .before .settle .ensures, c .before .before .before .before .hand-over .ensures, c .before .before .before .before .before .before .before .verdict .ensures)
-    (sym (deselect-selected (setting (c .before .before .before .before .before .before .before .before .before .before .args .sectors) area) (whole (c .before .before .before .before .before .before .before .before .before .before .args .core) (c .before .before .before .before .before .before .before .before .before .before .args .frame) (c .before .before .before .before .before .before .before .before .before .before .args .load .now) (c .before .before .before .before .before .before .before .before .before .before .args .held .now)) m (c .before .before .before .before .before .before .before .before .before .before .args .loose) h))
+    let h : c .before .before .before .before .before .before .before .before .before .before .before .args .frame .selected ≡ true = not-false (c .before .before .before .before .before .before .before .before .before .before .before .args .frame .selected) (c .before .before .before .before .before .before .before .before .before .if1 .left) in
+    rw (c .stays2 .ensures, c .before .record-of .ensures, c .before .before .empty-frame .ensures, c .before .before .before .settle .ensures, c .before .before .before .before .before .hand-over .ensures, c .before .before .before .before .before .before .before .before .verdict .ensures)
+    (sym (deselect-selected (setting (c .before .before .before .before .before .before .before .before .before .before .before .args .sectors) area) (whole (c .before .before .before .before .before .before .before .before .before .before .before .args .core) (c .before .before .before .before .before .before .before .before .before .before .before .args .frame) (c .before .before .before .before .before .before .before .before .before .before .before .args .load .now) (c .before .before .before .before .before .before .before .before .before .before .before .args .held .now)) m (c .before .before .before .before .before .before .before .before .before .before .before .args .loose) h))
 
 pub deselect-spec : {M : Type 1} → statement M
 deselect-spec =
@@ -50,5 +53,6 @@ deselect-spec =
     hand-over-requires
     settle-requires
     empty-frame-requires
+    record-of-requires
     stays-requires-2
     returns-2)

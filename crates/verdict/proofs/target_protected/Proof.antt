@@ -1,4 +1,4 @@
--- `verdict::target_protected` meets its contract. By the kind: cells by the sector of their start, a chip erase by the level.
+-- `verdict::target_protected` meets its contract. By the kind: cells by the sector of their start, a chip erase by whether any sector is protected.
 use borrow.Author.Needs.{needs}
 use Rattle.verdict.proofs.target_protected.Statement.{statement}
 use Rattle.verdict.proofs.target_protected.Tie as tie
@@ -30,11 +30,17 @@ start-protected-requires-3 c κs = search needs
 enum-told-6 : tie.Need-enum-told-6
 enum-told-6 c = search needs
 
+protected-sectors-requires : tie.Need-protected-sectors-requires
+protected-sectors-requires c κs = search needs
+
+protects-any-requires : tie.Need-protects-any-requires
+protects-any-requires c κs = search needs
+
 returns : tie.Need-returns
-returns c = search needs
+returns c = rw (c .enum-told .given .1)
 
 returns-2 : tie.Need-returns-2
-returns-2 c = search needs
+returns-2 c = rw (c .enum-told2 .given .1)
 
 returns-3 : tie.Need-returns-3
 returns-3 c = rw (c .before .enum-told3 .given .1, c .start-protected .ensures)
@@ -46,7 +52,7 @@ returns-5 : tie.Need-returns-5
 returns-5 c = rw (c .before .enum-told5 .given .1, c .start-protected3 .ensures)
 
 returns-6 : tie.Need-returns-6
-returns-6 c = rw (c .before .enum-told6 .given .1)
+returns-6 c = rw (c .before .before .enum-told6 .given .1, c .protects-any .ensures, c .before .protected-sectors .ensures)
 
 pub target-protected-spec : {M : Type 1} → statement M
 target-protected-spec =
@@ -61,6 +67,8 @@ target-protected-spec =
     enum-told-5
     start-protected-requires-3
     enum-told-6
+    protected-sectors-requires
+    protects-any-requires
     returns
     returns-2
     returns-3
