@@ -151,13 +151,15 @@ pub struct Chip {
     pub frame: Frame,
 }
 
-/// What one event yields.
+/// What one event yields. Verdict 9 is never a plain verdict: its record says which sectors were
+/// in the way, the first and the last of all the protected ones.
 #[derive(Clone, Copy, Debug, PartialEq, Eq)]
 pub enum Record {
     None,
     Floating,
     Driven(u8),
     Verdict(u8),
+    Protected { first: u8, last: u8 },
 }
 
 /// The answer to one event applied alone.
@@ -398,20 +400,31 @@ impl Chip {
         Some(job)
     }
 
-    /// Whether the protect level forbids a job.
-    fn protects(&self, job: &Job, memory_length: usize) -> bool {
-        let sectors = memory_length / Chip::SECTOR;
-        let protected = match self.level {
-            0 => 0,
+    /// The first and last protected sector by level, TB and memory length, if any is protected.
+    fn protected_sectors(&self, memory_length: usize) -> Option<(u8, u8)> {
+        let sectors = (memory_length / Chip::SECTOR) as u8;
+        let count = match self.level {
+            0 => return None,
             level @ 1..=5 => sectors.min(1 << (level - 1)),
             _ => sectors,
         };
-        let sector = job.place as usize / Chip::SECTOR;
+        if self.tb {
+            Some((0, count - 1))
+        } else {
+            Some((sectors - count, sectors - 1))
+        }
+    }
+
+    /// Whether a job's target is protected; any protected sector is in a chip erase's way.
+    fn protects(&self, job: &Job, memory_length: usize) -> bool {
+        let Some((first, last)) = self.protected_sectors(memory_length) else {
+            return false;
+        };
+        let sector = (job.place as usize / Chip::SECTOR) as u8;
         match job.kind {
             JobKind::WriteStatus(_) => false,
-            JobKind::ChipErase => self.level != 0,
-            _ if self.tb => sector < protected,
-            _ => sector >= sectors - protected,
+            JobKind::ChipErase => true,
+            _ => (first..=last).contains(&sector),
         }
     }
 
@@ -519,12 +532,21 @@ fn judge_at_once(chip: &Chip) -> u8 {
     if acceptable { 1 } else { 11 }
 }
 
-/// Ends the frame of a chip and gives its verdict.
+/// The record of a verdict on the state that was judged, whose protected sectors verdict 9 names.
+fn verdict_record(chip: &Chip, memory_length: usize, verdict: u8) -> Record {
+    match (verdict, chip.protected_sectors(memory_length)) {
+        (9, Some((first, last))) => Record::Protected { first, last },
+        _ => Record::Verdict(verdict),
+    }
+}
+
+/// Ends the frame of a chip and gives the record of its verdict.
 fn deselect(chip: &mut Chip, memory_length: usize, loose: bool) -> Record {
     if !chip.selected {
         return Record::Verdict(0);
     }
     let verdict = verdict(chip, memory_length, loose);
+    let record = verdict_record(chip, memory_length, verdict);
     match verdict {
         1 => do_at_once(chip),
         2 => {
@@ -537,7 +559,7 @@ fn deselect(chip: &mut Chip, memory_length: usize, loose: bool) -> Record {
         chip.armed = verdict == 1 && chip.frame.opcode == opcode::RESET_ENABLE;
     }
     chip.end_frame();
-    Record::Verdict(verdict)
+    record
 }
 
 /// Does what a frame with verdict 1 asks for, arming aside.
@@ -713,15 +735,24 @@ fn body_value(body: &[u8]) -> u64 {
     }
 }
 
-/// The number of records a script yields, or the refusal and offset of its first bad event.
+/// The output room that an event of a kind is given, whatever its record turns out to be.
+fn output_room(kind: u8) -> usize {
+    match kind {
+        kind::EXCHANGE => 2,
+        kind::DESELECT | kind::LOOSE_DESELECT => 3,
+        _ => 0,
+    }
+}
+
+/// The output room that a script needs, or the refusal and offset of its first bad event.
 fn check_script(script: &[u8]) -> Result<usize, (u8, usize)> {
-    let mut records = 0;
+    let mut room = 0;
     let mut offset = 0;
     while offset < script.len() {
         let kind = script[offset];
         // Most events are exchanges, and any byte is in their range.
         if kind == kind::EXCHANGE && offset + 1 < script.len() {
-            records += 1;
+            room += output_room(kind);
             offset += 2;
             continue;
         }
@@ -731,12 +762,10 @@ fn check_script(script: &[u8]) -> Result<usize, (u8, usize)> {
         if !body_in_range(kind, body_value(body)) {
             return Err((6, offset));
         }
-        if matches!(kind, kind::EXCHANGE | kind::DESELECT | kind::LOOSE_DESELECT) {
-            records += 1;
-        }
+        room += output_room(kind);
         offset = end;
     }
-    Ok(records)
+    Ok(room)
 }
 
 /// Every check of a run in order, giving the refusal and offset of the first that fails.
@@ -754,8 +783,8 @@ fn check_run(
     if script.len() > LONGEST_SCRIPT {
         return Err((3, 0));
     }
-    let records = check_script(script)?;
-    if output_length < 2 * records {
+    let room = check_script(script)?;
+    if output_length < room {
         return Err((7, 0));
     }
     Ok(())
@@ -763,17 +792,19 @@ fn check_run(
 
 /// Writes a record at the start of the output and gives its length in bytes.
 fn write_record(output: &mut [u8], record: Record) -> usize {
-    let (mark, value) = match record {
-        Record::None => return 0,
-        Record::Floating => {
-            output[0] = 0x80;
-            return 1;
-        }
-        Record::Driven(byte) => (0x81, byte),
-        Record::Verdict(verdict) => (0x82, verdict),
-    };
-    output[..2].copy_from_slice(&[mark, value]);
-    2
+    match record {
+        Record::None => 0,
+        Record::Floating => write_bytes(output, [0x80]),
+        Record::Driven(byte) => write_bytes(output, [0x81, byte]),
+        Record::Verdict(verdict) => write_bytes(output, [0x82, verdict]),
+        Record::Protected { first, last } => write_bytes(output, [0x83, first, last]),
+    }
+}
+
+/// Writes bytes at the start of the output and gives their number.
+fn write_bytes<const LENGTH: usize>(output: &mut [u8], bytes: [u8; LENGTH]) -> usize {
+    output[..LENGTH].copy_from_slice(&bytes);
+    LENGTH
 }
 
 /// Runs a whole script, or refuses it and changes nothing.

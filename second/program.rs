@@ -8,6 +8,8 @@ use std::io::{self, Read, Write};
 
 /// The longest script the program reads.
 const LONGEST_SCRIPT: usize = 4_096;
+/// The most output room that one byte of a script can need: a deselect is one byte long.
+const ROOM_PER_BYTE: usize = 3;
 /// The program's SFDP area, which is empty.
 const AREA: [u8; 0] = [];
 
@@ -18,7 +20,7 @@ pub fn report(script: &[u8]) -> String {
     }
     let mut chip = Chip::fresh(0x00);
     let mut memory = vec![0xFF; Chip::SECTOR];
-    let mut output = vec![0; 2 * script.len()];
+    let mut output = vec![0; ROOM_PER_BYTE * script.len()];
     let mut text = format!("part {}\n", memory.len());
     let answer = model::run(&mut chip, &mut memory, &AREA, script, &mut output);
     if answer.refusal != 0 {
@@ -31,7 +33,7 @@ pub fn report(script: &[u8]) -> String {
 }
 
 /// One line a record, each with the offset of its event in a script that has run.
-fn record_lines(script: &[u8], output: &[u8]) -> String {
+pub fn record_lines(script: &[u8], output: &[u8]) -> String {
     let mut text = String::new();
     let mut records = output.iter();
     let mut offset = 0;
@@ -50,6 +52,10 @@ fn record_word(records: &mut std::slice::Iter<u8>) -> String {
     match records.next() {
         Some(0x81) => records.next().map(|byte| format!("{byte:02X}")),
         Some(0x82) => records.next().map(|verdict| format!("V{verdict}")),
+        Some(0x83) => {
+            let ends = records.next().zip(records.next());
+            ends.map(|(first, last)| format!("V9 {first} {last}"))
+        }
         _ => Some("--".to_string()),
     }
     .unwrap_or_default()

@@ -13,6 +13,8 @@ mod sfdp;
 use model::{event, run, Chip, Frame, Job, JobKind, Record, RunAnswer};
 use sfdp::{find, table, Found, CONTENT};
 
+/// The numbers of sectors that a part may have.
+const SECTORS: [usize; 6] = [1, 2, 4, 8, 16, 32];
 /// The length of the real part's memory.
 const REAL: usize = 32 * Chip::SECTOR;
 
@@ -53,24 +55,30 @@ impl Bench {
 
     /// Deselects on a byte boundary and gives the verdict.
     fn end(&mut self) -> u8 {
-        match self.apply(3, 0) {
-            (Record::Verdict(verdict), 0) => verdict,
-            other => panic!("{other:?}"),
-        }
+        verdict_of(self.deselect(3, 0))
     }
 
     /// Deselects loosely and gives the verdict.
     fn end_loose(&mut self) -> u8 {
-        match self.apply(8, 3) {
-            (Record::Verdict(verdict), 0) => verdict,
-            other => panic!("{other:?}"),
-        }
+        verdict_of(self.deselect(8, 3))
+    }
+
+    /// Applies a deselect of either kind and gives its record.
+    fn deselect(&mut self, kind: u64, body: u64) -> Record {
+        let (record, ticks) = self.apply(kind, body);
+        assert_eq!(ticks, 0);
+        record
     }
 
     /// Sends a whole frame and gives its verdict.
     fn frame(&mut self, bytes: &[u8]) -> u8 {
+        verdict_of(self.frame_record(bytes))
+    }
+
+    /// Sends a whole frame and gives the record of its verdict.
+    fn frame_record(&mut self, bytes: &[u8]) -> Record {
         self.send(bytes);
-        self.end()
+        self.deselect(3, 0)
     }
 
     /// Lets ticks pass and gives the number of working ticks.
@@ -103,6 +111,15 @@ impl Bench {
         assert_eq!(records[..5], [Record::Floating; 5]);
         assert_eq!(self.end(), 0);
         driven(&records[5..])
+    }
+}
+
+/// The verdict of a deselect's record, verdict 9 being the one that has a case of its own.
+fn verdict_of(record: Record) -> u8 {
+    match record {
+        Record::Protected { .. } => 9,
+        Record::Verdict(verdict) if verdict != 9 => verdict,
+        other => panic!("{other:?}"),
     }
 }
 
@@ -205,8 +222,9 @@ fn p5_program_only_clears_bits() {
 fn p6_level_1_at_the_top() {
     let mut bench = Bench::new(32, 0x04);
     bench.frame(&[0x06]);
-    assert_eq!(bench.frame(&addressed(0x20, 0x1F_0000, &[])), 9);
-    assert_eq!(bench.frame(&addressed(0x20, 0x1E_FFFF, &[])), 2);
+    let last_sector = Record::Protected { first: 31, last: 31 };
+    assert_eq!(bench.frame_record(&addressed(0x20, 0x1F_0000, &[])), last_sector);
+    assert_eq!(bench.frame_record(&addressed(0x20, 0x1E_FFFF, &[])), Record::Verdict(2));
 }
 
 #[test]
@@ -215,7 +233,8 @@ fn p7_level_5_on_one_sector() {
         let mut bench = Bench::new(1, status);
         bench.frame(&[0x06]);
         for address in [0, 0x8000, 0xFFFF] {
-            assert_eq!(bench.frame(&addressed(0x02, address, &[0])), 9);
+            let record = bench.frame_record(&addressed(0x02, address, &[0]));
+            assert_eq!(record, Record::Protected { first: 0, last: 0 });
         }
     }
 }
@@ -287,6 +306,40 @@ fn program_texts() {
     assert!(program::report(&erase).ends_with("7 V2\nanswer 0 ticks 256\n"));
 }
 
+#[test]
+fn program_names_the_sectors_in_the_way() {
+    for level in 1..=7 {
+        for bottom in [0x00, 0x20] {
+            let protect = [1, 2, 6, 3, 1, 2, 1, 2, bottom | level << 2, 3, 4];
+            let erase = [1, 2, 6, 3, 1, 2, 0x60, 3, 1, 2, 0xD8, 2, 1, 2, 2, 2, 3, 3];
+            let text = "part 65536\n1 --\n3 V1\n5 --\n7 --\n9 V2\n12 --\n14 V1\n16 --\n18 V9 0 0\n\
+                20 --\n22 --\n24 --\n26 --\n28 V9 0 0\nanswer 0 ticks 1\n";
+            assert_eq!(program::report(&[&protect[..], &erase[..]].concat()), text);
+        }
+    }
+}
+
+#[test]
+fn program_lines_of_verdict_9_are_decimal() {
+    let script = [6, 1, 3, 1, 2, 0, 8, 7, 2, 0, 3];
+    let output = [0x83, 31, 31, 0x80, 0x83, 16, 31, 0x81, 31, 0x82, 11];
+    let text = "2 V9 31 31\n4 --\n6 V9 16 31\n8 1F\n10 V11\n";
+    assert_eq!(program::record_lines(&script, &output), text);
+}
+
+#[test]
+fn program_has_room_for_every_script() {
+    for event in [&[3][..], &[8, 1], &[2, 0]] {
+        let script = event.repeat(4_096 / event.len());
+        let text = program::report(&script);
+        assert!(text.ends_with("\nanswer 0 ticks 0\n"), "{event:?}");
+        assert_eq!(text.lines().count(), 4_096 / event.len() + 2);
+    }
+    let protect = [1, 2, 6, 3, 1, 2, 1, 2, 4, 3, 4, 1, 2, 6, 3];
+    let script = [&protect[..], &[1, 2, 0x60, 3].repeat(1_020)].concat();
+    assert!(program::report(&script).ends_with("\n4094 V9 0 0\nanswer 0 ticks 1\n"));
+}
+
 /// Runs a script that must be refused and checks that nothing has changed.
 fn refused(bench: &mut Bench, script: &[u8], output_length: usize) -> (u8, usize) {
     let before = bench.clone();
@@ -309,8 +362,8 @@ fn run_refusals() {
     assert_eq!(refused(&mut bench, &[6, 2], 9), (6, 0));
     assert_eq!(refused(&mut bench, &[8, 0], 9), (6, 0));
     assert_eq!(refused(&mut bench, &[8, 8], 9), (6, 0));
-    assert_eq!(refused(&mut bench, &[1, 2, 6, 3], 3), (7, 0));
-    assert_eq!(refused(&mut bench, &[8, 1], 1), (7, 0));
+    assert_eq!(refused(&mut bench, &[1, 2, 6, 3], 4), (7, 0));
+    assert_eq!(refused(&mut bench, &[8, 1], 2), (7, 0));
     assert_eq!(refused(&mut bench, &[3, 9], 0), (5, 1));
     assert_eq!(refused(&mut bench, &[9; 65_537], 0), (3, 0));
     bench.chip.level = 8;
@@ -323,7 +376,7 @@ fn run_refusals() {
 fn memory_lengths() {
     for sectors in 0..=64 {
         let mut bench = Bench::new(sectors, 0);
-        let known = [1, 2, 4, 8, 16, 32].contains(&sectors);
+        let known = SECTORS.contains(&sectors);
         let answer = event(&mut bench.chip, &mut bench.memory, &bench.area, 1, 0);
         assert_eq!(answer.refusal, if known { 0 } else { 1 });
         let answer = run(&mut bench.chip, &mut bench.memory, &bench.area, &[], &mut []);
@@ -502,27 +555,214 @@ fn verdict_8_without_wen() {
     }
 }
 
-#[test]
-fn verdict_9_by_level() {
-    for sectors in [1, 2, 4, 8, 16, 32] {
-        for bits in 0..16u8 {
-            let level = bits & 7;
-            let bottom = bits & 8 != 0;
-            let count = if level == 0 { 0 } else { sectors.min(1 << (level - 1)) };
-            let count = if level >= 6 { sectors } else { count };
-            for sector in 0..sectors {
-                let mut bench = Bench::new(1, bits << 2);
-                bench.memory.resize(sectors * Chip::SECTOR, 0xFF);
-                bench.frame(&[0x06]);
-                let protected = if bottom { sector < count } else { sector + count >= sectors };
-                let verdict = bench.frame(&addressed(0xD8, (sector * Chip::SECTOR) as u32, &[]));
-                assert_eq!(verdict == 9, protected);
-            }
+/// The sectors that the paper protects, counted from the end that TB names.
+fn protected_walk(sectors: usize, level: usize, tb: bool) -> Vec<usize> {
+    let count = sectors.min([0, 1, 2, 4, 8, 16, 32, 32][level]);
+    let from_the_end = |sector: usize| if tb { sector } else { sectors - 1 - sector };
+    (0..sectors).filter(|sector| from_the_end(*sector) < count).collect()
+}
+
+/// The record of a good frame: a job begun, or the ends of the walk where it is in the way.
+fn expected_record(walk: &[usize], in_the_way: bool) -> Record {
+    if !in_the_way {
+        return Record::Verdict(2);
+    }
+    Record::Protected { first: walk[0] as u8, last: walk[walk.len() - 1] as u8 }
+}
+
+/// Every length, level and TB.
+fn protections() -> Vec<(usize, usize, bool)> {
+    let mut cases = Vec::new();
+    for sectors in SECTORS {
+        for level in 0..8 {
+            cases.extend([(sectors, level, false), (sectors, level, true)]);
         }
     }
-    let mut bench = Bench::new(32, 0x04);
+    cases
+}
+
+/// A blank bench of that many sectors, level and TB, write enabled.
+fn protected_bench(sectors: usize, level: usize, tb: bool) -> Bench {
+    let mut bench = Bench::new(sectors, (level << 2) as u8 | u8::from(tb) << 5);
+    assert_eq!(bench.frame(&[0x06]), 1);
+    bench
+}
+
+#[test]
+fn verdict_9_of_every_sector() {
+    for (sectors, level, tb) in protections() {
+        let walk = protected_walk(sectors, level, tb);
+        let mut bench = protected_bench(sectors, level, tb);
+        let enabled = bench.chip.clone();
+        for sector in 0..sectors {
+            let in_the_way = walk.contains(&sector);
+            let expected = expected_record(&walk, in_the_way);
+            for offset in [0, 0x0FFF, 0x8000, 0xFFFF, bench.memory.len()] {
+                let address = (sector * Chip::SECTOR + offset) as u32;
+                for opcode in [0x20, 0xD7, 0xD8, 0x02, 0x0A] {
+                    let data: &[u8] = if matches!(opcode, 0x02 | 0x0A) { &[0; 2] } else { &[] };
+                    let record = bench.frame_record(&addressed(opcode, address, data));
+                    assert_eq!(record, expected, "{sectors} {level} {tb} {opcode:X} {address:X}");
+                    assert_eq!(bench.chip == enabled, in_the_way);
+                    bench.chip = enabled.clone();
+                }
+            }
+        }
+        assert!(bench.memory.iter().all(|cell| *cell == 0xFF));
+    }
+}
+
+#[test]
+fn verdict_9_of_chip_erase() {
+    for (sectors, level, tb) in protections() {
+        let expected = expected_record(&protected_walk(sectors, level, tb), level != 0);
+        let mut bench = protected_bench(sectors, level, tb);
+        let enabled = bench.chip.clone();
+        for opcode in [0x60, 0xC7] {
+            assert_eq!(bench.frame_record(&[opcode]), expected, "{sectors} {level} {tb}");
+            assert_eq!(bench.chip == enabled, level != 0);
+            bench.chip = enabled.clone();
+        }
+    }
+}
+
+#[test]
+fn verdict_9_ends_by_the_datasheet() {
+    let upper = [(0x1F_0000, 1), (0x1E_0000, 2), (0x1C_0000, 3), (0x18_0000, 4), (0x10_0000, 5)];
+    let lower = [(0x00_FFFF, 1), (0x01_FFFF, 2), (0x03_FFFF, 3), (0x07_FFFF, 4), (0x0F_FFFF, 5)];
+    let ends = |level, tb, first_address: u32, last_address: u32| {
+        let first = (first_address / Chip::SECTOR as u32) as u8;
+        let last = (last_address / Chip::SECTOR as u32) as u8;
+        let mut bench = protected_bench(32, level, tb);
+        assert_eq!(bench.frame_record(&[0x60]), Record::Protected { first, last });
+        for address in [first_address, last_address] {
+            let record = bench.frame_record(&addressed(0xD8, address, &[]));
+            assert_eq!(record, Record::Protected { first, last });
+        }
+    };
+    for (first_address, level) in upper {
+        ends(level, false, first_address, 0x1F_FFFF);
+    }
+    for (last_address, level) in lower {
+        ends(level, true, 0, last_address);
+    }
+    for (level, tb) in [(6, false), (6, true), (7, false), (7, true)] {
+        ends(level, tb, 0, 0x1F_FFFF);
+    }
+}
+
+#[test]
+fn verdict_9_ends_are_of_the_whole_range() {
+    let ends = |first, last| Record::Protected { first, last };
+    let mut top = protected_bench(8, 3, false);
+    let mut bottom = protected_bench(8, 3, true);
+    assert_eq!(top.frame_record(&[0x60]), ends(4, 7));
+    assert_eq!(bottom.frame_record(&[0x60]), ends(0, 3));
+    assert_eq!(top.frame_record(&addressed(0x02, 0x05_1234, &[0])), ends(4, 7));
+    assert_eq!(bottom.frame_record(&addressed(0x20, 0x02_0000, &[])), ends(0, 3));
+    assert_eq!(protected_bench(32, 1, false).frame_record(&[0xC7]), ends(31, 31));
+    assert_eq!(protected_bench(32, 1, true).frame_record(&[0xC7]), ends(0, 0));
+    assert_eq!(protected_bench(1, 5, false).frame_record(&[0xC7]), ends(0, 0));
+    assert_eq!(protected_bench(1, 5, true).frame_record(&[0xC7]), ends(0, 0));
+}
+
+#[test]
+fn verdict_9_changes_nothing_but_the_arming() {
+    let mut bench = protected_bench(2, 1, false);
+    bench.memory.fill(0x5A);
+    let before = bench.clone();
+    let protected = Record::Protected { first: 1, last: 1 };
+    let frames = [vec![0x60], addressed(0xD8, 0x1_0000, &[]), addressed(0x02, 0x1_0000, &[0; 9])];
+    for bytes in &frames {
+        bench.frame(&[0x66]);
+        assert!(bench.chip.armed);
+        assert_eq!(bench.frame_record(bytes), protected);
+        assert_eq!(bench.status(), 0x06);
+        assert_eq!(bench.ticks(65_535), 0);
+        assert!(bench.chip == before.chip && bench.memory == before.memory);
+    }
+    assert_eq!(bench.frame(&addressed(0x20, 0, &[])), 2);
+    assert_eq!(bench.ticks(3), 3);
+    bench.frame(&[0xB0]);
+    let before = bench.clone();
+    for bytes in &frames {
+        assert_eq!(bench.frame_record(bytes), protected);
+        assert_eq!(bench.status(), 0x46);
+        assert!(bench.chip == before.chip && bench.memory == before.memory);
+    }
+    bench.frame(&[0x30]);
+    assert_eq!(bench.ticks(65_535), 13);
+}
+
+#[test]
+fn verdict_9_comes_after_the_others() {
+    let mut bench = Bench::new(1, 0x9C);
+    assert_eq!(bench.frame(&[0x60]), 8);
     bench.frame(&[0x06]);
-    assert_eq!(bench.frame(&[0xC7]), 9);
+    assert_eq!(bench.frame(&[0x20, 0, 0]), 4);
+    bench.send(&[0x20, 0, 0, 0]);
+    assert_eq!(bench.end_loose(), 4);
+    bench.apply(6, 0);
+    assert_eq!(bench.frame(&[0x01, 0]), 10);
+    bench.apply(6, 1);
+    assert_eq!(bench.frame_record(&[0x60]), Record::Protected { first: 0, last: 0 });
+    assert_eq!(bench.frame(&[0x01, 0]), 2);
+}
+
+/// Runs a script in exactly the room it needs, one byte less being refused by 7, and gives the
+/// bytes written.
+fn run_in_room(bench: &mut Bench, script: &[u8], room: usize) -> Vec<u8> {
+    if room > 0 {
+        assert_eq!(refused(bench, script, room - 1), (7, 0));
+        assert_eq!(refused(bench, script, 0), (7, 0));
+    }
+    let mut output = vec![0xEE; room];
+    let answer = run(&mut bench.chip, &mut bench.memory, &bench.area, script, &mut output);
+    assert_eq!((answer.refusal, answer.offset), (0, 0));
+    assert!(output[answer.written..].iter().all(|byte| *byte == 0xEE));
+    output.truncate(answer.written);
+    output
+}
+
+#[test]
+fn room_is_2_an_exchange_and_3_a_deselect() {
+    let mut bench = Bench::new(1, 0);
+    assert_eq!(run_in_room(&mut bench, &[], 0), []);
+    assert_eq!(run_in_room(&mut bench, &[4, 5, 0, 1, 6, 1, 1, 7], 0), []);
+    assert_eq!(run_in_room(&mut bench, &[2, 0x60], 2), [0x80]);
+    assert_eq!(run_in_room(&mut bench, &[3], 3), [0x82, 0]);
+    assert_eq!(run_in_room(&mut bench, &[8, 1], 3), [0x82, 0]);
+    assert_eq!(run_in_room(&mut bench, &[3, 8, 7, 3], 9), [0x82, 0, 0x82, 0, 0x82, 0]);
+    assert_eq!(run_in_room(&mut bench, &SAMPLE, 12), [0x80, 0x82, 1, 0x80, 0x81, 2, 0x82, 0]);
+    assert_eq!(run_in_room(&mut bench, &[1, 2, 0x00, 8, 2], 5), [0x80, 0x82, 3]);
+    assert_eq!(run_in_room(&mut bench, &[1, 2, 0xB9, 2, 0, 3], 7), [0x80, 0x80, 0x82, 4]);
+    assert_eq!(run_in_room(&mut bench, &[1, 2, 0x60, 8, 7], 5), [0x80, 0x82, 4]);
+    assert_eq!(run_in_room(&mut bench, &[1, 2, 0x99, 3], 5), [0x80, 0x82, 11]);
+    assert_eq!(run_in_room(&mut bench, &[1, 2, 0x60, 3], 5), [0x80, 0x82, 2]);
+}
+
+#[test]
+fn room_of_protected_frames() {
+    let mut bench = protected_bench(8, 3, false);
+    assert_eq!(run_in_room(&mut bench, &[1, 2, 0x60, 3], 5), [0x80, 0x83, 4, 7]);
+    assert_eq!(run_in_room(&mut bench, &[1, 2, 0x60, 8, 1], 5), [0x80, 0x82, 4]);
+    let erase = [1, 2, 0xD8, 2, 6, 2, 0, 2, 0, 3];
+    assert_eq!(run_in_room(&mut bench, &erase, 11), [0x80, 0x80, 0x80, 0x80, 0x83, 4, 7]);
+    let three = [1, 2, 0xC7, 3, 3, 1, 2, 0x60, 3];
+    let records = [0x80, 0x83, 4, 7, 0x82, 0, 0x80, 0x83, 4, 7];
+    assert_eq!(run_in_room(&mut bench, &three, 13), records);
+}
+
+#[test]
+fn written_is_2_for_verdict_4_and_3_for_verdict_9() {
+    let mut bench = protected_bench(32, 1, false);
+    bench.send(&[0xC7]);
+    assert_eq!(run_in_room(&mut bench.clone(), &[8, 1], 3), [0x82, 4]);
+    assert_eq!(run_in_room(&mut bench.clone(), &[3], 3), [0x83, 31, 31]);
+    let mut output = [0xEE; 8];
+    let answer = run(&mut bench.chip, &mut bench.memory, &bench.area, &[3, 8, 5], &mut output);
+    assert_eq!(answer, RunAnswer { refusal: 0, offset: 0, written: 5, ticks: 0 });
+    assert_eq!(output, [0x83, 31, 31, 0x82, 0, 0xEE, 0xEE, 0xEE]);
 }
 
 #[test]
@@ -687,7 +927,8 @@ fn error_clearing_wen_after_9_or_10() {
     let mut bench = Bench::new(1, 0x98);
     bench.frame(&[0x06]);
     bench.apply(6, 0);
-    assert_eq!(bench.frame(&[0x20, 0, 0, 0]), 9);
+    let record = bench.frame_record(&[0x20, 0, 0, 0]);
+    assert_eq!(record, Record::Protected { first: 0, last: 0 });
     assert_eq!(bench.status(), 0x9A);
     assert_eq!(bench.frame(&[0x01, 0]), 10);
     assert_eq!(bench.status(), 0x9A);
@@ -837,16 +1078,30 @@ fn random_script(dice: &mut Dice) -> Vec<u8> {
     script
 }
 
+/// The room of a good script: 2 an exchange, 3 a deselect, clean or loose.
+fn room_of(script: &[u8]) -> usize {
+    let (mut room, mut offset) = (0, 0);
+    while offset < script.len() {
+        room += [0, 0, 2, 3, 0, 0, 0, 0, 3][usize::from(script[offset])];
+        offset += 1 + model::body_length(script[offset]).unwrap();
+    }
+    room
+}
+
 #[test]
 fn a_run_is_its_events_one_by_one() {
     let mut dice = Dice(1);
+    let mut protected = 0;
     for _ in 0..300 {
         let sectors = 1 << dice.below(3);
         let script = random_script(&mut dice);
-        let mut whole = Bench::new(sectors as usize, dice.below(256) as u8 & 0x84);
+        let kept_bits = [0x84, 0x84, 0xBC][dice.below(3) as usize];
+        let mut whole = Bench::new(sectors as usize, dice.below(256) as u8 & kept_bits);
         whole.area = CONTENT[..dice.below(209) as usize].to_vec();
         let mut single = whole.clone();
-        let mut output = vec![0; 2 * script.len()];
+        let room = room_of(&script);
+        assert_eq!(refused(&mut whole, &script, room - 1), (7, 0));
+        let mut output = vec![0; room];
         let answer = run(&mut whole.chip, &mut whole.memory, &whole.area, &script, &mut output);
         assert_eq!(answer.refusal, 0);
         let (mut records, mut ticks, mut offset) = (Vec::new(), 0, 0);
@@ -861,6 +1116,10 @@ fn a_run_is_its_events_one_by_one() {
                 Record::Floating => records.push(0x80),
                 Record::Driven(byte) => records.extend([0x81, byte]),
                 Record::Verdict(verdict) => records.extend([0x82, verdict]),
+                Record::Protected { first, last } => {
+                    records.extend([0x83, first, last]);
+                    protected += 1;
+                }
             }
             offset += 1 + length;
         }
@@ -868,6 +1127,7 @@ fn a_run_is_its_events_one_by_one() {
         assert_eq!(ticks, answer.ticks);
         assert!(whole.chip == single.chip && whole.memory == single.memory);
     }
+    assert!(protected > 20, "{protected}");
 }
 
 /// A random legal state, most of them out of reach from a fresh one.
@@ -957,7 +1217,7 @@ fn sfdp_dummy_floats_and_data_from_byte_6() {
 
 #[test]
 fn sfdp_place_not_reduced_by_the_memory() {
-    for sectors in [1, 2, 4, 8, 16, 32] {
+    for sectors in SECTORS {
         let length = (sectors * Chip::SECTOR) as u32;
         let mut bench = Bench::with_area(sectors, &sloped(16));
         bench.send(&addressed(0x5A, length + 3, &[]));
@@ -1136,7 +1396,7 @@ fn sfdp_legal_read_places() {
         assert_eq!(refusal, if legal { 0 } else { 2 });
         legal
     };
-    for length in [1, 2, 4, 8, 16, 32].map(|sectors| sectors * Chip::SECTOR) {
+    for length in SECTORS.map(|sectors| sectors * Chip::SECTOR) {
         for judgement in [None, Some(3), Some(5), Some(6), Some(7)] {
             assert!(legal(length, 0x5A, judgement, (1 << 24) - 1));
             assert!(!legal(length, 0x5A, judgement, 1 << 24));
@@ -1169,7 +1429,7 @@ fn sfdp_state_at_the_last_place_reads_on() {
 fn refusal_13_and_its_order() {
     let mut bench = Bench::with_area(1, &[0; 256]);
     assert_eq!(bench.apply(1, 0), (Record::None, 0));
-    let answer = run(&mut bench.chip, &mut bench.memory, &bench.area, &[3], &mut [0; 2]);
+    let answer = run(&mut bench.chip, &mut bench.memory, &bench.area, &[3], &mut [0; 3]);
     assert_eq!(answer, RunAnswer { refusal: 0, offset: 0, written: 2, ticks: 0 });
     bench.area.push(0);
     let before = bench.clone();

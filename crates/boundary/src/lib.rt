@@ -247,10 +247,11 @@ fn bytes_of(said: Record) -> [u8; chip::LONGEST_RECORD]
     ensures { λ r. ⌜ r ≡ padded said ⌝ }
 {
     match said {
-        Record::Nothing => [0, 0],
-        Record::Floating => [0x80, 0],
-        Record::Driven(b) => [0x81, b],
-        Record::Verdict(v) => [0x82, v],
+        Record::Nothing => [0, 0, 0],
+        Record::Floating => [0x80, 0, 0],
+        Record::Driven(b) => [0x81, b, 0],
+        Record::Verdict(v) => [0x82, v, 0],
+        Record::InTheWay(first, last) => [0x83, first, last],
     }
 }
 

@@ -1,14 +1,13 @@
 -- What is true of scripts and runs: a script event by event, its faults and its room, and a run in two parts.
-use Prim.Native.Nat.{ℕ, zero, suc, _+_, _<_, _≤_}
+use Prim.Native.Nat.{ℕ, zero, suc, _+_, _-_, _<_, _≤_}
 use mathlib.Core.Bool.{Bool, true, false, cond, not}
 use mathlib.Core.List.{List, [], _∷_, _++_, append-assoc, append-nil}
 use mathlib.Core.Path.{_≡_, refl, sym, ap, _∙_}
 use native.Mathlib.Nat.{add-zero}
 use native.Mathlib.Omega.{arith}
 use lib.Dec.{eqb, ltb, leb}
-use lib.ListN.{length, getD, set, take, drop, length-set}
-use lib.Seq.{take-suc-set, drop-set-lt}
-use native.Mathlib.Numerals.{add-one}
+use lib.ListN.{length, getD, set, take, drop, length-set, length-append}
+use lib.Seq.{take-suc-set, drop-set-lt, drop-drop}
 use borrow.Author.Tests.{eq-eqb, ne-eqb, eqb-true, eqb-false, lt-ltb, le-ltb, lt-leb, le-leb, ltb-false}
 use Rattle.cells.specs.Choice.{cond-yes, cond-no, chosen-number}
 use Rattle.part.specs.Part.{permitted, sectorsIn, Setting, setting}
@@ -128,43 +127,53 @@ exchange-room s at e h =
 
 -- ---- records
 
--- a byte or two stored from a place on: what stands before the next place, and what stands from there on
-pub store-one : (o : List ℕ) (p a : ℕ) → p < length o → take (p + 1) (set o p a) ≡ take p o ++ (a ∷ [])
-store-one o p a h = rw (add-one) (take-suc-set o p a h)
+-- bytes laid from a place on: what stands before their end, and what stands from there on
+pub record Laid (o : List ℕ) (p : ℕ) (bs o′ : List ℕ) : Type 0 where
+  pub before : take (p + length bs) o′ ≡ take p o ++ bs
+  pub beyond : drop (p + length bs) o′ ≡ drop (p + length bs) o
+  pub long : length o′ ≡ length o
 
-pub store-two : (o : List ℕ) (p a b : ℕ) → p + 1 < length o → take (p + 2) (set (set o p a) (p + 1) b) ≡ take p o ++ (a ∷ b ∷ [])
-store-two o p a b h =
-    let e : p + 2 ≡ p + 1 + 1 = omega arith in
-    let l : p + 1 < length (set o p a) = omega (arith, length-set o p a) in
-    ap (λ (q : ℕ). take q (set (set o p a) (p + 1) b)) e
-    ∙ store-one (set o p a) (p + 1) b l
-    ∙ ap (λ (x : List ℕ). x ++ (b ∷ [])) (store-one o p a (omega arith))
-    ∙ append-assoc (take p o) (a ∷ []) (b ∷ [])
+pub laid-none : (o : List ℕ) (p : ℕ) → Laid o p [] o
+laid-none o p = record { before = ap (λ (q : ℕ). take q o) (add-zero p) ∙ sym (append-nil (take p o)); beyond = refl; long = refl }
 
--- a record of no, one or two bytes is stored by as many stores
+-- one byte more behind them
+pub laid-byte : (o : List ℕ) (p : ℕ) (bs o′ : List ℕ) (a q : ℕ) → Laid o p bs o′ → q ≡ p + length bs → q < length o → Laid o p (bs ++ (a ∷ [])) (set o′ q a)
+laid-byte o p bs o′ a q laid is inside =
+    let next : p + length (bs ++ (a ∷ [])) ≡ suc q = omega (arith, is, length-append bs (a ∷ [])) in
+    let in-front : take q o′ ≡ take p o ++ bs = ap (λ (n : ℕ). take n o′) is ∙ laid .before in
+    record {
+      before =
+          ap (λ (n : ℕ). take n (set o′ q a)) next
+          ∙ take-suc-set o′ q a (omega (arith, laid .long))
+          ∙ ap (λ (front : List ℕ). front ++ (a ∷ [])) in-front
+          ∙ append-assoc (take p o) bs (a ∷ []);
+      beyond =
+          drop-set-lt (p + length (bs ++ (a ∷ []))) o′ q a (omega (arith, next))
+          ∙ further (p + length bs) (p + length (bs ++ (a ∷ []))) (laid .beyond) (omega (arith, is, next));
+      long = length-set o′ q a ∙ laid .long;
+    }
+  where
+    -- what is the same from a place on is the same from a later one on
+    further : (n k : ℕ) → drop n o′ ≡ drop n o → n ≤ k → drop k o′ ≡ drop k o
+    further n k same later =
+        let in-two : k ≡ n + (k - n) = omega arith in
+        ap (λ (x : ℕ). drop x o′) in-two
+        ∙ sym (drop-drop (k - n) n o′)
+        ∙ ap (drop (k - n)) same
+        ∙ drop-drop (k - n) n o
+        ∙ sym (ap (λ (x : ℕ). drop x o) in-two)
+
+-- a record is stored when its bytes are laid
+pub stored-as : (o : List ℕ) (p : ℕ) (bs o′ : List ℕ) (said : Record) (p′ : ℕ) → Laid o p bs o′ → recordBytes said ≡ bs → p′ ≡ p + length bs → Stored o p said p′ o′
+stored-as o p bs o′ said p′ laid is end =
+    record {
+      end = end ∙ sym (ap (λ (row : List ℕ). p + length row) is);
+      before = ap (λ (n : ℕ). take n o′) end ∙ laid .before ∙ ap (λ (row : List ℕ). take p o ++ row) (sym is);
+      beyond = ap (λ (n : ℕ). drop n o′) end ∙ laid .beyond ∙ sym (ap (λ (n : ℕ). drop n o) end);
+    }
+
 pub stored-none : (o : List ℕ) (p : ℕ) (said : Record) → recordBytes said ≡ [] → Stored o p said p o
-stored-none o p said e =
-    record {
-      end = sym (ap (λ (bs : List ℕ). p + length bs) e ∙ add-zero p);
-      before = sym (ap (λ (bs : List ℕ). take p o ++ bs) e ∙ append-nil (take p o));
-      beyond = refl;
-    }
-
-pub stored-one : (o : List ℕ) (p a : ℕ) (said : Record) → recordBytes said ≡ a ∷ [] → p < length o → Stored o p said (p + 1) (set o p a)
-stored-one o p a said e h =
-    record {
-      end = sym (ap (λ (bs : List ℕ). p + length bs) e);
-      before = store-one o p a h ∙ ap (λ (bs : List ℕ). take p o ++ bs) (sym e);
-      beyond = drop-set-lt (p + 1) o p a (omega arith);
-    }
-
-pub stored-two : (o : List ℕ) (p a b : ℕ) (said : Record) → recordBytes said ≡ a ∷ b ∷ [] → p + 1 < length o → Stored o p said (p + 2) (set (set o p a) (p + 1) b)
-stored-two o p a b said e h =
-    record {
-      end = sym (ap (λ (bs : List ℕ). p + length bs) e);
-      before = store-two o p a b h ∙ ap (λ (bs : List ℕ). take p o ++ bs) (sym e);
-      beyond = drop-set-lt (p + 2) (set o p a) (p + 1) b (omega arith) ∙ drop-set-lt (p + 2) o p a (omega arith);
-    }
+stored-none o p said e = stored-as o p [] o said p (laid-none o p) e (sym (add-zero p))
 
 -- ---- a run
 

@@ -110,6 +110,12 @@ fn put(out: &mut [u8], at: usize, said: Record) -> usize
             out[at + 1] = v;
             at + 2
         }
+        Record::InTheWay(first, last) => {
+            out[at] = 0x83;
+            out[at + 1] = first;
+            out[at + 2] = last;
+            at + 3
+        }
     }
 }
 

@@ -1,10 +1,11 @@
--- `script::put` meets its contract. No, one or two stores: what stands before the next place and from there on (`stored-none`, `stored-one`, `stored-two`).
-use Prim.Native.Nat.{_+_, _<_}
-use mathlib.Core.Path.{ap}
+-- `script::put` meets its contract. Each byte is laid behind those before it (`laid-byte`), and a record whose bytes are laid is stored (`stored-as`).
+use Prim.Native.Nat.{_+_, _<_, _≤_}
+use mathlib.Core.List.{[], _∷_}
+use mathlib.Core.Path.{ap, refl}
 use native.Mathlib.Omega.{arith}
 use lib.ListN.{length, length-set}
 use Rattle.chip.specs.Record.{recordBytes}
-use Rattle.script.specs.Laws.{stored-none, stored-one, stored-two}
+use Rattle.script.specs.Laws.{laid-none, laid-byte, stored-none, stored-as}
 use borrow.Author.Needs.{needs}
 use Rattle.script.proofs.put.Statement.{statement}
 use Rattle.script.proofs.put.Tie as tie
@@ -51,6 +52,27 @@ slice-write-out-5 c = simp length-set (omega (arith, rw (c .before .said2 .given
 add-result-3 : tie.Need-add-result-3
 add-result-3 c = search needs
 
+enum-known-said-3 : tie.Need-enum-known-said-3
+enum-known-said-3 c = search needs
+
+slice-write-out-6 : tie.Need-slice-write-out-6
+slice-write-out-6 c = omega (arith, rw (c .before .said3 .given .1) at (c .before .before .before .pre))
+
+add-out-3 : tie.Need-add-out-3
+add-out-3 c = search needs
+
+slice-write-out-7 : tie.Need-slice-write-out-7
+slice-write-out-7 c = simp length-set (omega (arith, rw (c .before .said3 .given .1) at (c .before .before .before .pre)))
+
+add-out-4 : tie.Need-add-out-4
+add-out-4 c = search needs
+
+slice-write-out-8 : tie.Need-slice-write-out-8
+slice-write-out-8 c = simp length-set (omega (arith, rw (c .before .said3 .given .1) at (c .before .before .before .pre)))
+
+add-result-4 : tie.Need-add-result-4
+add-result-4 c = search needs
+
 returns : tie.Need-returns
 returns c = stored-none _ _ _ (ap recordBytes (c .enum-told .given .1))
 
@@ -58,23 +80,31 @@ same-length : tie.Need-same-length
 same-length c = search needs
 
 returns-2 : tie.Need-returns-2
-returns-2 c = stored-one _ _ _ _ (ap recordBytes (c .enum-told2 .given .1)) (omega (arith, rw (c .enum-told2 .given .1) at (c .before .before .pre)))
+returns-2 c = stored-as _ _ _ _ _ _ (laid-byte _ _ _ _ _ _ (laid-none _ _) (omega arith) (omega (arith, rw (c .enum-told2 .given .1) at (c .before .before .pre)))) (ap recordBytes (c .enum-told2 .given .1)) refl
 
 same-length-2 : tie.Need-same-length-2
 same-length-2 c = search needs
 
 returns-3 : tie.Need-returns-3
 returns-3 c =
-    let h : c .before .before .before .args .at + 1 < length (c .before .before .before .args .out .now) = omega (arith, rw (c .before .said .given .1) at (c .before .before .before .pre)) in
-    stored-two _ _ _ _ _ (ap recordBytes (c .before .said .given .1)) h
+    let h : c .before .before .before .args .at + 2 ≤ length (c .before .before .before .args .out .now) = omega (arith, rw (c .before .said .given .1) at (c .before .before .before .pre)) in
+    stored-as _ _ _ _ _ _ (laid-byte _ _ _ _ _ _ (laid-byte _ _ _ _ _ _ (laid-none _ _) (omega arith) (omega (arith, h))) refl (omega (arith, h))) (ap recordBytes (c .before .said .given .1)) refl
 
 same-length-3 : tie.Need-same-length-3
 same-length-3 c = search needs
 
 returns-4 : tie.Need-returns-4
 returns-4 c =
-    let h : c .before .before .before .args .at + 1 < length (c .before .before .before .args .out .now) = omega (arith, rw (c .before .said2 .given .1) at (c .before .before .before .pre)) in
-    stored-two _ _ _ _ _ (ap recordBytes (c .before .said2 .given .1)) h
+    let h : c .before .before .before .args .at + 2 ≤ length (c .before .before .before .args .out .now) = omega (arith, rw (c .before .said2 .given .1) at (c .before .before .before .pre)) in
+    stored-as _ _ _ _ _ _ (laid-byte _ _ _ _ _ _ (laid-byte _ _ _ _ _ _ (laid-none _ _) (omega arith) (omega (arith, h))) refl (omega (arith, h))) (ap recordBytes (c .before .said2 .given .1)) refl
+
+same-length-4 : tie.Need-same-length-4
+same-length-4 c = search needs
+
+returns-5 : tie.Need-returns-5
+returns-5 c =
+    let h : c .before .before .before .args .at + 3 ≤ length (c .before .before .before .args .out .now) = omega (arith, rw (c .before .said3 .given .1) at (c .before .before .before .pre)) in
+    stored-as _ _ _ _ _ _ (laid-byte _ _ _ _ _ _ (laid-byte _ _ _ _ _ _ (laid-byte _ _ _ _ _ _ (laid-none _ _) (omega arith) (omega (arith, h))) refl (omega (arith, h))) refl (omega (arith, h))) (ap recordBytes (c .before .said3 .given .1)) refl
 
 pub put-spec : {M : Type 1} → statement M
 put-spec =
@@ -94,10 +124,19 @@ put-spec =
     add-out-2
     slice-write-out-5
     add-result-3
+    enum-known-said-3
+    slice-write-out-6
+    add-out-3
+    slice-write-out-7
+    add-out-4
+    slice-write-out-8
+    add-result-4
     returns
     same-length
     returns-2
     same-length-2
     returns-3
     same-length-3
-    returns-4)
+    returns-4
+    same-length-4
+    returns-5)
