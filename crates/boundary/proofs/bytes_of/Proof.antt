@@ -15,6 +15,9 @@ enum-known-said c = search needs
 enum-known-said-2 : tie.Need-enum-known-said-2
 enum-known-said-2 c = search needs
 
+enum-known-said-3 : tie.Need-enum-known-said-3
+enum-known-said-3 c = search needs
+
 returns : tie.Need-returns
 returns c = search needs
 
@@ -27,6 +30,9 @@ returns-3 c = rw (c .before .said .given .1)
 returns-4 : tie.Need-returns-4
 returns-4 c = rw (c .before .said2 .given .1)
 
+returns-5 : tie.Need-returns-5
+returns-5 c = rw (c .before .said3 .given .1)
+
 pub bytes-of-spec : {M : Type 1} → statement M
 bytes-of-spec =
     tie.close
@@ -35,7 +41,9 @@ bytes-of-spec =
     enum-told-2
     enum-known-said
     enum-known-said-2
+    enum-known-said-3
     returns
     returns-2
     returns-3
-    returns-4)
+    returns-4
+    returns-5)
