@@ -1,6 +1,6 @@
 -- What is true of the part: its lengths, how many sectors are protected, and the bytes inside an area.
 use Prim.Native.Nat.{ℕ, zero, suc, _≤_, _<_, _-_, _^_}
-use mathlib.Core.Bool.{Bool, true, false, cond, not, _||_}
+use mathlib.Core.Bool.{Bool, true, false, cond, not, _||_, false≢true}
 use mathlib.Core.List.{List, [], _∷_}
 use mathlib.Core.Path.{_≡_, refl, sym, ap, _∙_}
 use native.Mathlib.Nat.{one-le-pow}
@@ -12,6 +12,7 @@ use borrow.Author.Tests.{eqb-true, eq-eqb, ne-eqb}
 use Rattle.cells.specs.Choice.{cond-yes, cond-no, cond-either}
 use Rattle.part.specs.Part.{permitted, sectorsIn, lengthOf}
 use Rattle.part.specs.Area.{areaByte}
+use Rattle.part.specs.declared.Protected.{Protected}
 use Rattle.part.specs.declared.Protected.the-variants.{NoSector, Sectors}
 use Rattle.part.specs.Protection.{protectedCount, protectedSectors, protectsAny, anyProtected}
 
@@ -55,6 +56,29 @@ any-by-level L tb S some = go (ℕ-discrete L 0)
         let count : 1 ≤ protectedCount L S = protectedCount-some L S some n in
         ap protectsAny (two-ends L tb S (λ z. omega (arith, count, z))) ∙ sym (ap not (ne-eqb L 0 n))
 
+-- the two ends lie on the part, in order
+pub ends-inside : (L : ℕ) (tb : Bool) (S first last : ℕ) → protectedSectors L tb S ≡ Sectors first last → (first ≤ last) × (last < S)
+ends-inside L tb S first last e = go (ℕ-discrete (protectedCount L S) 0)
+  where
+    -- an end, 0 where there is none
+    low : Protected → ℕ
+    low NoSector = 0
+    low (Sectors a b) = a
+
+    high : Protected → ℕ
+    high NoSector = 0
+    high (Sectors a b) = b
+
+    go : Dec (protectedCount L S ≡ 0) → (first ≤ last) × (last < S)
+    go (yes none) = absurd (false≢true (ap protectsAny (sym (no-ends L tb S none) ∙ e)))
+    go (no some) =
+        let is = sym (two-ends L tb S some) ∙ e in
+        at tb (ap low is) (ap high is)
+      where
+        at : (b : Bool) → cond b 0 (S - protectedCount L S) ≡ first → cond b (protectedCount L S - 1) (S - 1) ≡ last → (first ≤ last) × (last < S)
+        at true f l = (omega (arith, f, l, protectedCount-le L S), omega (arith, f, l, protectedCount-le L S))
+        at false f l = (omega (arith, f, l, protectedCount-le L S), omega (arith, f, l, protectedCount-le L S))
+
 -- ---- the six lengths
 
 -- what holds of the six lengths holds of every permitted one
@@ -74,8 +98,17 @@ permitted-each P p₁ p₂ p₄ p₈ p₁₆ p₃₂ n h =
 pub permitted-whole : (n : ℕ) → permitted n ≡ true → lengthOf (sectorsIn n) ≡ n
 permitted-whole = permitted-each (λ n. lengthOf (sectorsIn n) ≡ n) refl refl refl refl refl refl
 
+pub permitted-most : (n : ℕ) → permitted n ≡ true → sectorsIn n ≤ 32
+permitted-most = permitted-each (λ n. sectorsIn n ≤ 32) (omega arith) (omega arith) (omega arith) (omega arith) (omega arith) (omega arith)
+
 pub permitted-some : (n : ℕ) → permitted n ≡ true → 1 ≤ sectorsIn n
 permitted-some = permitted-each (λ n. 1 ≤ sectorsIn n) (omega arith) (omega arith) (omega arith) (omega arith) (omega arith) (omega arith)
+
+-- so both ends of the protected sectors are at most 31
+pub ends-small : (L : ℕ) (tb : Bool) (n first last : ℕ) → permitted n ≡ true → protectedSectors L tb (sectorsIn n) ≡ Sectors first last → (first ≤ 31) × (last ≤ 31)
+ends-small L tb n first last p e =
+    let inside = ends-inside L tb (sectorsIn n) first last e in
+    (omega (arith, inside .0, inside .1, permitted-most n p), omega (arith, inside .1, permitted-most n p))
 
 -- a number of sectors, 0 for a length that no part has, tells which lengths are permitted
 pub no-sectors : (n s : ℕ) → s ≡ cond (permitted n) (sectorsIn n) 0 → s ≡ 0 → permitted n ≡ false

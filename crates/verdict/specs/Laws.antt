@@ -1,5 +1,5 @@
 -- What is true of verdicts: what 1, 2 and 9 say of the frame and the state, what is said of them, and that the others change no job and no status bit.
-use Prim.Native.Nat.{ℕ, _-_, _/_}
+use Prim.Native.Nat.{ℕ, _-_, _/_, _≤_}
 use mathlib.Core.Bool.{Bool, true, false, cond, not, _&&_, _||_, false≢true}
 use mathlib.Core.List.{List}
 use mathlib.Core.Path.{_≡_, refl, sym, ap, subst, _∙_}
@@ -138,6 +138,37 @@ module _ (S : ℕ) (k : Core) (f : Frame) (loose : Bool) (known : judgementKnown
       free SmallErase = at (start / sector)
       free SectorErase = at (start / sector)
       free ChipErase = ap protectsAny nothing
+
+  -- the list ends at 12
+  pub verdict-most : verdict S k f loose ≤ 12
+  unfolding verdict listed commandVerdict jobVerdict
+  verdict-most =
+      either (eqb (f .count) 0) (omega arith)
+      (either (not (eqb (f .judgement) 0)) (judged (f .judgement) known)
+      (either (not (eqb (judge k (f .opcode)) 0)) (judged (judge k (f .opcode)) (judge-known k (f .opcode)))
+      (either (isRead (f .opcode)) (omega arith)
+      (either (loose || not (fitsRule (rowOf (f .opcode) .rule) (f .count))) (omega arith)
+      (either (pointless k (f .opcode)) (omega arith)
+      (either (isJob kind)
+      (either (hasCells kind && k .suspended && not (k .wen)) (omega arith)
+      (either (not (k .wen)) (omega arith)
+      (either (not (hasCells kind) && k .srwp && not (k .wp)) (omega arith) (either (targetProtected S k kind start) (omega arith) (omega arith)))))
+      (omega arith)))))))
+    where
+      either : (b : Bool) {x y : ℕ} → x ≤ 12 → y ≤ 12 → cond b x y ≤ 12
+      either true p q = p
+      either false p q = q
+
+      judged : (v : ℕ) → judgementKnown v ≡ true → v ≤ 12
+      judged v = go (ℕ-discrete v 0) (ℕ-discrete v 3) (ℕ-discrete v 5) (ℕ-discrete v 6) (ℕ-discrete v 7)
+        where
+          go : Dec (v ≡ 0) → Dec (v ≡ 3) → Dec (v ≡ 5) → Dec (v ≡ 6) → Dec (v ≡ 7) → judgementKnown v ≡ true → v ≤ 12
+          go (yes e) a b c d h = omega arith
+          go (no z) (yes e) b c d h = omega arith
+          go (no z) (no a) (yes e) c d h = omega arith
+          go (no z) (no a) (no b) (yes e) d h = omega arith
+          go (no z) (no a) (no b) (no c) (yes e) h = omega arith
+          go (no z) (no a) (no b) (no c) (no d) h = absurd (false≢true (sym (rw (ne-eqb _ _ z, ne-eqb _ _ a, ne-eqb _ _ b, ne-eqb _ _ c, ne-eqb _ _ d)) ∙ h))
 
 -- the record of a verdict other than 9 is its number
 pub record-plain : (S : ℕ) (k : Core) (v : ℕ) → (v ≡ 9 → ⊥) → recordOf S k v ≡ Verdict v
