@@ -69,10 +69,10 @@ pub record FirstAt (s : List ℕ) (at : ℕ) : Type 0 where
   pub in-order : events s ≡ before ++ (eventAt s at ∷ behind)
   pub before-sound : AllSound s before
 
--- the room that the records of some events need: two bytes for each exchange and each deselect, clean or loose
+-- the room that the records of some events are given: two bytes for each exchange, three for each deselect, clean or loose, whatever its verdict turns out to be
 unfoldable pub roomNeeded : List Event → ℕ
 roomNeeded [] = 0
-roomNeeded (e ∷ es) = cond (eqb (e .kind) 0x02 || eqb (e .kind) 0x03 || eqb (e .kind) 0x08) 2 0 + roomNeeded es
+roomNeeded (e ∷ es) = cond (eqb (e .kind) 0x02) 2 (cond (eqb (e .kind) 0x03 || eqb (e .kind) 0x08) 3 0) + roomNeeded es
 
 -- what is looked at before the script's events is in order
 pub record Heard (c : Chip) (n extent : ℕ) (s : List ℕ) : Type 0 where

@@ -1,13 +1,13 @@
 -- Demand 2, of any model: each event does what the rule book says: the byte driven or the line left floating, the status bits, the verdict, the cells.
 -- Opcodes, kinds and verdicts stand here as numbers; sizes, the table of commands, protection and a job's kinds are the rule book's own words.
-use Prim.Native.Nat.{ℕ, _+_, _*_, _/_, _%_, _^_, _<_, _≤_, min}
+use Prim.Native.Nat.{ℕ, _+_, _*_, _/_, _%_, _^_, _-_, _<_, _≤_, min}
 use mathlib.Core.Bool.{Bool, true, false, cond, not, _&&_, _||_}
 use mathlib.Core.List.{List, [], _∷_, _++_}
 use mathlib.Core.Path.{_≡_}
 use lib.Dec.{eqb, leb}
 use lib.ListN.{length, getD, set, replicate}
 use Rattle.part.specs.Part.{sectorsIn}
-use Rattle.part.specs.Protection.{protectedSector}
+use Rattle.part.specs.Protection.{protectedCount, protectedSector}
 use Rattle.commands.specs.Table.{rowOf, fitsRule}
 use Rattle.chip.specs.declared.Chip.{Chip}
 use Rattle.chip.specs.declared.Core.{Core}
@@ -98,6 +98,18 @@ rulesList n k f loose =
 abbrev pub verdictOf : ℕ → Core → Frame → Bool → ℕ
 verdictOf n k f loose = cond (eqb (f .count) 0) 0 (cond (not (eqb (f .judgement) 0)) (f .judgement) (firstOf (rulesList n k f loose) 1))
 
+-- the protected sectors by their two ends: of S sectors the first so many with TB 1, the last so many with TB 0 (RULES, Protection)
+abbrev pub firstProtected : ℕ → Core → ℕ
+firstProtected S k = cond (k .tb) 0 (S - protectedCount (k .level) S)
+
+abbrev pub lastProtected : ℕ → Core → ℕ
+lastProtected S k = cond (k .tb) (protectedCount (k .level) S - 1) (S - 1)
+
+-- what is said of a verdict: 82h and its number; of verdict 9 it is 83h, the first and the last protected sector, of all there are and not of those under the target
+-- (RULES, Records)
+abbrev pub saysVerdict : ℕ → Core → ℕ → List ℕ
+saysVerdict n k v = cond (eqb v 9) (0x83 ∷ firstProtected (sectorsIn n) k ∷ lastProtected (sectorsIn n) k ∷ []) (0x82 ∷ v ∷ [])
+
 -- ---- what a verdict does (RULES, Verdicts; Jobs)
 
 -- a selected frame of a legal chip, at its deselect
@@ -154,15 +166,16 @@ JobsBegun M =
     ∷ Begun M 0xC7 (λ f. ChipErase) (λ n f. 0) (λ c. blankLoad)
     ∷ [])
 
--- any other verdict changes no job, no bit and no load; a frame with a whole byte disarms
+-- where neither is said no job, no bit and no load changes; a frame with a whole byte disarms
 abbrev pub OtherVerdicts : Model → Type 0
 OtherVerdicts M =
-    (c : Chip) (m area : List ℕ) (kind body : ℕ) (loose : Bool) (v : ℕ) → Ending c m area kind body loose → M c m area kind body .says ≡ 0x82 ∷ v ∷ [] → (v ≡ 1 → ⊥) → (v ≡ 2 → ⊥)
+    (c : Chip) (m area : List ℕ) (kind body : ℕ) (loose : Bool) → Ending c m area kind body loose
+    → (M c m area kind body .says ≡ 0x82 ∷ 1 ∷ [] → ⊥) → (M c m area kind body .says ≡ 0x82 ∷ 2 ∷ [] → ⊥)
     → (M c m area kind body .chip .core ≡ cond (eqb (c .frame .count) 0) (c .core) (withArmed false (c .core))) × (M c m area kind body .chip .held ≡ c .held)
 
--- every deselect of a frame: its verdict, the empty frame that it leaves, and no cell changed
+-- every deselect of a frame: what is said of its verdict, the empty frame that it leaves, and no cell changed
 pub record Closes (M : Model) (c : Chip) (m area : List ℕ) (kind body : ℕ) (loose : Bool) : Type 0 where
-  pub says : M c m area kind body .says ≡ 0x82 ∷ verdictOf (length m) (c .core) (c .frame) loose ∷ []
+  pub says : M c m area kind body .says ≡ saysVerdict (length m) (c .core) (verdictOf (length m) (c .core) (c .frame) loose)
   pub frame-empty : M c m area kind body .chip .frame ≡ emptyFrame
   pub load-blank : M c m area kind body .chip .load ≡ blankLoad
   pub cells-same : M c m area kind body .memory ≡ m

@@ -4,8 +4,9 @@ use mathlib.Core.Bool.{Bool, true, false}
 use mathlib.Core.List.{List, [], _∷_}
 use mathlib.Core.Path.{_≡_, refl, sym, ap, _∙_}
 use native.Mathlib.Nat.{add-zero}
+use native.Mathlib.Omega.{arith}
 use lib.Dec.{eqb}
-use lib.ListN.{length}
+use lib.ListN.{length, getD}
 use Rattle.cells.specs.Choice.{cond-either}
 use Rattle.part.specs.Part.{sectorsIn}
 use Rattle.chip.specs.declared.Chip.{Chip}
@@ -16,18 +17,25 @@ use Rattle.chip.specs.Job.{steps, wholeImage}
 use Rattle.script.specs.Script.{Event}
 use Rattle.script.specs.Run.{World}
 use Rattle.demands.specs.Model.{Model, Good, AllGood, Fit, doesBy, runsBy, workingTicks, workedBy}
-use Rattle.demands.specs.Demand2.{Ending, verdictOf, Quiet, Ready, CellReads, StoppedFrame, DoneAtOnce, JobsBegun, JobsFromBytes, Demand2}
+use Rattle.demands.specs.Demand2.{Ending, verdictOf, saysVerdict, Quiet, Ready, CellReads, StoppedFrame, DoneAtOnce, JobsBegun, JobsFromBytes, Demand2}
 use Rattle.demands.specs.Demand3.{Started, Spared, stepsOf, Demand3}
 
 -- ---- Demand 2
 
--- a frame to which the list gives verdict v is told v
+-- a frame to which the list gives verdict v is told v; verdict 9 by the sectors that were in the way
 abbrev pub Demand2Gives : ℕ → Model → Type 0
 Demand2Gives v M =
-    (c : Chip) (m area : List ℕ) (kind body : ℕ) (loose : Bool) → Ending c m area kind body loose → verdictOf (length m) (c .core) (c .frame) loose ≡ v → M c m area kind body .says ≡ 0x82 ∷ v ∷ []
+    (c : Chip) (m area : List ℕ) (kind body : ℕ) (loose : Bool) → Ending c m area kind body loose → verdictOf (length m) (c .core) (c .frame) loose ≡ v
+    → M c m area kind body .says ≡ saysVerdict (length m) (c .core) v
 
 pub gives : (M : Model) (v : ℕ) → Demand2 M → Demand2Gives v M
-gives M v d c m area kind body loose e is = d .closes c m area kind body loose e .says ∙ ap (λ (u : ℕ). 0x82 ∷ u ∷ []) is
+gives M v d c m area kind body loose e is = d .closes c m area kind body loose e .says ∙ ap (saysVerdict (length m) (c .core)) is
+
+-- 82h and a number say that verdict and no other
+pub verdict-told : (n : ℕ) (k : Core) (v u : ℕ) → saysVerdict n k v ≡ 0x82 ∷ u ∷ [] → v ≡ u
+verdict-told n k v u =
+    cond-either (λ (says : List ℕ). says ≡ 0x82 ∷ u ∷ [] → v ≡ u) (eqb v 9) _ _
+    (λ _ e. let longer : _≡_ {A = ℕ} 3 2 = ap length e in absurd (omega arith)) (λ _ e. ap (λ (says : List ℕ). getD says 1 0) e)
 
 -- what verdict 1 does, and what verdict 2 does
 abbrev pub Demand2Does : Model → Type 0
@@ -39,11 +47,14 @@ Demand2Begins M = JobsBegun M
 -- verdict v leaves WEN, if v is neither 1 nor 2
 abbrev pub Demand2LeavesWen : ℕ → Model → Type 0
 Demand2LeavesWen v M =
-    (c : Chip) (m area : List ℕ) (kind body : ℕ) (loose : Bool) → Ending c m area kind body loose → M c m area kind body .says ≡ 0x82 ∷ v ∷ [] → M c m area kind body .chip .core .wen ≡ c .core .wen
+    (c : Chip) (m area : List ℕ) (kind body : ℕ) (loose : Bool) → Ending c m area kind body loose → verdictOf (length m) (c .core) (c .frame) loose ≡ v
+    → M c m area kind body .chip .core .wen ≡ c .core .wen
 
 pub leaves-wen : (M : Model) (v : ℕ) → (v ≡ 1 → ⊥) → (v ≡ 2 → ⊥) → Demand2 M → Demand2LeavesWen v M
-leaves-wen M v not-one not-two d c m area kind body loose e says =
-    ap (λ (k : Core). k .wen) (d .other-verdicts c m area kind body loose v e says not-one not-two .0)
+leaves-wen M v not-one not-two d c m area kind body loose e is =
+    let says = gives M v d c m area kind body loose e is in
+    ap (λ (k : Core). k .wen)
+    (d .other-verdicts c m area kind body loose e (λ one. not-one (verdict-told (length m) (c .core) v 1 (sym says ∙ one))) (λ two. not-two (verdict-told (length m) (c .core) v 2 (sym says ∙ two))) .0)
     ∙ cond-either (λ (k : Core). k .wen ≡ c .core .wen) (eqb (c .frame .count) 0) (c .core) (withArmed false (c .core)) (λ _. refl) (λ _. refl)
 
 -- reads of cells, loads and their jobs, and frames that are stopped

@@ -19,7 +19,7 @@ use Rattle.demands.specs.States.{LegalState, FreshState}
 use Rattle.demands.specs.Scripts.{KindsInNumbers, EventsInNumbers}
 use Rattle.demands.specs.Commands.{TableInNumbers}
 use Rattle.demands.specs.Jobs.{JobsInNumbers}
-use Rattle.demands.specs.Demand2.{among, Rows, StatusByte}
+use Rattle.demands.specs.Demand2.{among, Rows, firstProtected, lastProtected, StatusByte}
 
 -- which cells of a part of S sectors level L protects (RULES, Protection)
 pub record ProtectionInNumbers : Type 0 where
@@ -37,7 +37,12 @@ pub record ProtectionInNumbers : Type 0 where
       ∷ [])
   -- at the bottom with TB 1, at the top with TB 0
   pub bottom : (L S cell : ℕ) → (protectedSector L true S (cell / 65536) ≡ true) ↔ (cell < protectedCount L S * 65536)
-  pub top : (L S cell : ℕ) → (protectedSector L false S (cell / 65536) ≡ true) ↔ ((S - protectedCount L S) * 65536 ≤ cell)
+  pub top : (L S cell : ℕ) → cell < S * 65536 → (protectedSector L false S (cell / 65536) ≡ true) ↔ ((S - protectedCount L S) * 65536 ≤ cell)
+  -- so of the part's sectors exactly those between the two ends that verdict 9 tells, where there are any; and these are at most 31 on a permitted part
+  pub between : (S : ℕ) (k : Core) (x : ℕ) → x < S → (protectedCount (k .level) S ≡ 0 → ⊥)
+      → (protectedSector (k .level) (k .tb) S x ≡ true) ↔ ((firstProtected S k ≤ x) × (x ≤ lastProtected S k))
+  pub at-most-31 : (n : ℕ) (k : Core) → permitted n ≡ true → (protectedCount (k .level) (sectorsIn n) ≡ 0 → ⊥)
+      → (firstProtected (sectorsIn n) k ≤ lastProtected (sectorsIn n) k) × (lastProtected (sectorsIn n) k ≤ 31)
 
 -- the small words: whether a kind is a job, has cells, runs; the kept bits of a byte; nothing in its three forms (RULES, Status; Jobs)
 pub record SmallWords : Type 0 where

@@ -1,16 +1,22 @@
 -- The part and its memory: a memory is the part's cells, and which of them are protected (RULES, The array; Protection).
-use Prim.Native.Nat.{ℕ, _*_, _/_, _<_, _≤_, _-_}
-use mathlib.Core.Bool.{true}
+use Prim.Native.Nat.{ℕ, _*_, _/_, _<_, _≤_, _-_, zero-le}
+use mathlib.Core.Bool.{Bool, true, false, cond, _&&_, false≢true}
 use mathlib.Core.List.{List}
-use mathlib.Core.Path.{_≡_, refl}
+use mathlib.Core.Path.{_≡_, refl, sym, ap, subst, _∙_}
 use mathlib.Core.Logic.{_↔_, Iff·trans}
 use native.Mathlib.Omega.{arith}
-use lib.Dec.{ltb, leb}
+use native.Mathlib.Decide.{ℕ-discrete}
+use lib.Dec.{leb}
 use lib.ListN.{length}
-use borrow.Author.Tests.{lt-ltb, ltb-true, le-leb, leb-true}
-use Rattle.part.specs.Part.{permitted, settingOf, lengthOf}
-use Rattle.part.specs.Laws.{permitted-whole}
-use Rattle.part.specs.Protection.{protectedCount, protectedSector}
+use borrow.Author.Tests.{le-leb, leb-true}
+use Rattle.cells.specs.Choice.{and-left, and-right, and-both}
+use Rattle.part.specs.Part.{permitted, sectorsIn, settingOf, lengthOf}
+use Rattle.part.specs.declared.Protected.{Protected}
+use Rattle.part.specs.declared.Protected.the-variants.{Sectors}
+use Rattle.part.specs.Protection.{protectedCount, protectedSectors, protects, protectedSector}
+use Rattle.part.specs.Laws.{permitted-whole, no-ends, two-ends, ends-inside, ends-small}
+use Rattle.chip.specs.declared.Core.{Core}
+use Rattle.demands.specs.Demand2.{firstProtected, lastProtected}
 use Rattle.demands.specs.Words.{ProtectionInNumbers}
 
 -- ---- the part and its memory
@@ -21,25 +27,50 @@ part-is-memory m area p = permitted-whole (length m) p
 
 -- ---- protection
 
--- a test by an order holds exactly when the order does
-below : (a b : ℕ) → (ltb a b ≡ true) ↔ (a < b)
-below a b = (ltb-true a b, lt-ltb a b)
+-- a test by two orders holds exactly when both do
+both : (a x b : ℕ) → ((leb a x && leb x b) ≡ true) ↔ ((a ≤ x) × (x ≤ b))
+both a x b = (
+  λ h. (leb-true a x (and-left (leb a x) (leb x b) h), leb-true x b (and-right (leb a x) (leb x b) h)),
+  λ h. and-both (leb a x) (leb x b) (le-leb a x (h .0)) (le-leb x b (h .1)),
+)
 
-upto : (a b : ℕ) → (leb a b ≡ true) ↔ (a ≤ b)
-upto a b = (leb-true a b, le-leb a b)
+module _ (L : ℕ) (tb : Bool) (S : ℕ) where
+  abbrev count : ℕ
+  count = protectedCount L S
 
--- Protection by level and by address.
+  -- where the count is 0 no sector is protected, and where it is not those between the two ends
+  none-protected : count ≡ 0 → (x : ℕ) → protectedSector L tb S x ≡ false
+  none-protected none x = ap (λ (range : Protected). protects range x) (no-ends L tb S none)
+
+  protected-between : (count ≡ 0 → ⊥) → (x : ℕ) → (protectedSector L tb S x ≡ true) ↔ ((cond tb 0 (S - count) ≤ x) × (x ≤ cond tb (count - 1) (S - 1)))
+  protected-between some x =
+      subst (λ (range : Protected). (protects range x ≡ true) ↔ ((cond tb 0 (S - count) ≤ x) × (x ≤ cond tb (count - 1) (S - 1)))) (sym (two-ends L tb S some))
+      (both (cond tb 0 (S - count)) x (cond tb (count - 1) (S - 1)))
+
+-- Protection by level and by address, and the two ends of it.
 pub protection-in-numbers : ProtectionInNumbers
-unfolding protectedCount protectedSector
+unfolding protectedCount
 protection-in-numbers =
     record {
       levels = λ S. (refl, (refl, (refl, (refl, (refl, (refl, (refl, (refl, tt))))))));
-      bottom = λ L S cell. Iff·trans (below (cell / 65536) (protectedCount L S)) (bottom-cells cell (protectedCount L S));
-      top = λ L S cell. Iff·trans (upto (S - protectedCount L S) (cell / 65536)) (top-cells cell (S - protectedCount L S));
+      bottom = λ L S cell. at-bottom L S cell (ℕ-discrete (protectedCount L S) 0);
+      top = λ L S cell inside. at-top L S cell inside (ℕ-discrete (protectedCount L S) 0);
+      between = λ S k x _ some. protected-between (k .level) (k .tb) S some x;
+      at-most-31 = λ n k p some. in-order n k p some (two-ends (k .level) (k .tb) (sectorsIn n) some);
     }
   where
-    bottom-cells : (cell count : ℕ) → (cell / 65536 < count) ↔ (cell < count * 65536)
-    bottom-cells cell count = (λ h. omega arith, λ h. omega arith)
+    at-bottom : (L S cell : ℕ) → Dec (protectedCount L S ≡ 0) → (protectedSector L true S (cell / 65536) ≡ true) ↔ (cell < protectedCount L S * 65536)
+    at-bottom L S cell (yes none) = (λ h. absurd (false≢true (sym (none-protected L true S none (cell / 65536)) ∙ h)), λ h. absurd (omega (arith, h, none)))
+    at-bottom L S cell (no some) =
+        Iff·trans (protected-between L true S some (cell / 65536)) (λ h. omega (arith, h .1, some), λ h. (zero-le, omega (arith, h)))
 
-    top-cells : (cell from : ℕ) → (from ≤ cell / 65536) ↔ (from * 65536 ≤ cell)
-    top-cells cell from = (λ h. omega arith, λ h. omega arith)
+    at-top : (L S cell : ℕ) → cell < S * 65536 → Dec (protectedCount L S ≡ 0) → (protectedSector L false S (cell / 65536) ≡ true) ↔ ((S - protectedCount L S) * 65536 ≤ cell)
+    at-top L S cell inside (yes none) = (λ h. absurd (false≢true (sym (none-protected L false S none (cell / 65536)) ∙ h)), λ h. absurd (omega (arith, h, none, inside)))
+    at-top L S cell inside (no some) =
+        Iff·trans (protected-between L false S some (cell / 65536)) (λ h. omega (arith, h .0), λ h. (omega (arith, h), omega (arith, inside)))
+
+    in-order : (n : ℕ) (k : Core) → permitted n ≡ true → (protectedCount (k .level) (sectorsIn n) ≡ 0 → ⊥)
+        → protectedSectors (k .level) (k .tb) (sectorsIn n) ≡ Sectors (firstProtected (sectorsIn n) k) (lastProtected (sectorsIn n) k)
+        → (firstProtected (sectorsIn n) k ≤ lastProtected (sectorsIn n) k) × (lastProtected (sectorsIn n) k ≤ 31)
+    in-order n k p some is =
+        (ends-inside (k .level) (k .tb) (sectorsIn n) (firstProtected (sectorsIn n) k) (lastProtected (sectorsIn n) k) is .0, ends-small (k .level) (k .tb) n (firstProtected (sectorsIn n) k) (lastProtected (sectorsIn n) k) p is .1)

@@ -26,7 +26,8 @@ use Rattle.script.specs.Script.{Event}
 use Rattle.script.specs.Run.{World, world}
 use Rattle.demands.specs.Model.{Reply, Model, event, Good, AllGood, Fit, onwardBy, runsBy, workingTicks, workedBy}
 use Rattle.demands.specs.Demand1.{RefusedWhen, Demand1}
-use Rattle.demands.specs.Demand2.{Demand2, Test, firstOf, among, beginsJob, rulesList, verdictOf, Closing, on-a-byte, inside-a-byte, Ending, After}
+use Rattle.demands.specs.Moments.{gives, verdict-told}
+use Rattle.demands.specs.Demand2.{Demand2, Test, firstOf, among, beginsJob, rulesList, verdictOf, saysVerdict, Closing, on-a-byte, inside-a-byte, Ending, After}
 use Rattle.meets.specs.TickRules.{ticking-good}
 use Rattle.demands.specs.Demand3.{Demand3, Ticking, one-tick, many-ticks, AllSpare, NoneEnables, Spared, stepsOf, Outlook}
 
@@ -148,11 +149,15 @@ module _ (M N : Model) (p : Meets M) (q : Meets N) (c : Chip) (m area : List ℕ
     Acts = (x .chip .core ≡ y .chip .core) × (x .chip .held ≡ y .chip .held)
 
     -- both say the verdict
-    says-x : (u : ℕ) → v ≡ u → x .says ≡ 0x82 ∷ u ∷ []
-    says-x u is = p .second .closes c m area kind body loose e .says ∙ ap (λ (w : ℕ). 0x82 ∷ w ∷ []) is
+    says-x : (u : ℕ) → v ≡ u → x .says ≡ saysVerdict (length m) (c .core) u
+    says-x u = gives M u (p .second) c m area kind body loose e
 
-    says-y : (u : ℕ) → v ≡ u → y .says ≡ 0x82 ∷ u ∷ []
-    says-y u is = q .second .closes c m area kind body loose e .says ∙ ap (λ (w : ℕ). 0x82 ∷ w ∷ []) is
+    says-y : (u : ℕ) → v ≡ u → y .says ≡ saysVerdict (length m) (c .core) u
+    says-y u = gives N u (q .second) c m area kind body loose e
+
+    -- 82h and another number are not said of it
+    not-said : (z : Reply) (u : ℕ) → z .says ≡ saysVerdict (length m) (c .core) v → (v ≡ u → ⊥) → z .says ≡ 0x82 ∷ u ∷ [] → ⊥
+    not-said z u says other told = other (verdict-told (length m) (c .core) v u (sym says ∙ told))
 
     -- what both are said to leave is the same
     same-act : {core : Core} {held : List ℕ} → (x .chip .core ≡ core) × (x .chip .held ≡ held) → (y .chip .core ≡ core) × (y .chip .held ≡ held) → Acts
@@ -162,8 +167,10 @@ module _ (M N : Model) (p : Meets M) (q : Meets N) (c : Chip) (m area : List ℕ
     judgement-not u other is = false≢true (sym other ∙ subst (λ (w : ℕ). judgementKnown w ≡ true) is (chip-facts c (length m) (fit .state-legal) .frame-part .judgement-known))
 
     -- a row that both meet, for the verdict that both say
-    both : (u opcode : ℕ) {core : Chip → List ℕ → Core} {held : Chip → List ℕ} → v ≡ u → After M u opcode core held → After N u opcode core held → f .opcode ≡ opcode → Acts
-    both u opcode is a b of-it = same-act (a c m area kind body loose e of-it (says-x u is)) (b c m area kind body loose e of-it (says-y u is))
+    both : (u : ℕ) → eqb u 9 ≡ false → (opcode : ℕ) {core : Chip → List ℕ → Core} {held : Chip → List ℕ} → v ≡ u → After M u opcode core held → After N u opcode core held → f .opcode ≡ opcode → Acts
+    both u plain opcode is a b of-it =
+        let by-number : saysVerdict (length m) (c .core) u ≡ 0x82 ∷ u ∷ [] = cond-no (eqb u 9) _ _ plain in
+        same-act (a c m area kind body loose e of-it (says-x u is ∙ by-number)) (b c m area kind body loose e of-it (says-y u is ∙ by-number))
 
     abbrev reads : ℕ → Bool
     reads = among (0x05 ∷ 0x03 ∷ 0x0B ∷ 0x9F ∷ 0x5A ∷ [])
@@ -194,18 +201,18 @@ module _ (M N : Model) (p : Meets M) (q : Meets N) (c : Chip) (m area : List ℕ
         let one-of : among atOnce (f .opcode) ≡ true =
         third _ _ _ (off .0 .1 .1 .1 .1 .0) no-job (known-test (λ o. reads o || (beginsJob o || among atOnce o)) rows refl (f .opcode) (known-so (rowOf (f .opcode) .known) (off .0 .0))) in
         among-each (λ opcode. f .opcode ≡ opcode → Acts) atOnce (
-          both 1 0x06 one (a .0) (b .0),
+          both 1 refl 0x06 one (a .0) (b .0),
           (
-            both 1 0x04 one (a .1 .0) (b .1 .0),
+            both 1 refl 0x04 one (a .1 .0) (b .1 .0),
             (
-              both 1 0xB0 one (a .1 .1 .0) (b .1 .1 .0),
+              both 1 refl 0xB0 one (a .1 .1 .0) (b .1 .1 .0),
               (
-                both 1 0x30 one (a .1 .1 .1 .0) (b .1 .1 .1 .0),
+                both 1 refl 0x30 one (a .1 .1 .1 .0) (b .1 .1 .1 .0),
                 (
-                  both 1 0xAB one (a .1 .1 .1 .1 .0) (b .1 .1 .1 .1 .0),
+                  both 1 refl 0xAB one (a .1 .1 .1 .1 .0) (b .1 .1 .1 .1 .0),
                   (
-                    both 1 0xB9 one (a .1 .1 .1 .1 .1 .0) (b .1 .1 .1 .1 .1 .0),
-                    (both 1 0x66 one (a .1 .1 .1 .1 .1 .1 .0) (b .1 .1 .1 .1 .1 .1 .0), (both 1 0x99 one (a .1 .1 .1 .1 .1 .1 .1 .0) (b .1 .1 .1 .1 .1 .1 .1 .0), tt)),
+                    both 1 refl 0xB9 one (a .1 .1 .1 .1 .1 .0) (b .1 .1 .1 .1 .1 .0),
+                    (both 1 refl 0x66 one (a .1 .1 .1 .1 .1 .1 .0) (b .1 .1 .1 .1 .1 .1 .0), (both 1 refl 0x99 one (a .1 .1 .1 .1 .1 .1 .1 .0) (b .1 .1 .1 .1 .1 .1 .1 .0), tt)),
                   ),
                 ),
               ),
@@ -233,18 +240,18 @@ module _ (M N : Model) (p : Meets M) (q : Meets N) (c : Chip) (m area : List ℕ
         let one-of : among jobs (f .opcode) ≡ true =
         means-holds (beginsJob (f .opcode)) (among jobs (f .opcode)) (known-test (λ o. not (beginsJob o) || among jobs o) rows refl (f .opcode) (known-so (rowOf (f .opcode) .known) (off .0 .0))) (always (beginsJob (f .opcode)) (off .1)) in
         among-each (λ opcode. f .opcode ≡ opcode → Acts) jobs (
-          both 2 0x01 two (a .0) (b .0),
+          both 2 refl 0x01 two (a .0) (b .0),
           (
-            both 2 0x02 two (a .1 .0) (b .1 .0),
+            both 2 refl 0x02 two (a .1 .0) (b .1 .0),
             (
-              both 2 0x0A two (a .1 .1 .0) (b .1 .1 .0),
+              both 2 refl 0x0A two (a .1 .1 .0) (b .1 .1 .0),
               (
-                both 2 0x20 two (a .1 .1 .1 .0) (b .1 .1 .1 .0),
+                both 2 refl 0x20 two (a .1 .1 .1 .0) (b .1 .1 .1 .0),
                 (
-                  both 2 0xD7 two (a .1 .1 .1 .1 .0) (b .1 .1 .1 .1 .0),
+                  both 2 refl 0xD7 two (a .1 .1 .1 .1 .0) (b .1 .1 .1 .1 .0),
                   (
-                    both 2 0xD8 two (a .1 .1 .1 .1 .1 .0) (b .1 .1 .1 .1 .1 .0),
-                    (both 2 0x60 two (a .1 .1 .1 .1 .1 .1 .0) (b .1 .1 .1 .1 .1 .1 .0), (both 2 0xC7 two (a .1 .1 .1 .1 .1 .1 .1 .0) (b .1 .1 .1 .1 .1 .1 .1 .0), tt)),
+                    both 2 refl 0xD8 two (a .1 .1 .1 .1 .1 .0) (b .1 .1 .1 .1 .1 .0),
+                    (both 2 refl 0x60 two (a .1 .1 .1 .1 .1 .1 .0) (b .1 .1 .1 .1 .1 .1 .0), (both 2 refl 0xC7 two (a .1 .1 .1 .1 .1 .1 .1 .0) (b .1 .1 .1 .1 .1 .1 .1 .0), tt)),
                   ),
                 ),
               ),
@@ -264,7 +271,8 @@ module _ (M N : Model) (p : Meets M) (q : Meets N) (c : Chip) (m area : List ℕ
         go (yes one) d = done one
         go (no one) (yes two) = begun two
         go (no one) (no two) =
-            same-act (p .second .other-verdicts c m area kind body loose v e (says-x v refl) one two) (q .second .other-verdicts c m area kind body loose v e (says-y v refl) one two)
+            same-act (p .second .other-verdicts c m area kind body loose e (not-said x 1 (says-x v refl) one) (not-said x 2 (says-x v refl) two))
+            (q .second .other-verdicts c m area kind body loose e (not-said y 1 (says-y v refl) one) (not-said y 2 (says-y v refl) two))
 
     -- a deselect of a frame
     deselects : x .refusal ≡ y .refusal → x ≡ y

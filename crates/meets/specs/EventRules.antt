@@ -25,13 +25,14 @@ use Rattle.frame.specs.Frame.{judge, opened, Exchange, exchanged}
 use Rattle.frame.specs.Laws.{exchanged-unselected, exchanged-opcode}
 use Rattle.verdict.specs.Verdict.{jobOf, startOf, verdict}
 use Rattle.verdict.specs.Effect.{instantly, acted, settled, heldAfter}
-use Rattle.verdict.specs.Laws.{acted-nothing, held-stays}
+use Rattle.verdict.specs.Laws.{nine-finds, acted-nothing, held-stays}
 use Rattle.event.specs.Event.{settleExchange, closes, deselect, applied}
 use Rattle.event.specs.Laws.{deselect-unselected, deselect-selected}
 use Rattle.demands.specs.Model.{Reply, reply, ours, event, Good, Fit}
-use Rattle.demands.specs.Demand2.{Closing, on-a-byte, inside-a-byte, stopOf, Ending, After, DoneAtOnce, rounded, Begun, JobsBegun, OtherVerdicts, Closes, poweredUp}
+use Rattle.demands.specs.Demand2.{Closing, on-a-byte, inside-a-byte, stopOf, saysVerdict, Ending, After, DoneAtOnce, rounded, Begun, JobsBegun, OtherVerdicts, Closes, poweredUp}
 use Rattle.meets.specs.Ours.{told, done-as}
-use Rattle.meets.specs.Verdicts.{verdict-as, settled-acts}
+use Rattle.demands.specs.Moments.{verdict-told}
+use Rattle.meets.specs.Verdicts.{verdict-as, settled-acts, record-says}
 
 -- ---- select, WP, power cut
 
@@ -131,10 +132,16 @@ module _ (c : Chip) (m area : List ℕ) (kind body : ℕ) (loose : Bool) (e : En
   pub closes-as : ours c m area kind body ≡ told (closes (settingOf (length m) area) c m v)
   closes-as = closing-as c m area kind body loose (e .fit) (e .closing) ∙ ap told (deselect-selected (settingOf (length m) area) c m loose (e .selected))
 
+  -- and says what Demand 2 has for it
+  says-as : ours c m area kind body .says ≡ saysVerdict (length m) (c .core) v
+  says-as =
+      ap (λ (r : Reply). r .says) closes-as
+      ∙ record-says (length m) (c .core) v (nine-finds S (c .core) (c .frame) loose (legal-chip .frame-part .judgement-known))
+
   pub ours-closes : Closes ours c m area kind body loose
   ours-closes =
       record {
-        says = ap (λ (r : Reply). r .says) closes-as ∙ ap (λ (x : ℕ). 0x82 ∷ x ∷ []) (verdict-as (length m) (c .core) (c .frame) loose (legal-chip .length-permitted));
+        says = says-as ∙ ap (saysVerdict (length m) (c .core)) (verdict-as (length m) (c .core) (c .frame) loose (legal-chip .length-permitted));
         frame-empty = ap (λ (r : Reply). r .chip .frame) closes-as;
         load-blank = ap (λ (r : Reply). r .chip .load) closes-as;
         cells-same = ap (λ (r : Reply). r .memory) closes-as;
@@ -143,7 +150,7 @@ module _ (c : Chip) (m area : List ℕ) (kind body : ℕ) (loose : Bool) (e : En
 
   -- the verdict is what the record says
   pub verdict-said : (x : ℕ) → ours c m area kind body .says ≡ 0x82 ∷ x ∷ [] → v ≡ x
-  verdict-said x said = ap (λ (bytes : List ℕ). getD bytes 1 0) (sym (ap (λ (r : Reply). r .says) closes-as) ∙ said)
+  verdict-said x said = verdict-told (length m) (c .core) v x (sym says-as ∙ said)
 
   -- the core and the job's load after a verdict of which this is known
   core-after : (x : ℕ) → ours c m area kind body .says ≡ 0x82 ∷ x ∷ [] → (x ≡ 0 → ⊥)
@@ -227,14 +234,16 @@ ours-jobs-begun = (
 -- every other verdict
 pub ours-other-verdicts : OtherVerdicts ours
 unfolding settled
-ours-other-verdicts c m area kind body loose x e said not-one not-two =
+ours-other-verdicts c m area kind body loose e not-told-one not-told-two =
     let S : ℕ = sectorsIn (length m) in
-    let is-x : verdict S (c .core) (c .frame) loose ≡ x = verdict-said c m area kind body loose e x said in (
+    let x : ℕ = verdict S (c .core) (c .frame) loose in
+    let says : ours c m area kind body .says ≡ saysVerdict (length m) (c .core) x = says-as c m area kind body loose e in
+    let not-one : x ≡ 1 → ⊥ = λ one. not-told-one (says ∙ ap (saysVerdict (length m) (c .core)) one) in
+    let not-two : x ≡ 2 → ⊥ = λ two. not-told-two (says ∙ ap (saysVerdict (length m) (c .core)) two) in (
       ap (λ (r : Reply). r .chip .core) (closes-as c m area kind body loose e)
-          ∙ ap (λ (y : ℕ). settled S (c .core) (c .frame) y) is-x
           ∙ ap (λ (k : Core). cond (eqb (c .frame .count) 0) (c .core) (withArmed (eqb (c .frame .opcode) 0x66 && eqb x 1) k)) (acted-nothing S (c .core) (c .frame) x not-one not-two)
           ∙ ap (λ (b : Bool). cond (eqb (c .frame .count) 0) (c .core) (withArmed b (c .core))) (arms-not (eqb (c .frame .opcode) 0x66) (eqb x 1) (ne-eqb x 1 not-one)),
-      held-after c m area kind body loose e x said ∙ held-stays (c .frame) x (c .load) (c .held) not-two (λ one _. not-one one),
+      ap (λ (r : Reply). r .chip .held) (closes-as c m area kind body loose e) ∙ held-stays (c .frame) x (c .load) (c .held) not-two (λ one _. not-one one),
     )
   where
     arms-not : (a b : Bool) → b ≡ false → (a && b) ≡ false

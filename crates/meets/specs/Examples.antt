@@ -1,5 +1,5 @@
 -- Ten worked examples, P1 to P10, proved of the definitions: each a claim, all of them rows under one theorem, `worked-examples`.
-use Prim.Native.Nat.{ℕ, zero, suc, _%_, _<_, _≤_, zero-le}
+use Prim.Native.Nat.{ℕ, zero, suc, _%_, _<_, _≤_}
 use mathlib.Core.Bool.{Bool, true, false}
 use mathlib.Core.List.{List, [], _∷_, _++_}
 use mathlib.Core.Path.{_≡_, refl, sym, ap, subst, _∙_}
@@ -8,13 +8,12 @@ use native.Mathlib.Nat.{zero-add, add-zero}
 use native.Mathlib.Omega.{arith}
 use lib.Bits.{bitAnd}
 use lib.ListN.{length, getD}
-use borrow.Author.Tests.{lt-ltb, le-leb}
 use Rattle.cells.specs.Cells.{sweep, later, blanked, anded}
 use Rattle.cells.specs.Laws.{sweep-changes, sweep-outside}
 use Rattle.part.specs.Part.{Setting, setting}
 use Rattle.kinds.specs.Kinds.{SELECT, EXCHANGE, DESELECT, TICK, TICKS, knownIn, kindRowIn, knownKind, kindRow}
 use Rattle.commands.specs.Table.{rowOf, rowIn, fitsRule, isRead, isProgram}
-use Rattle.part.specs.Protection.{protectedCount, protectedSector}
+use Rattle.part.specs.Protection.{protectedCount, protectedSectors, protectedSector}
 use Rattle.chip.specs.declared.Core.{Core}
 use Rattle.chip.specs.declared.Frame.{Frame}
 use Rattle.chip.specs.declared.JobKind.{JobKind}
@@ -23,7 +22,7 @@ use Rattle.chip.specs.Fields.{withWen, withJob}
 use Rattle.chip.specs.Chip.{whole, fresh, resting, emptyFrame, statusByte}
 use Rattle.job.specs.Tick.{tickCore, ticksCore, worked}
 use Rattle.frame.specs.Frame.{judge, taken, exchanged}
-use Rattle.verdict.specs.Verdict.{jobOf, jobVerdict, commandVerdict, listed, verdict}
+use Rattle.verdict.specs.Verdict.{jobOf, jobVerdict, commandVerdict, listed, verdict, recordOf}
 use Rattle.verdict.specs.Effect.{instantly, acted, settled, heldAfter}
 use Rattle.event.specs.Event.{applied}
 use Rattle.script.specs.Script.{Event, faultAt, walk, eventsFrom, events, room}
@@ -59,7 +58,7 @@ P1 =
     ≡ 0x80 ∷ 0x80 ∷ 0x80 ∷ 0x80 ∷ 0x81 ∷ getD m 2097151 0 ∷ 0x81 ∷ getD m 0 0 ∷ 0x82 ∷ 0 ∷ []
 
 p1 : P1
-unfolding runs eventsFrom walk faultAt knownKind knownIn kindRow kindRowIn applied exchanged taken judge fresh rowOf rowIn isProgram verdict listed isRead settled acted heldAfter statusByte
+unfolding runs eventsFrom walk faultAt knownKind knownIn kindRow kindRowIn applied exchanged taken judge fresh rowOf rowIn isProgram verdict recordOf listed isRead settled acted heldAfter statusByte
 p1 m = refl
 
 -- P2: 260 data bytes from offset 250 of a page: six offsets of the load, some of them written twice (RULES, Commands)
@@ -98,34 +97,37 @@ abbrev pub P4 : Type 0
 P4 = (m : List ℕ) → statusAfter (frame (0x06 ∷ []) ++ (frame (0x01 ∷ 0xFF ∷ []) ++ (TICK ∷ []))) m ≡ 0xBC
 
 p4 : P4
-unfolding runs eventsFrom walk faultAt knownKind knownIn kindRow kindRowIn applied exchanged taken judge fresh rowOf rowIn isProgram verdict listed isRead commandVerdict jobVerdict jobOf fitsRule settled acted heldAfter instantly statusByte ticksCore tickCore worked
+unfolding runs eventsFrom walk faultAt knownKind knownIn kindRow kindRowIn applied exchanged taken judge fresh rowOf rowIn isProgram verdict recordOf listed isRead commandVerdict jobVerdict jobOf fitsRule settled acted heldAfter instantly statusByte ticksCore tickCore worked
 p4 m = refl
 
--- P6: at level 1, TB 0, the real part's top sector is protected and the one below it free: an erase gets verdict 9 in the one and begins in the other (RULES, Protection)
+-- P6: at level 1, TB 0, the real part's top sector, 31, is protected and the one below it free: an erase is told so in the one and begins in the other (RULES, Protection)
 abbrev pub P6 : Type 0
 P6 =
     (m : List ℕ)
-    → (played 32 0x04 (frame (0x06 ∷ []) ++ frame (0xD8 ∷ 0x1F ∷ 0x00 ∷ 0x00 ∷ [])) m .written ≡ 0x80 ∷ 0x82 ∷ 1 ∷ 0x80 ∷ 0x80 ∷ 0x80 ∷ 0x80 ∷ 0x82 ∷ 9 ∷ [])
+    → (played 32 0x04 (frame (0x06 ∷ []) ++ frame (0xD8 ∷ 0x1F ∷ 0x00 ∷ 0x00 ∷ [])) m .written ≡ 0x80 ∷ 0x82 ∷ 1 ∷ 0x80 ∷ 0x80 ∷ 0x80 ∷ 0x80 ∷ 0x83 ∷ 31 ∷ 31 ∷ [])
     × (played 32 0x04 (frame (0x06 ∷ []) ++ frame (0xD8 ∷ 0x1E ∷ 0xFF ∷ 0xFF ∷ [])) m .written ≡ 0x80 ∷ 0x82 ∷ 1 ∷ 0x80 ∷ 0x80 ∷ 0x80 ∷ 0x80 ∷ 0x82 ∷ 2 ∷ [])
 
 p6 : P6
-unfolding runs eventsFrom walk faultAt knownKind knownIn kindRow kindRowIn applied exchanged taken judge fresh rowOf rowIn isProgram verdict listed isRead commandVerdict jobVerdict jobOf fitsRule settled acted heldAfter instantly protectedSector protectedCount
+unfolding runs eventsFrom walk faultAt knownKind knownIn kindRow kindRowIn applied exchanged taken judge fresh rowOf rowIn isProgram verdict recordOf listed isRead commandVerdict jobVerdict jobOf fitsRule settled acted heldAfter instantly protectedSectors protectedCount
 p6 m = (refl, refl)
 
--- P7: a part of one sector is protected whole at level 5 (RULES, Protection)
+-- P7: a part of one sector is protected whole at level 5: sectors 0 to 0 (RULES, Protection)
 abbrev pub P7 : Type 0
 P7 =
     ((tb : Bool) (x : ℕ) → x < 1 → protectedSector 5 tb 1 x ≡ true)
     × ((m : List ℕ)
-    → played 1 0x14 (frame (0x06 ∷ []) ++ frame (0x20 ∷ 0x00 ∷ 0xF0 ∷ 0x00 ∷ [])) m .written ≡ 0x80 ∷ 0x82 ∷ 1 ∷ 0x80 ∷ 0x80 ∷ 0x80 ∷ 0x80 ∷ 0x82 ∷ 9 ∷ [])
+    → played 1 0x14 (frame (0x06 ∷ []) ++ frame (0x20 ∷ 0x00 ∷ 0xF0 ∷ 0x00 ∷ [])) m .written ≡ 0x80 ∷ 0x82 ∷ 1 ∷ 0x80 ∷ 0x80 ∷ 0x80 ∷ 0x80 ∷ 0x83 ∷ 0 ∷ 0 ∷ [])
 
 p7 : P7
-unfolding runs eventsFrom walk faultAt knownKind knownIn kindRow kindRowIn applied exchanged taken judge fresh rowOf rowIn isProgram verdict listed isRead commandVerdict jobVerdict jobOf fitsRule settled acted heldAfter instantly protectedSector protectedCount
+unfolding runs eventsFrom walk faultAt knownKind knownIn kindRow kindRowIn applied exchanged taken judge fresh rowOf rowIn isProgram verdict recordOf listed isRead commandVerdict jobVerdict jobOf fitsRule settled acted heldAfter instantly protectedSectors protectedCount
 p7 = (sectors-all, λ m. refl)
   where
+    only : (tb : Bool) → protectedSector 5 tb 1 0 ≡ true
+    only true = refl
+    only false = refl
+
     sectors-all : (tb : Bool) (x : ℕ) → x < 1 → protectedSector 5 tb 1 x ≡ true
-    sectors-all true x h = lt-ltb x 1 h
-    sectors-all false x h = le-leb 0 x zero-le
+    sectors-all tb x h = let none : x ≡ 0 = omega arith in subst (λ (y : ℕ). protectedSector 5 tb 1 y ≡ true) (sym none) (only tb)
 
 -- P8: a status read between reset enable and reset disarms (RULES, Verdicts)
 abbrev pub P8 : Type 0
@@ -134,7 +136,7 @@ P8 =
     → played 1 0x00 (frame (0x66 ∷ []) ++ (frame (0x05 ∷ []) ++ frame (0x99 ∷ []))) m .written ≡ 0x80 ∷ 0x82 ∷ 1 ∷ 0x80 ∷ 0x82 ∷ 0 ∷ 0x80 ∷ 0x82 ∷ 11 ∷ []
 
 p8 : P8
-unfolding runs eventsFrom walk faultAt knownKind knownIn kindRow kindRowIn applied exchanged taken judge fresh rowOf rowIn isProgram verdict listed isRead commandVerdict jobVerdict jobOf fitsRule settled acted heldAfter instantly statusByte
+unfolding runs eventsFrom walk faultAt knownKind knownIn kindRow kindRowIn applied exchanged taken judge fresh rowOf rowIn isProgram verdict recordOf listed isRead commandVerdict jobVerdict jobOf fitsRule settled acted heldAfter instantly statusByte
 p8 m = refl
 
 -- P10: an erase with two address bytes has the wrong length (RULES, Verdicts)
@@ -142,7 +144,7 @@ abbrev pub P10 : Type 0
 P10 = (m : List ℕ) → played 1 0x00 (frame (0x20 ∷ 0x00 ∷ 0x00 ∷ [])) m .written ≡ 0x80 ∷ 0x80 ∷ 0x80 ∷ 0x82 ∷ 4 ∷ []
 
 p10 : P10
-unfolding runs eventsFrom walk faultAt knownKind knownIn kindRow kindRowIn applied exchanged taken judge fresh rowOf rowIn isProgram verdict listed isRead fitsRule settled acted heldAfter
+unfolding runs eventsFrom walk faultAt knownKind knownIn kindRow kindRowIn applied exchanged taken judge fresh rowOf rowIn isProgram verdict recordOf listed isRead fitsRule settled acted heldAfter
 p10 m = refl
 
 -- ---- P5 and P9, on any memory: the job begun by a frame, and n ticks of it
@@ -197,11 +199,11 @@ ticked-memory n kind w job e =
     ∙ ap (λ (k : ℕ). steps kind 0 (w .chip .held) 0 k (w .memory)) (ticked-works n w ∙ e)
 
 erasing-core : (m : List ℕ) → erasing m .chip .core ≡ begunCore SmallErase
-unfolding runs eventsFrom walk faultAt knownKind knownIn kindRow kindRowIn applied exchanged taken judge fresh rowOf rowIn isProgram verdict listed isRead commandVerdict jobVerdict jobOf fitsRule settled acted heldAfter instantly protectedSector protectedCount
+unfolding runs eventsFrom walk faultAt knownKind knownIn kindRow kindRowIn applied exchanged taken judge fresh rowOf rowIn isProgram verdict recordOf listed isRead commandVerdict jobVerdict jobOf fitsRule settled acted heldAfter instantly protectedSectors protectedCount
 erasing-core m = refl
 
 erasing-memory : (m : List ℕ) → erasing m .memory ≡ m
-unfolding runs eventsFrom walk faultAt knownKind knownIn kindRow kindRowIn applied exchanged taken judge fresh rowOf rowIn isProgram verdict listed isRead commandVerdict jobVerdict jobOf fitsRule settled acted heldAfter instantly protectedSector protectedCount
+unfolding runs eventsFrom walk faultAt knownKind knownIn kindRow kindRowIn applied exchanged taken judge fresh rowOf rowIn isProgram verdict recordOf listed isRead commandVerdict jobVerdict jobOf fitsRule settled acted heldAfter instantly protectedSectors protectedCount
 erasing-memory m = refl
 
 erasing-job : (m : List ℕ) → UnderWay one SmallErase 0 (erasing m .chip .held) 0 (erasing m)
@@ -237,15 +239,15 @@ p9 m h =
         ap (λ (q : ℕ). getD (sweep (later blanked 0) m 0 n) q 0) (sym (zero-add i)) ∙ sweep-changes (later blanked 0) m 0 n i l (omega arith)
 
 programming-core : (m : List ℕ) → programming m .chip .core ≡ begunCore Program
-unfolding runs eventsFrom walk faultAt knownKind knownIn kindRow kindRowIn applied exchanged taken judge fresh rowOf rowIn isProgram verdict listed isRead commandVerdict jobVerdict jobOf fitsRule settled acted heldAfter instantly protectedSector protectedCount
+unfolding runs eventsFrom walk faultAt knownKind knownIn kindRow kindRowIn applied exchanged taken judge fresh rowOf rowIn isProgram verdict recordOf listed isRead commandVerdict jobVerdict jobOf fitsRule settled acted heldAfter instantly protectedSectors protectedCount
 programming-core m = refl
 
 programming-memory : (m : List ℕ) → programming m .memory ≡ m
-unfolding runs eventsFrom walk faultAt knownKind knownIn kindRow kindRowIn applied exchanged taken judge fresh rowOf rowIn isProgram verdict listed isRead commandVerdict jobVerdict jobOf fitsRule settled acted heldAfter instantly protectedSector protectedCount
+unfolding runs eventsFrom walk faultAt knownKind knownIn kindRow kindRowIn applied exchanged taken judge fresh rowOf rowIn isProgram verdict recordOf listed isRead commandVerdict jobVerdict jobOf fitsRule settled acted heldAfter instantly protectedSectors protectedCount
 programming-memory m = refl
 
 programming-load : (m : List ℕ) → getD (programming m .chip .held) 0 0 ≡ 0x0F
-unfolding runs eventsFrom walk faultAt knownKind knownIn kindRow kindRowIn applied exchanged taken judge fresh rowOf rowIn isProgram verdict listed isRead commandVerdict jobVerdict jobOf fitsRule settled acted heldAfter instantly protectedSector protectedCount
+unfolding runs eventsFrom walk faultAt knownKind knownIn kindRow kindRowIn applied exchanged taken judge fresh rowOf rowIn isProgram verdict recordOf listed isRead commandVerdict jobVerdict jobOf fitsRule settled acted heldAfter instantly protectedSectors protectedCount
 programming-load m = refl
 
 programming-job : (m : List ℕ) → UnderWay one Program 0 (programming m .chip .held) 0 (programming m)
@@ -271,13 +273,13 @@ in-two = refl
 
 suspends : (k : Core) (f : Frame) (load held m written : List ℕ) (ticks : ℕ) → k ≡ begunCore Program → f ≡ emptyFrame
     → statusByte (runs one suspending (world (whole k f load held) m written ticks) .chip .core) ≡ 0x42
-unfolding runs eventsFrom walk faultAt knownKind knownIn kindRow kindRowIn applied exchanged taken judge fresh rowOf rowIn isProgram verdict listed isRead commandVerdict jobVerdict jobOf fitsRule settled acted heldAfter instantly statusByte
+unfolding runs eventsFrom walk faultAt knownKind knownIn kindRow kindRowIn applied exchanged taken judge fresh rowOf rowIn isProgram verdict recordOf listed isRead commandVerdict jobVerdict jobOf fitsRule settled acted heldAfter instantly statusByte
 suspends k f load held m written ticks p q =
     subst (λ (x : Core). statusByte (runs one suspending (world (whole x f load held) m written ticks) .chip .core) ≡ 0x42) (sym p)
     (subst (λ (y : Frame). statusByte (runs one suspending (world (whole (begunCore Program) y load held) m written ticks) .chip .core) ≡ 0x42) (sym q) refl)
 
 programming-frame : (m : List ℕ) → programming m .chip .frame ≡ emptyFrame
-unfolding runs eventsFrom walk faultAt knownKind knownIn kindRow kindRowIn applied exchanged taken judge fresh rowOf rowIn isProgram verdict listed isRead commandVerdict jobVerdict jobOf fitsRule settled acted heldAfter instantly protectedSector protectedCount
+unfolding runs eventsFrom walk faultAt knownKind knownIn kindRow kindRowIn applied exchanged taken judge fresh rowOf rowIn isProgram verdict recordOf listed isRead commandVerdict jobVerdict jobOf fitsRule settled acted heldAfter instantly protectedSectors protectedCount
 programming-frame m = refl
 
 begun-status : statusByte (begunCore Program) ≡ 0x03
@@ -285,7 +287,7 @@ unfolding statusByte
 begun-status = refl
 
 enabled-status : (m : List ℕ) → statusAfter (frame (0x06 ∷ [])) m ≡ 0x02
-unfolding runs eventsFrom walk faultAt knownKind knownIn kindRow kindRowIn applied exchanged taken judge fresh rowOf rowIn isProgram verdict listed isRead commandVerdict jobVerdict jobOf fitsRule settled acted heldAfter instantly statusByte
+unfolding runs eventsFrom walk faultAt knownKind knownIn kindRow kindRowIn applied exchanged taken judge fresh rowOf rowIn isProgram verdict recordOf listed isRead commandVerdict jobVerdict jobOf fitsRule settled acted heldAfter instantly statusByte
 enabled-status m = refl
 
 p3 : P3
@@ -314,7 +316,7 @@ workedExchange =
     ++ (frame (0x05 ∷ 0 ∷ [])
     ++ ((TICKS ∷ 0 ∷ 16 ∷ []) ++ (frame (0x05 ∷ 0 ∷ []) ++ (frame (0x03 ∷ 0x00 ∷ 0x00 ∷ 0xFE ∷ 0 ∷ 0 ∷ []) ++ frame (0x03 ∷ 0x00 ∷ 0x00 ∷ 0x00 ∷ 0 ∷ []))))))
 
--- It writes 40 bytes of output, and has to be lent 58.
-pub worked-exchange : (m : List ℕ) → (length (played 1 0x00 workedExchange m .written) ≡ 40) × (room (events workedExchange) ≡ 58)
-unfolding room runs eventsFrom walk faultAt knownKind knownIn kindRow kindRowIn applied exchanged taken judge fresh rowOf rowIn isProgram verdict listed isRead commandVerdict jobVerdict jobOf fitsRule settled acted heldAfter instantly protectedSector protectedCount statusByte ticksCore tickCore worked
+-- It writes 40 bytes of output, and has to be lent 64.
+pub worked-exchange : (m : List ℕ) → (length (played 1 0x00 workedExchange m .written) ≡ 40) × (room (events workedExchange) ≡ 64)
+unfolding room runs eventsFrom walk faultAt knownKind knownIn kindRow kindRowIn applied exchanged taken judge fresh rowOf rowIn isProgram verdict recordOf listed isRead commandVerdict jobVerdict jobOf fitsRule settled acted heldAfter instantly protectedSectors protectedCount statusByte ticksCore tickCore worked
 worked-exchange m = (refl, refl)

@@ -19,7 +19,7 @@ use Rattle.chip.specs.declared.Chip.{Chip}
 use Rattle.chip.specs.declared.Core.{Core}
 use Rattle.chip.specs.declared.Frame.{Frame}
 use Rattle.chip.specs.declared.Record.{Record}
-use Rattle.chip.specs.declared.Record.the-variants.{Nothing, Floating, Driven, Verdict}
+use Rattle.chip.specs.declared.Record.the-variants.{Nothing, Floating, Driven, Verdict, InTheWay}
 use Rattle.chip.specs.Record.{recordBytes}
 use Rattle.chip.specs.declared.JobKind.{JobKind}
 use Rattle.chip.specs.declared.JobKind.the-variants.{Idle, WriteStatus, Program, SmallErase, SectorErase, ChipErase}
@@ -29,9 +29,9 @@ use Rattle.chip.specs.Chip.{bitsOf, blankLoad, running}
 use Rattle.legal.specs.Legal.{judgementKnown}
 use Rattle.job.specs.Tick.{ticksCore, ticksMemory, worked, ticksLeft, endedAs}
 use Rattle.job.specs.Laws.{ticks-rest, ticks-go, ticks-over, ticksMemory-rest, worked-go, worked-over}
-use Rattle.verdict.specs.Verdict.{verdict}
+use Rattle.verdict.specs.Verdict.{verdict, recordOf}
 use Rattle.verdict.specs.Effect.{begins, instantly, acted, settled}
-use Rattle.verdict.specs.Laws.{verdict-two, acted-nothing, instantly-each, held-reset}
+use Rattle.verdict.specs.Laws.{verdict-two, record-plain, record-tells, acted-nothing, instantly-each, held-reset}
 use Rattle.event.specs.Event.{Outcome, closes, deselect, tick, applied, sortOf}
 use Rattle.event.specs.Laws.{applied-each, says-its-kind}
 use Rattle.event.specs.Keeps.{cells-stay}
@@ -53,6 +53,7 @@ told-verdict Nothing v e = let shorter : _≡_ {A = ℕ} 0 2 = ap length e in ab
 told-verdict Floating v e = let shorter : _≡_ {A = ℕ} 1 2 = ap length e in absurd (omega arith)
 told-verdict (Driven b) v e = let other : _≡_ {A = ℕ} 0x81 0x82 = ap (λ (bs : List ℕ). getD bs 0 0) e in absurd (omega arith)
 told-verdict (Verdict u) v e = ap Verdict (ap (λ (bs : List ℕ). getD bs 1 0) e)
+told-verdict (InTheWay first last) v e = let longer : _≡_ {A = ℕ} 3 2 = ap length e in absurd (omega arith)
 
 -- only the two deselects say a verdict
 says-verdict : (kind : ℕ) → saysOf kind ≡ Says.verdict → (kind ≡ DESELECT) ⊎ (kind ≡ LOOSE)
@@ -97,11 +98,8 @@ module _ (T : Setting) (c : Chip) (m : List ℕ) (v : ℕ) (some : v ≡ 0 → �
   deselect-closed : (loose : Bool) → deselect T c m loose .said ≡ Verdict v → ClosedWith T c m v (deselect T c m loose)
   deselect-closed loose =
       cond-either (λ (o : Outcome). o .said ≡ Verdict v → ClosedWith T c m v o) (c .frame .selected) _ _
-      (λ _ e. let is : verdict (T .sectors) (c .core) (c .frame) loose ≡ v = number e in record { loose = loose; verdict-is = is; closed = ap (closes T c m) is })
-      (λ _ e. absurd (some (sym (number e))))
-    where
-      number : {a b : ℕ} → Verdict a ≡ Verdict b → a ≡ b
-      number e = ap (λ (r : Record). getD (recordBytes r) 1 0) e
+      (λ _ e. let is : verdict (T .sectors) (c .core) (c .frame) loose ≡ v = record-tells (T .sectors) (c .core) _ v (ap recordBytes e) in record { loose = loose; verdict-is = is; closed = ap (closes T c m) is })
+      (λ _ e. absurd (some (sym (ap (λ (r : Record). getD (recordBytes r) 1 0) e))))
 
   -- An event that says a verdict other than 0 closes a frame with it.
   pub says-closed : (kind body : ℕ) → knownKind kind ≡ true → recordBytes (applied T c m kind body .said) ≡ 0x82 ∷ v ∷ [] → ClosedWith T c m v (applied T c m kind body)
@@ -168,14 +166,16 @@ spares-ours area e w fit good s = record { known = good .0; no-power-cut = s .no
     c : Chip
     c = w .chip
 
-    says : (loose : Bool) (v : ℕ) → e .kind ≡ closingKind loose → c .frame .selected ≡ true → verdict (T .sectors) (c .core) (c .frame) loose ≡ v → doesBy ours area e w .says ≡ 0x82 ∷ v ∷ []
-    says loose v k selected is =
+    says : (loose : Bool) (v : ℕ) → (v ≡ 9 → ⊥) → e .kind ≡ closingKind loose → c .frame .selected ≡ true → verdict (T .sectors) (c .core) (c .frame) loose ≡ v
+        → doesBy ours area e w .says ≡ 0x82 ∷ v ∷ []
+    says loose v plain k selected is =
         says-ours area e w fit good
         ∙ ap (λ (o : Outcome). recordBytes (o .said)) (as-deselect T c (w .memory) (e .kind) (e .body) loose k ∙ cond-yes (c .frame .selected) _ _ selected)
-        ∙ ap (λ (n : ℕ). 0x82 ∷ n ∷ []) is
+        ∙ ap (λ (n : ℕ). recordBytes (recordOf (T .sectors) (c .core) n)) is
+        ∙ ap recordBytes (record-plain (T .sectors) (c .core) v plain)
 
     spares : (loose : Bool) → e .kind ≡ closingKind loose → LeavesJob T c loose
-    spares loose k selected = (λ two. s .begins-none (says loose 2 k selected two), λ one is. s .no-reset (says loose 1 k selected one) is)
+    spares loose k selected = (λ two. s .begins-none (says loose 2 (λ e. omega arith) k selected two), λ one is. s .no-reset (says loose 1 (λ e. omega arith) k selected one) is)
 
 -- and so over a row of events
 pub all-spare-ours : (area : List ℕ) (es : List Event) (w : World) → Fit (w .chip) (w .memory) area → AllGood es → AllSpare ours area es w → Stepwise.AllSpare (settingOf (length (w .memory)) area) es w
@@ -267,8 +267,12 @@ off-event T c m kind body off =
     Off : Outcome → Type 0
     Off o = (o .said ≡ Verdict 2 → ⊥) → (o .said ≡ Verdict 1 → c .frame .opcode ≡ writeEnable → ⊥) → OffWithoutJob (o .chip .core)
 
+    plainly : {u : ℕ} (v : ℕ) → (v ≡ 9 → ⊥) → u ≡ v → recordOf (T .sectors) (c .core) u ≡ Verdict v
+    plainly v plain is = ap (recordOf (T .sectors) (c .core)) is ∙ record-plain (T .sectors) (c .core) v plain
+
     closing : (loose : Bool) → Off (deselect T c m loose)
     closing loose =
         cond-either Off (c .frame .selected) _ _
-        (λ _ none not-enabled. off-settled (T .sectors) (c .core) (c .frame) _ (λ two. none (ap Verdict two)) (λ one is. not-enabled (ap Verdict one) is) off)
+        (λ _ none not-enabled.
+        off-settled (T .sectors) (c .core) (c .frame) _ (λ two. none (plainly 2 (λ e. omega arith) two)) (λ one is. not-enabled (plainly 1 (λ e. omega arith) one) is) off)
         (λ _ _ _. off)

@@ -13,15 +13,15 @@ use Rattle.part.specs.Part.{Setting, sectorsIn, settingOf, permitted}
 use Rattle.commands.specs.Table.{rowOf, rowIn, fitsRule, isRead, isProgram, reset}
 use Rattle.kinds.specs.Kinds.{TICKS, POWER, knownIn, kindRowIn, knownKind, kindRow, bodyLength, inRange}
 use Rattle.chip.specs.declared.Record.{Record}
-use Rattle.chip.specs.declared.Record.the-variants.{Nothing, Floating, Driven, Verdict}
+use Rattle.chip.specs.declared.Record.the-variants.{Nothing, Floating, Driven, Verdict, InTheWay}
 use Rattle.chip.specs.Record.{recordBytes}
 use Rattle.chip.specs.declared.JobKind.the-variants.{SmallErase}
 use Rattle.chip.specs.Job.{total, wholeImage, noJob}
 use Rattle.chip.specs.Chip.{fresh, blankLoad}
-use Rattle.part.specs.Protection.{protectedCount, protectedSector}
+use Rattle.part.specs.Protection.{protectedCount, protectedSectors}
 use Rattle.job.specs.Tick.{tickCore, ticksCore, worked}
 use Rattle.frame.specs.Frame.{judge, taken, exchanged}
-use Rattle.verdict.specs.Verdict.{jobOf, jobVerdict, commandVerdict, listed, verdict}
+use Rattle.verdict.specs.Verdict.{jobOf, jobVerdict, commandVerdict, listed, verdict, recordOf}
 use Rattle.verdict.specs.Effect.{instantly, acted, settled, heldAfter}
 use Rattle.legal.specs.Legal.{legal}
 use Rattle.event.specs.Event.{applied}
@@ -49,6 +49,7 @@ verdictIs v Nothing = false
 verdictIs v Floating = false
 verdictIs v (Driven b) = false
 verdictIs v (Verdict u) = eqb u v
+verdictIs v (InTheWay first last) = false
 
 -- whether an event spares the job, and whether each of a row does
 abbrev pub sparing : Setting → Event → World → Bool
@@ -114,6 +115,7 @@ is-verdict v Nothing h = absurd (false≢true h)
 is-verdict v Floating h = absurd (false≢true h)
 is-verdict v (Driven b) h = absurd (false≢true h)
 is-verdict v (Verdict u) h = ap (λ (n : ℕ). 0x82 ∷ n ∷ []) (eqb-true u v h)
+is-verdict v (InTheWay first last) h = absurd (false≢true h)
 
 -- the world that the job finds and the world that it begins in, as the definitions have them
 module _ (area : List ℕ) (w : World) (before : List Event) (begins : Event) (fit : Fit (w .chip) (w .memory) area) (good-before : AllGood before) (good-begins : Good begins) where
@@ -210,10 +212,10 @@ all-sound = sound-by-test erasesCut (events erasesCut) refl
 
 -- it passes the test on the smallest part, with any memory
 passes : (m : List ℕ) → wholeLife one (world (fresh 0x00) m [] 0) before begins life ≡ true
-unfolding allSparing runs Stepwise.workedBy eventsFrom walk faultAt knownKind knownIn kindRow kindRowIn applied exchanged taken judge fresh rowOf rowIn isProgram verdict listed isRead commandVerdict jobVerdict jobOf fitsRule settled acted heldAfter instantly ticksCore tickCore worked protectedCount protectedSector
+unfolding allSparing runs Stepwise.workedBy eventsFrom walk faultAt knownKind knownIn kindRow kindRowIn applied exchanged taken judge fresh rowOf rowIn isProgram verdict recordOf listed isRead commandVerdict jobVerdict jobOf fitsRule settled acted heldAfter instantly ticksCore tickCore worked protectedCount protectedSectors
 passes m = refl
 
-module _ (m out : List ℕ) (smallest : length m ≡ 65536) (roomy : 28 ≤ length out) where
+module _ (m out : List ℕ) (smallest : length m ≡ 65536) (roomy : 33 ≤ length out) where
   abbrev start : World
   start = world (fresh 0x00) m [] 0
 
@@ -260,5 +262,5 @@ module _ (m out : List ℕ) (smallest : length m ≡ 65536) (roomy : 28 ≤ leng
 
   -- Sixteen of its nineteen ticks work, and the run's own memory is the whole image: a sector of 4,096 cells FFh, every other cell as it was.
   pub cut-and-ended : (answer .refusal ≡ 0) × (answer .memory ≡ wholeImage SmallErase 1 0 blankLoad m) × (answer .chip .core .job ≡ noJob) × (answer .ticks ≡ 16)
-  unfolding runs eventsFrom walk faultAt knownKind knownIn kindRow kindRowIn applied exchanged taken judge fresh rowOf rowIn isProgram verdict listed isRead commandVerdict jobVerdict jobOf fitsRule settled acted heldAfter instantly protectedCount protectedSector
+  unfolding runs eventsFrom walk faultAt knownKind knownIn kindRow kindRowIn applied exchanged taken judge fresh rowOf rowIn isProgram verdict recordOf listed isRead commandVerdict jobVerdict jobOf fitsRule settled acted heldAfter instantly protectedCount protectedSectors
   cut-and-ended = (done, lived .memory-is ∙ ap (λ (n : ℕ). wholeImage SmallErase (sectorsIn n) 0 blankLoad m) smallest, lived .job-gone, lived .ticks-are)

@@ -10,6 +10,7 @@ use borrow.Author.Tests.{le-leb, leb-true, eq-eqb}
 use Rattle.cells.specs.Choice.{cond-yes, and-left}
 use Rattle.part.specs.Part.{Setting, settingOf, sectorsIn, lengthOf, roundedDown}
 use Rattle.part.specs.Protection.{protectedSector}
+use Rattle.part.specs.Laws.{permitted-some, any-by-level}
 use Rattle.kinds.specs.Kinds.{knownIn, knownKind, kindRowIn, kindRow}
 use Rattle.commands.specs.Table.{rowOf, rowIn, fitsRule, isProgram}
 use Rattle.chip.specs.declared.Chip.{Chip}
@@ -18,8 +19,9 @@ use Rattle.chip.specs.declared.JobKind.{JobKind}
 use Rattle.chip.specs.declared.JobKind.the-variants.{WriteStatus, Program, SmallErase, SectorErase, ChipErase}
 use Rattle.chip.specs.Job.{hasCells}
 use Rattle.chip.specs.Chip.{whole, blankLoad}
+use Rattle.legal.specs.Legality.{chip-facts}
 use Rattle.frame.specs.Frame.{judge, loading}
-use Rattle.verdict.specs.Verdict.{startOf, targetProtected, startProtected, verdict}
+use Rattle.verdict.specs.Verdict.{startOf, targetProtected, startProtected, verdict, recordOf}
 use Rattle.verdict.specs.Effect.{heldAfter}
 use Rattle.event.specs.Event.{closes, applied}
 use Rattle.event.specs.Laws.{deselect-selected}
@@ -113,7 +115,7 @@ module _ (c : Chip) (m area : List ℕ) (ready : Ready c m area) (enabled : c .c
 
     -- it begins its job, and if that is a program, with this load
     begins-at : (start : ℕ) → startOf S kind A ≡ start → Begins ours c m area bs kind start × (isProgram opcode ≡ true → framed ours c m area bs .chip .held ≡ load)
-    unfolding heldAfter
+    unfolding heldAfter recordOf
     begins-at start there = (
       record {
         verdict-two = ap (λ (w : World). w .written) closed;
@@ -170,8 +172,10 @@ module _ (c : Chip) (m area : List ℕ) (ready : Ready c m area) (enabled : c .c
   chip-erase-begins opcode is level-none =
       let small : opcode ≤ 255 = among-two (λ (q : ℕ). q ≤ 255) 0x60 0xC7 (omega arith) (omega arith) opcode is in
       let command : Command opcode 0 1 ChipErase = chip-erases opcode is in
+      let some : 1 ≤ S = permitted-some (length m) (chip-facts c (length m) (fit .state-legal) .length-permitted) in
       begins-at (opcode ∷ []) (c .load) (opcodeFrame opcode (judge (c .core) opcode)) (small, _) (opens-opcode c m area fit (ready .quiet .unselected) opcode small) opcode 0 1 1 ChipErase command
-      (record { is-open = refl; opcode-is = refl; address-is = refl; unjudged = ready-takes c m area ready opcode (command .known); so-many = omega arith }) (omega arith) refl refl (ap not (eq-eqb _ _ level-none)) 0 refl .0
+      (record { is-open = refl; opcode-is = refl; address-is = refl; unjudged = ready-takes c m area ready opcode (command .known); so-many = omega arith }) (omega arith) refl refl
+      (any-by-level (c .core .level) (c .core .tb) S some ∙ ap not (eq-eqb _ _ level-none)) 0 refl .0
 
   -- a write status, with its value
   write-status-begins : (value : ℕ) → value ≤ 255 → (c .core .srwp && not (c .core .wp)) ≡ false → Begins ours c m area (0x01 ∷ value ∷ []) (WriteStatus value) 0

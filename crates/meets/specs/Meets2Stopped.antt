@@ -1,6 +1,6 @@
 -- Demand 2 of ours: a frame that is stopped at its opcode byte floats to its end, and its verdict is what stopped it.
 use Prim.Native.Nat.{ℕ, _+_, _%_, _≤_}
-use mathlib.Core.Bool.{Bool, true}
+use mathlib.Core.Bool.{Bool, true, false≢true}
 use mathlib.Core.List.{List, [], _∷_}
 use mathlib.Core.Path.{_≡_, refl, sym, ap, subst, _∙_}
 use native.Mathlib.Omega.{arith}
@@ -14,7 +14,10 @@ use Rattle.chip.specs.declared.Record.the-variants.{Floating}
 use Rattle.chip.specs.Record.{recordBytes}
 use Rattle.frame.specs.Frame.{judge, counting, Exchange, exchange, exchanged}
 use Rattle.frame.specs.Laws.{exchanged-judged}
-use Rattle.verdict.specs.Verdict.{verdict}
+use Rattle.legal.specs.Legal.{judgementKnown}
+use Rattle.frame.specs.Legality.{judge-known}
+use Rattle.verdict.specs.Verdict.{verdict, recordOf}
+use Rattle.verdict.specs.Laws.{record-plain}
 use Rattle.event.specs.Event.{Outcome, applied}
 use Rattle.event.specs.Laws.{deselect-selected}
 use Rattle.script.specs.Run.{World, does}
@@ -54,9 +57,9 @@ module _ (T : Setting) (v : ℕ) (stops : v ≡ 0 → ⊥) where
 judged-verdict : (S : ℕ) (k : Core) (v j : ℕ) (f : Frame) (loose : Bool) → (v ≡ 0 → ⊥) → Judged v j f → verdict S k f loose ≡ v
 judged-verdict S k v j f loose stops at = verdict-judged S k f loose (λ (z : f .count ≡ 0). omega (arith, at .begun, z)) (λ z. stops (sym (at .judged) ∙ z)) ∙ at .judged
 
--- a deselect of an open frame tells the verdict
+-- a deselect of an open frame tells the verdict; a judgement is told by its number
 closing-says : (T : Setting) (w : World) (kind body : ℕ) (loose : Bool) → Closing kind body loose → w .chip .frame .selected ≡ true
-    → recordBytes (does T (event kind body) w .said) ≡ 0x82 ∷ verdict (T .sectors) (w .chip .core) (w .chip .frame) loose ∷ []
+    → recordBytes (does T (event kind body) w .said) ≡ recordBytes (recordOf (T .sectors) (w .chip .core) (verdict (T .sectors) (w .chip .core) (w .chip .frame) loose))
 closing-says T w kind body loose closing selected =
     ap (λ (o : Outcome). recordBytes (o .said)) (closing-applied T (w .chip) (w .memory) kind body loose closing ∙ deselect-selected T (w .chip) (w .memory) loose selected)
 
@@ -78,5 +81,6 @@ ours-stopped-frame c m area opcode fit unselected byte stops es inside =
       (λ kind body loose closing.
           ap (λ (q : Reply). q .says) (does-as c m area fit (opcode ∷ []) small f opens es inside (event kind body) (closing-good kind body loose closing))
           ∙ closing-says T w kind body loose closing (at .is-open)
-          ∙ ap (λ (q : ℕ). 0x82 ∷ q ∷ []) (judged-verdict (T .sectors) (w .chip .core) v (bytesOf es) (w .chip .frame) loose stops at)),
+          ∙ ap (λ (q : ℕ). recordBytes (recordOf (T .sectors) (w .chip .core) q)) (judged-verdict (T .sectors) (w .chip .core) v (bytesOf es) (w .chip .frame) loose stops at)
+          ∙ ap recordBytes (record-plain (T .sectors) (w .chip .core) v (λ nine. false≢true (sym (ap judgementKnown nine) ∙ judge-known (c .core) opcode)))),
     )

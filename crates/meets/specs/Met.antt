@@ -5,9 +5,8 @@ use mathlib.Core.List.{List, [], _∷_}
 use mathlib.Core.Path.{_≡_, refl, ap, _∙_}
 use native.Mathlib.Omega.{arith}
 use lib.ListN.{length, replicate}
-use borrow.Author.Tests.{lt-leb}
-use Rattle.part.specs.Part.{permitted, sectorsIn}
-use Rattle.part.specs.Protection.{protectedCount, protectedSector}
+use Rattle.part.specs.Part.{permitted, sectorsIn, setting}
+use Rattle.part.specs.Protection.{protectedCount, protectedSectors, protectedSector}
 use Rattle.commands.specs.Table.{rowOf, rowIn, fitsRule}
 use Rattle.chip.specs.declared.Chip.{Chip}
 use Rattle.chip.specs.declared.Core.{Core}
@@ -17,8 +16,10 @@ use Rattle.chip.specs.declared.JobKind.the-variants.{Program, SmallErase}
 use Rattle.chip.specs.Fields.{withWen, withSuspended, withDeep, withArmed, withJob, withSelected, withOpcode, withPlace, withCount}
 use Rattle.chip.specs.Chip.{whole, emptyFrame, blankLoad, resting, fresh}
 use Rattle.legal.specs.Legal.{legalJob, legalCore, legalFrame, isEmpty, isBlank, legal}
-use Rattle.kinds.specs.Kinds.{SELECT, EXCHANGE, DESELECT, TICK, WP, knownIn, kindRowIn, knownKind, kindRow}
+use Rattle.kinds.specs.Kinds.{SELECT, EXCHANGE, DESELECT, TICK, WP, LOOSE, knownIn, kindRowIn, knownKind, kindRow}
+use Rattle.event.specs.Event.{applied}
 use Rattle.event.specs.Alone.{refusal}
+use Rattle.script.specs.Run.{world, runs}
 use Rattle.script.specs.Run as Run
 use Rattle.script.specs.Script.{faultAt, eventAt, walk, eventsFrom, events, firstBad, room}
 use Rattle.demands.specs.Demand2.{Rows, stopOf, verdictOf, Quiet, Ready, FreeAt}
@@ -44,8 +45,8 @@ unfolding legal legalCore legalJob legalFrame isEmpty isBlank permitted fresh
 ready-met m long = record { quiet = record { fit = record { state-legal = ap (legal enabled) long; area-short = omega arith }; resting = refl; awake = refl; unselected = refl }; idle = refl }
 
 pub free-met : (m : List ℕ) (A : ℕ) → length m ≡ 65536 → FreeAt enabled m A
-unfolding fresh protectedSector protectedCount
-free-met m A long = ap (λ (n : ℕ). protectedSector 0 false (sectorsIn n) (A % n / 65536)) long ∙ lt-leb 1 (A % 65536 / 65536) (omega arith)
+unfolding fresh protectedSectors protectedCount
+free-met m A long = ap (λ (n : ℕ). protectedSector 0 false (sectorsIn n) (A % n / 65536)) long
 
 pub stopped-met : (length (enabled .load) ≡ 256) × (enabled .core .wen ≡ true) × (stopOf (enabled .core) 0xFF ≡ 3)
 unfolding rowOf rowIn
@@ -94,11 +95,17 @@ pub bodiless-met : (body : ℕ) → (refuses 0x01 body ≡ 0) × (refuses 0x03 b
 unfolding refusal legal legalCore legalJob legalFrame isEmpty isBlank permitted fresh knownKind knownIn kindRow kindRowIn
 bodiless-met body = (refl, refl, refl, refl, refl, refl, refl)
 
--- `run-refused-when`: so does each number of a run; 65,537 ticks are too many bytes, and a deselect needs two of output
-pub run-refusals-met : (Run.refusal (fresh 0x00) 65537 0 [] 0 .number ≡ 1) × (Run.refusal (fresh 0x00) 65536 257 [] 0 .number ≡ 13) × (Run.refusal counted-to-7 65536 0 [] 0 .number ≡ 2) × (Run.refusal (fresh 0x00) 65536 0 (replicate 65537 TICK) 0 .number ≡ 3) × (Run.refusal (fresh 0x00) 65536 0 (DESELECT ∷ []) 1 .number ≡ 7)
-    × (Run.refusal (fresh 0x00) 65536 256 (DESELECT ∷ []) 2 .number ≡ 0)
+-- `run-refused-when`: so does each number of a run; 65,537 ticks are too many bytes, and a deselect needs three of output
+pub run-refusals-met : (Run.refusal (fresh 0x00) 65537 0 [] 0 .number ≡ 1) × (Run.refusal (fresh 0x00) 65536 257 [] 0 .number ≡ 13) × (Run.refusal counted-to-7 65536 0 [] 0 .number ≡ 2) × (Run.refusal (fresh 0x00) 65536 0 (replicate 65537 TICK) 0 .number ≡ 3) × (Run.refusal (fresh 0x00) 65536 0 (DESELECT ∷ []) 2 .number ≡ 7)
+    × (Run.refusal (fresh 0x00) 65536 256 (DESELECT ∷ []) 3 .number ≡ 0)
 unfolding Run.refusal firstBad room eventsFrom walk faultAt legal legalCore legalJob legalFrame isEmpty isBlank permitted fresh knownKind knownIn kindRow kindRowIn
 run-refusals-met = (refl, refl, refl, refl, refl, refl)
+
+-- the room of each kind of record: two bytes for an exchange, three for a deselect, clean or loose, though verdict 0 takes two of them (RULES, Records; Refusals)
+pub room-met : (Run.refusal (fresh 0x00) 65536 0 (EXCHANGE ∷ 0x00 ∷ []) 1 .number ≡ 7) × (Run.refusal (fresh 0x00) 65536 0 (EXCHANGE ∷ 0x00 ∷ []) 2 .number ≡ 0) × (Run.refusal (fresh 0x00) 65536 0 (LOOSE ∷ 1 ∷ []) 2 .number ≡ 7)
+    × (Run.refusal (fresh 0x00) 65536 0 (LOOSE ∷ 1 ∷ []) 3 .number ≡ 0) × ((m : List ℕ) → runs (setting 1 []) (events (DESELECT ∷ [])) (world (fresh 0x00) m [] 0) .written ≡ 0x82 ∷ 0 ∷ [])
+unfolding Run.refusal runs applied firstBad room eventsFrom walk faultAt legal legalCore legalJob legalFrame isEmpty isBlank permitted fresh knownKind knownIn kindRow kindRowIn
+room-met = (refl, refl, refl, refl, λ m. refl)
 
 -- `pieces`, `first-bad-decides`: a script without a bad event, and one for each fault
 pub scripts-met : (firstBad (events (SELECT ∷ EXCHANGE ∷ 0x06 ∷ DESELECT ∷ [])) .number ≡ 0) × (firstBad (events (TICK ∷ EXCHANGE ∷ [])) .number ≡ 4) × (firstBad (events (TICK ∷ 9 ∷ [])) .number ≡ 5) × (firstBad (events (WP ∷ 2 ∷ [])) .number ≡ 6)
@@ -106,7 +113,7 @@ unfolding firstBad eventsFrom walk faultAt knownKind knownIn kindRow kindRowIn
 scripts-met = (refl, refl, refl, refl)
 
 -- `room-cut`, `bad-first`: two pieces for which an output has room, one by one, and has none for the whole; a piece that ends in an event, which the next completes
-pub cut-met : (Run.refusal (fresh 0x00) 65536 0 (DESELECT ∷ []) 2 .number ≡ 0) × (Run.refusal (fresh 0x00) 65536 0 (DESELECT ∷ DESELECT ∷ []) 2 .number ≡ 7) × (firstBad (events (TICK ∷ EXCHANGE ∷ [])) .number ≡ 4) × (firstBad (events (TICK ∷ EXCHANGE ∷ 0x06 ∷ [])) .number ≡ 0)
+pub cut-met : (Run.refusal (fresh 0x00) 65536 0 (DESELECT ∷ []) 3 .number ≡ 0) × (Run.refusal (fresh 0x00) 65536 0 (DESELECT ∷ DESELECT ∷ []) 3 .number ≡ 7) × (firstBad (events (TICK ∷ EXCHANGE ∷ [])) .number ≡ 4) × (firstBad (events (TICK ∷ EXCHANGE ∷ 0x06 ∷ [])) .number ≡ 0)
 unfolding Run.refusal firstBad room eventsFrom walk faultAt legal legalCore legalJob legalFrame isEmpty isBlank permitted fresh knownKind knownIn kindRow kindRowIn
 cut-met = (refl, refl, refl, refl)
 
@@ -114,8 +121,8 @@ cut-met = (refl, refl, refl, refl)
 abbrev each-kind : List ℕ
 each-kind = 0x01 ∷ 0x02 ∷ 0x9F ∷ 0x03 ∷ 0x04 ∷ 0x05 ∷ 0x01 ∷ 0x02 ∷ 0x06 ∷ 0x01 ∷ 0x07 ∷ 0x08 ∷ 0x07 ∷ []
 
--- nothing is wrong with it; it has an exchange and two deselects to say, of two bytes each (RULES, Refusals)
-pub kinds-met : (firstBad (events each-kind) .number ≡ 0) × (room (events each-kind) ≡ 6) × (eventAt each-kind 5 .body ≡ 258)
+-- nothing is wrong with it; it has an exchange to say, of two bytes, and two deselects, of three each (RULES, Refusals)
+pub kinds-met : (firstBad (events each-kind) .number ≡ 0) × (room (events each-kind) ≡ 8) × (eventAt each-kind 5 .body ≡ 258)
 unfolding firstBad room eventsFrom walk faultAt knownKind knownIn kindRow kindRowIn
 kinds-met = (refl, refl, refl)
 
@@ -173,7 +180,7 @@ abbrev Suspended : Type 0
 Suspended = Rows (Gives 1 (armed (held-up Program)) 0x99 1 ∷ Gives 2 (held-up Program) 0x20 4 ∷ [])
 
 pub verdicts-met : At-once × Begun × Suspended
-unfolding rowOf rowIn fitsRule protectedSector protectedCount legal legalCore legalJob legalFrame isEmpty isBlank permitted
+unfolding rowOf rowIn fitsRule protectedSectors protectedCount legal legalCore legalJob legalFrame isEmpty isBlank permitted
 verdicts-met = (
   ((refl, refl), ((refl, refl), ((refl, refl), ((refl, refl), ((refl, refl), ((refl, refl), ((refl, refl), ((refl, refl), tt)))))))),
   ((refl, refl), ((refl, refl), ((refl, refl), ((refl, refl), ((refl, refl), ((refl, refl), ((refl, refl), ((refl, refl), tt)))))))),

@@ -1,4 +1,4 @@
--- What can refuse a script that the program runs: one of at most 4,096 bytes, fresh from status 00h, on one sector with an empty area and 8,192 bytes of output
+-- What can refuse a script that the program runs: one of at most 4,096 bytes, fresh from status 00h, on one sector with an empty area and 12,288 bytes of output
 -- (RULES, The program). Only 4, 5 and 6 can.
 use Prim.Native.Nat.{ℕ, zero, suc, _+_, _*_, _≤_}
 use mathlib.Core.Bool.{cond, _||_, true≢false}
@@ -17,19 +17,21 @@ use Rattle.demands.specs.Demand1.{RunRefusedWhen, roomNeeded}
 use Rattle.meets.specs.Meets1.{ourRun, meets-1-run}
 use Rattle.meets.specs.Met.{legal-met}
 
--- a script has no more events than bytes, and each of them asks for two bytes of output at the most
-room-most : (s : List ℕ) (fuel at : ℕ) → roomNeeded (walk fuel s at) ≤ 2 * fuel
+-- a script has no more events than bytes, and each of them asks for three bytes of output at the most
+room-most : (s : List ℕ) (fuel at : ℕ) → roomNeeded (walk fuel s at) ≤ 3 * fuel
 unfolding walk roomNeeded
 room-most s zero at = omega arith
 room-most s (suc fuel) at =
-    cond-either (λ (es : List Event). roomNeeded es ≤ 2 * suc fuel) (leb (length s) at) [] (eventAt s at ∷ walk fuel s (nextAt s at)) (λ _. omega arith)
+    cond-either (λ (es : List Event). roomNeeded es ≤ 3 * suc fuel) (leb (length s) at) [] (eventAt s at ∷ walk fuel s (nextAt s at)) (λ _. omega arith)
     (λ _. more (eventAt s at .kind) (room-most s fuel (nextAt s at)))
   where
-    more : (kind : ℕ) {rest : ℕ} → rest ≤ 2 * fuel → cond (eqb kind 0x02 || eqb kind 0x03 || eqb kind 0x08) 2 0 + rest ≤ 2 * suc fuel
-    more kind {rest} h = cond-either (λ (room : ℕ). room + rest ≤ 2 * suc fuel) (eqb kind 0x02 || eqb kind 0x03 || eqb kind 0x08) 2 0 (λ _. omega arith) (λ _. omega arith)
+    more : (kind : ℕ) {rest : ℕ} → rest ≤ 3 * fuel → cond (eqb kind 0x02) 2 (cond (eqb kind 0x03 || eqb kind 0x08) 3 0) + rest ≤ 3 * suc fuel
+    more kind {rest} h =
+        cond-either (λ (room : ℕ). room + rest ≤ 3 * suc fuel) (eqb kind 0x02) _ _ (λ _. omega arith)
+        (λ _. cond-either (λ (room : ℕ). room + rest ≤ 3 * suc fuel) (eqb kind 0x03 || eqb kind 0x08) _ _ (λ _. omega arith) (λ _. omega arith))
 
--- so twice the script's length is room enough
-pub room-enough : (s : List ℕ) → roomNeeded (events s) ≤ 2 * length s
+-- so three times the script's length is room enough
+pub room-enough : (s : List ℕ) → roomNeeded (events s) ≤ 3 * length s
 unfolding eventsFrom
 room-enough s = room-most s (length s) 0
 
@@ -41,7 +43,7 @@ pub record OnlyBadEvents (number : ℕ) : Type 0 where
   pub script-fine : number ≡ 3 → ⊥
   pub room-fine : number ≡ 7 → ⊥
 
-pub program-refusals : (m s out : List ℕ) → length m ≡ 65536 → length s ≤ 4096 → 8192 ≤ length out → OnlyBadEvents (ourRun (fresh 0x00) m [] s out .refusal)
+pub program-refusals : (m s out : List ℕ) → length m ≡ 65536 → length s ≤ 4096 → 12288 ≤ length out → OnlyBadEvents (ourRun (fresh 0x00) m [] s out .refusal)
 unfolding permitted
 program-refusals m s out one-sector short roomy =
     let when : RunRefusedWhen (ourRun (fresh 0x00) m [] s out .refusal) (ourRun (fresh 0x00) m [] s out .offset) (fresh 0x00) (length m) 0 s (length out) = meets-1-run .numbers (fresh 0x00) m [] s out in

@@ -9,18 +9,20 @@ use lib.Dec.{eqb}
 use borrow.Author.Tests.{ne-eqb}
 use Rattle.cells.specs.Choice.{cond-yes, cond-no, not-so}
 use Rattle.part.specs.Part.{permitted, sectorsIn, lengthOf, page, smallSector, sector, roundedDown}
-use Rattle.part.specs.Protection.{protectedSector}
-use Rattle.part.specs.Laws.{permitted-whole}
+use Rattle.part.specs.Protection.{protectedCount, protectedSector, anyProtected}
+use Rattle.part.specs.Laws.{permitted-whole, permitted-some, any-by-level}
 use Rattle.commands.specs.Table.{rowOf, fitsRule, isRead, isProgram}
 use Rattle.chip.specs.declared.Core.{Core}
 use Rattle.chip.specs.declared.Frame.{Frame}
 use Rattle.chip.specs.Fields.{withArmed}
 use Rattle.chip.specs.Job.{isJob, hasCells}
 use Rattle.chip.specs.Chip.{running}
+use Rattle.chip.specs.Record.{recordBytes}
 use Rattle.frame.specs.Frame.{judge}
-use Rattle.verdict.specs.Verdict.{jobOf, startOf, pointless, jobVerdict, commandVerdict, listed, verdict}
+use Rattle.verdict.specs.Verdict.{jobOf, startOf, pointless, jobVerdict, commandVerdict, listed, verdict, recordOf}
 use Rattle.verdict.specs.Effect.{acted, settled}
-use Rattle.demands.specs.Demand2.{among, inOneSector, ofTheChip, changesCells, beginsJob, verdictOf}
+use Rattle.verdict.specs.Laws.{record-plain, record-nine}
+use Rattle.demands.specs.Demand2.{among, inOneSector, ofTheChip, changesCells, beginsJob, verdictOf, saysVerdict}
 
 -- ---- the commands that begin a job
 
@@ -47,7 +49,7 @@ job-each P p₁ p₂ p₃ p₄ p₅ p₆ p₇ p₈ other opcode =
 
 -- ---- from test 12 on
 
-module _ (n : ℕ) (whole-sectors : lengthOf (sectorsIn n) ≡ n) (k : Core) (address : ℕ) where
+module _ (n : ℕ) (p : permitted n ≡ true) (k : Core) (address : ℕ) where
   -- the definitions' job verdict, and the end of the list, for an opcode
   abbrev defined : ℕ → ℕ
   defined opcode =
@@ -70,7 +72,14 @@ module _ (n : ℕ) (whole-sectors : lengthOf (sectorsIn n) ≡ n) (k : Core) (ad
   -- a job's place lies in the sector of its address
   same-sector : (size : ℕ) → roundedDown size (address % lengthOf (sectorsIn n)) / sector ≡ address % lengthOf (sectorsIn n) / sector
       → ofSector (roundedDown size (address % lengthOf (sectorsIn n)) / sector) ≡ ofSector (address % n / 65536)
-  same-sector size same = ap ofSector (same ∙ ap (λ (q : ℕ). address % q / 65536) whole-sectors)
+  same-sector size same = ap ofSector (same ∙ ap (λ (q : ℕ). address % q / 65536) (permitted-whole n p))
+
+  -- a chip erase is kept off by every level but 0
+  abbrev ofChip : Bool → ℕ
+  ofChip kept-off = cond (k .suspended && not (k .wen)) 12 (cond (not (k .wen)) 8 (cond kept-off 9 2))
+
+  by-level : ofChip (anyProtected (k .level) (k .tb) (sectorsIn n)) ≡ ofChip (not (eqb (k .level) 0))
+  by-level = ap ofChip (any-by-level (k .level) (k .tb) (sectorsIn n) (permitted-some n p))
 
   job-part : (opcode : ℕ) → defined opcode ≡ inList opcode
   unfolding jobOf jobVerdict isProgram
@@ -82,8 +91,8 @@ module _ (n : ℕ) (whole-sectors : lengthOf (sectorsIn n) ≡ n) (k : Core) (ad
       (same-sector smallSector (omega arith))
       (same-sector smallSector (omega arith))
       (same-sector sector (omega arith))
-      refl
-      refl
+      by-level
+      by-level
       none
     where
       status : defined 0x01 ≡ inList 0x01
@@ -113,11 +122,11 @@ pub verdict-as : (n : ℕ) (k : Core) (f : Frame) (loose : Bool) → permitted n
 unfolding verdict listed commandVerdict judge
 verdict-as n k f loose p =
     ap (λ (v : ℕ). cond (eqb (f .count) 0) 0 (cond (not (eqb (f .judgement) 0)) (f .judgement) v))
-    (ap (above (isRead (f .opcode))) (job-part n (permitted-whole n p) k (f .address) (f .opcode))
-    ∙ ap (λ (i : Bool). above i (inList n (permitted-whole n p) k (f .address) (f .opcode))) (read-among (f .opcode))
+    (ap (above (isRead (f .opcode))) (job-part n p k (f .address) (f .opcode))
+    ∙ ap (λ (i : Bool). above i (inList n p k (f .address) (f .opcode))) (read-among (f .opcode))
     ∙ go (rowOf (f .opcode) .known) (k .deep && not (eqb (f .opcode) 0xAB)) (running k && not (rowOf (f .opcode) .running)) (k .suspended && not (rowOf (f .opcode) .suspended))
     (eqb (f .opcode) 0xB0 && not (running k && hasCells (k .job .kind))) (eqb (f .opcode) 0x30 && not (k .suspended)) (eqb (f .opcode) 0x99 && not (k .armed))
-    (among (0x05 ∷ 0x03 ∷ 0x0B ∷ 0x9F ∷ 0x5A ∷ []) (f .opcode)) (loose || not (fitsRule (rowOf (f .opcode) .rule) (f .count))) (inList n (permitted-whole n p) k (f .address) (f .opcode)))
+    (among (0x05 ∷ 0x03 ∷ 0x0B ∷ 0x9F ∷ 0x5A ∷ []) (f .opcode)) (loose || not (fitsRule (rowOf (f .opcode) .rule) (f .count))) (inList n p k (f .address) (f .opcode)))
   where
     above : Bool → ℕ → ℕ
     above read v =
@@ -145,3 +154,13 @@ verdict-judged S k f loose c j = cond-no (eqb (f .count) 0) _ _ (ne-eqb _ _ c) �
 pub settled-acts : (S : ℕ) (k : Core) (f : Frame) (loose : Bool) (v : ℕ) → verdict S k f loose ≡ v → (v ≡ 0 → ⊥) → settled S k f v ≡ withArmed (eqb (f .opcode) 0x66 && eqb v 1) (acted S k f v)
 unfolding verdict settled
 settled-acts S k f loose v is some = cond-no (eqb (f .count) 0) _ _ (not-so (eqb (f .count) 0) (λ none. some (sym is ∙ cond-yes (eqb (f .count) 0) _ _ none)))
+
+-- ---- what is said of a verdict
+
+-- The record of a verdict has the bytes of Demand 2; where verdict 9 falls there are sectors to tell.
+pub record-says : (n : ℕ) (k : Core) (v : ℕ) → (v ≡ 9 → protectedCount (k .level) (sectorsIn n) ≡ 0 → ⊥) → recordBytes (recordOf (sectorsIn n) k v) ≡ saysVerdict n k v
+record-says n k v finds = go (ℕ-discrete v 9)
+  where
+    go : Dec (v ≡ 9) → recordBytes (recordOf (sectorsIn n) k v) ≡ saysVerdict n k v
+    go (yes nine) = ap (λ (u : ℕ). recordBytes (recordOf (sectorsIn n) k u)) nine ∙ ap recordBytes (record-nine (sectorsIn n) k (finds nine)) ∙ sym (ap (saysVerdict n k) nine)
+    go (no other) = ap recordBytes (record-plain (sectorsIn n) k v other) ∙ sym (cond-no (eqb v 9) _ _ (ne-eqb v 9 other))

@@ -7,7 +7,7 @@ use native.Mathlib.Omega.{arith}
 use lib.ListN.{length, getD, replicate}
 use Rattle.cells.specs.Cells.{sweep, image, imageFrom}
 use Rattle.part.specs.Part.{permitted}
-use Rattle.part.specs.Protection.{protectedCount, protectedSector}
+use Rattle.part.specs.Protection.{protectedCount, protectedSectors}
 use Rattle.commands.specs.Table.{rowOf, rowIn, fitsRule, isRead, isProgram}
 use Rattle.kinds.specs.Kinds.{knownIn, kindRowIn, knownKind, kindRow, inRange}
 use Rattle.chip.specs.declared.Chip.{Chip}
@@ -20,7 +20,7 @@ use Rattle.chip.specs.Chip.{whole, resting, emptyFrame, blankLoad, running}
 use Rattle.legal.specs.Legal.{legalJob, legalCore, legalFrame, isEmpty, isBlank, legal}
 use Rattle.job.specs.Tick.{tickCore, ticksCore, tickLoad, ticksLoad, tickMemory, ticksMemory, worked}
 use Rattle.frame.specs.Frame.{judge, taken, exchanged}
-use Rattle.verdict.specs.Verdict.{jobOf, jobVerdict, commandVerdict, listed, verdict}
+use Rattle.verdict.specs.Verdict.{jobOf, jobVerdict, commandVerdict, listed, verdict, recordOf}
 use Rattle.verdict.specs.Effect.{instantly, acted, settled, heldAfter}
 use Rattle.event.specs.Event.{applied}
 use Rattle.event.specs.Alone.{bodyUsed, refusal, happens, answerOf, memoryOf, saidOf}
@@ -178,7 +178,7 @@ pub record WrongAsAWhole : Type 0 where
 
 -- The demands refute them.
 pub wrong-as-a-whole : WrongAsAWhole
-unfolding answerOf memoryOf saidOf happens refusal bodyUsed legal legalCore legalJob legalFrame isEmpty isBlank permitted knownKind knownIn kindRow kindRowIn applied exchanged taken judge rowOf rowIn isProgram verdict listed isRead commandVerdict jobVerdict jobOf fitsRule settled acted heldAfter instantly protectedSector protectedCount ticksCore tickCore tickLoad ticksLoad tickMemory ticksMemory worked sweep image imageFrom runsBy workedBy AllGood AllSpare AllInside AllBytes bytesOf
+unfolding answerOf memoryOf saidOf happens refusal bodyUsed legal legalCore legalJob legalFrame isEmpty isBlank permitted knownKind knownIn kindRow kindRowIn applied exchanged taken judge rowOf rowIn isProgram verdict recordOf listed isRead commandVerdict jobVerdict jobOf fitsRule settled acted heldAfter instantly protectedSectors protectedCount ticksCore tickCore tickLoad ticksLoad tickMemory ticksMemory worked sweep image imageFrom runsBy workedBy AllGood AllSpare AllInside AllBytes bytesOf
 wrong-as-a-whole =
     record {
       ignores-all = λ d. false≢true (ap (λ (k : Core). k .wen) (d .0 enabling (cells 0) [] 0x03 0 false (ending enabling refl refl) refl refl .0));
@@ -224,7 +224,7 @@ early = sends (0 ∷ 0 ∷ 0 ∷ []) ++ (event 0x04 0 ∷ [])
 
 -- The demands refute them.
 pub look-right : LookRight
-unfolding answerOf memoryOf saidOf happens refusal bodyUsed legal legalCore legalJob legalFrame isEmpty isBlank permitted knownKind knownIn kindRow kindRowIn applied exchanged taken judge rowOf rowIn isProgram verdict listed isRead commandVerdict jobVerdict jobOf fitsRule settled acted heldAfter instantly protectedSector protectedCount ticksCore tickCore tickLoad ticksLoad tickMemory ticksMemory worked sweep image imageFrom runsBy workedBy AllGood AllSpare AllInside AllBytes bytesOf
+unfolding answerOf memoryOf saidOf happens refusal bodyUsed legal legalCore legalJob legalFrame isEmpty isBlank permitted knownKind knownIn kindRow kindRowIn applied exchanged taken judge rowOf rowIn isProgram verdict recordOf listed isRead commandVerdict jobVerdict jobOf fitsRule settled acted heldAfter instantly protectedSectors protectedCount ticksCore tickCore tickLoad ticksLoad tickMemory ticksMemory worked sweep image imageFrom runsBy workedBy AllGood AllSpare AllInside AllBytes bytesOf
 look-right =
     record {
       lays-from-page-start = λ d. absurd (omega (arith, d (unselected enabled) (cells 0) [] ready refl .program 0x02 250 0 (counted 1 259) refl refl (omega arith) (all-bytes 0 260) refl .1 .last-stay 4 (omega arith) (omega arith)));
@@ -274,7 +274,7 @@ pub record EarlierVersions : Type 0 where
 
 -- The demands refute them.
 pub earlier-versions : EarlierVersions
-unfolding answerOf memoryOf saidOf happens refusal bodyUsed legal legalCore legalJob legalFrame isEmpty isBlank permitted knownKind knownIn kindRow kindRowIn applied exchanged taken judge rowOf rowIn isProgram verdict listed isRead commandVerdict jobVerdict jobOf fitsRule settled acted heldAfter instantly protectedSector protectedCount ticksCore tickCore tickLoad ticksLoad tickMemory ticksMemory worked sweep image imageFrom runsBy workedBy AllGood AllSpare AllInside AllBytes bytesOf
+unfolding answerOf memoryOf saidOf happens refusal bodyUsed legal legalCore legalJob legalFrame isEmpty isBlank permitted knownKind knownIn kindRow kindRowIn applied exchanged taken judge rowOf rowIn isProgram verdict recordOf listed isRead commandVerdict jobVerdict jobOf fitsRule settled acted heldAfter instantly protectedSectors protectedCount ticksCore tickCore tickLoad ticksLoad tickMemory ticksMemory worked sweep image imageFrom runsBy workedBy AllGood AllSpare AllInside AllBytes bytesOf
 earlier-versions =
     record {
       first-reads = λ d. absurd (omega (arith, second-byte (d (unselected resting) (cells 0) [] (quiet resting refl refl refl) .low-power 65535 (omega arith) .byte-driven (event 0x02 0 ∷ []) (((refl, refl), refl), tt) 0 (omega arith))));

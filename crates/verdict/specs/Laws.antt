@@ -1,16 +1,17 @@
 -- What is true of verdicts: what 1, 2 and 9 say of the frame and the state, what is said of them, and that the others change no job and no status bit.
 use Prim.Native.Nat.{ℕ, _-_, _/_, _≤_}
 use mathlib.Core.Bool.{Bool, true, false, cond, not, _&&_, _||_, false≢true}
-use mathlib.Core.List.{List}
+use mathlib.Core.List.{List, [], _∷_}
 use mathlib.Core.Path.{_≡_, refl, sym, ap, subst, _∙_}
 use native.Mathlib.Omega.{arith}
 use native.Mathlib.Decide.{ℕ-discrete}
 use lib.Dec.{eqb}
+use lib.ListN.{length, getD}
 use borrow.Author.Tests.{eq-eqb, ne-eqb, eqb-true}
 use Rattle.cells.specs.Choice.{cond-yes, cond-no, cond-either, and-left, and-right, and-both, not-so}
 use Rattle.part.specs.Part.{sector}
 use Rattle.part.specs.declared.Protected.{Protected}
-use Rattle.part.specs.declared.Protected.the-variants.{NoSector}
+use Rattle.part.specs.declared.Protected.the-variants.{NoSector, Sectors}
 use Rattle.part.specs.Protection.{protectedCount, protectedSectors, protects, protectsAny, protectedSector}
 use Rattle.part.specs.Laws.{no-ends, two-ends}
 use Rattle.commands.specs.Table.{rowOf, fitsRule, isRead, isProgram, writeEnable, writeDisable, suspend, resume, wake, deepPowerDown, reset}
@@ -23,6 +24,7 @@ use Rattle.chip.specs.declared.Record.the-variants.{Verdict, InTheWay}
 use Rattle.chip.specs.Fields.{withWen, withSuspended, withDeep}
 use Rattle.chip.specs.Job.{isJob, hasCells}
 use Rattle.chip.specs.Chip.{bitsOf, blankLoad}
+use Rattle.chip.specs.Record.{recordBytes}
 use Rattle.legal.specs.Legal.{judgementKnown}
 use Rattle.frame.specs.Frame.{judge}
 use Rattle.frame.specs.Legality.{judge-known}
@@ -175,7 +177,20 @@ pub record-plain : (S : ℕ) (k : Core) (v : ℕ) → (v ≡ 9 → ⊥) → reco
 unfolding recordOf
 record-plain S k v other = cond-no (eqb v 9) _ _ (ne-eqb _ _ other)
 
--- and that of 9 the two ends of what is protected, where something is
+-- so 82h and a number tell that verdict and no other
+pub record-tells : (S : ℕ) (k : Core) (u v : ℕ) → recordBytes (recordOf S k u) ≡ 0x82 ∷ v ∷ [] → u ≡ v
+unfolding recordOf
+record-tells S k u v = go (ℕ-discrete u 9)
+  where
+    at : (range : Protected) → recordBytes (inTheWay range) ≡ 0x82 ∷ v ∷ [] → 9 ≡ v
+    at NoSector e = ap (λ (bytes : List ℕ). getD bytes 1 0) e
+    at (Sectors first last) e = let longer : _≡_ {A = ℕ} 3 2 = ap length e in absurd (omega arith)
+
+    go : Dec (u ≡ 9) → recordBytes (recordOf S k u) ≡ 0x82 ∷ v ∷ [] → u ≡ v
+    go (yes nine) e = nine ∙ at (protectedSectors (k .level) (k .tb) S) (sym (ap (λ (w : ℕ). recordBytes (recordOf S k w)) nine) ∙ e)
+    go (no other) e = ap (λ (bytes : List ℕ). getD bytes 1 0) (sym (ap recordBytes (record-plain S k u other)) ∙ e)
+
+-- and the record of 9 is the two ends of what is protected, where something is
 pub record-nine : (S : ℕ) (k : Core) → (protectedCount (k .level) S ≡ 0 → ⊥)
     → recordOf S k 9 ≡ InTheWay (cond (k .tb) 0 (S - protectedCount (k .level) S)) (cond (k .tb) (protectedCount (k .level) S - 1) (S - 1))
 unfolding recordOf
