@@ -24,14 +24,15 @@ use Rattle.verdict.specs.Verdict.{jobOf, jobVerdict, commandVerdict, listed, ve
 use Rattle.verdict.specs.Effect.{instantly, acted, settled, heldAfter}
 use Rattle.event.specs.Event.{applied}
 use Rattle.event.specs.Alone.{bodyUsed, refusal, happens, answerOf, memoryOf, saidOf}
-use Rattle.script.specs.Script.{Event}
+use Rattle.script.specs.Script.{Event, faultAt, walk, eventsFrom, firstBad, room}
 use Rattle.script.specs.Run.{World, world}
-use Rattle.demands.specs.Model.{Model, event, sends, address, AllGood, Fit, runsBy, workedBy}
-use Rattle.demands.specs.Demand1.{Demand1}
+use Rattle.script.specs.Run as Run
+use Rattle.demands.specs.Model.{Model, ours, event, sends, address, AllGood, Fit, runsBy, workedBy}
+use Rattle.demands.specs.Demand1.{Demand1, roomNeeded, Demand1Run}
 use Rattle.demands.specs.Moments.{Demand2Gives, Demand2Does, Demand2Begins, Demand2LeavesWen, Demand2Reads, Demand2Loads, Demand2Stops, Demand3Starts, Demand3At, Demand3End, Demand3Counts, Demand3Reports}
 use Rattle.demands.specs.Demand2.{Ending, Quiet, Ready, AllInside, bytesOf, AllBytes, on-a-byte}
 use Rattle.demands.specs.Demand3.{Spares, AllSpare, Spared}
-use Rattle.refuted.specs.Wrong.{ignoresAll, refusesEvents, refusesCommands, readsBlank, ticksIdle, wholeJobAtOnce, inventsTicks, laysFromPageStart, laysFromAddress, storesBytes, nineTenCostWen, spoiltLoads, answersLate, firstReads, firstLoads, secondLoads, secondWen, thirdErases, thirdSuspends}
+use Rattle.refuted.specs.Wrong.{ignoresAll, refusesEvents, refusesCommands, readsBlank, ticksIdle, wholeJobAtOnce, inventsTicks, laysFromPageStart, laysFromAddress, storesBytes, nineTenCostWen, spoiltLoads, answersLate, keepsNine, swapsEnds, endsLate, tellsTarget, chipEraseTellsAll, deselects, twoADeselect, firstReads, firstLoads, secondLoads, secondWen, thirdErases, thirdSuspends}
 
 -- ---- the moments
 
@@ -258,6 +259,54 @@ look-right =
             ),
           );
         }
+
+-- ---- wrong ways to say which sectors were in the way
+
+-- a blank part of two sectors; a chip on it with all protected, at the deselect of a 20h frame for sector 1; one with its top sector protected, at that of a chip erase
+abbrev two-sectors : List ℕ
+two-sectors = replicate 131072 0xFF
+
+abbrev all-protected : Chip
+all-protected = within (withLevel 2 enabled) (sent 0x20 0x010000 4)
+
+abbrev top-protected : Chip
+top-protected = within (withLevel 1 enabled) (sent 0x60 0 1)
+
+ending-there : (c : Chip) → legal c 131072 ≡ true → c .frame .selected ≡ true → Ending c two-sectors [] 0x03 0 false
+ending-there c l s = record { fit = record { state-legal = ap (legal c) long ∙ l; area-short = omega arith }; selected = s; closing = on-a-byte 0 }
+  where
+    long : length two-sectors ≡ 131072
+    long = refl
+
+pub record InTheWay : Type 0 where
+  -- of an erase in sector 1, where 0 and 1 are protected, it is told verdict 9 and no sectors; 1 and 0; 0 and 2; 1 and 1
+  pub keeps-nine : Demand2Gives 9 keepsNine → ⊥
+  pub swaps-ends : Demand2Gives 9 swapsEnds → ⊥
+  pub ends-late : Demand2Gives 9 endsLate → ⊥
+  pub tells-target : Demand2Gives 9 tellsTarget → ⊥
+  -- of a chip erase, where sector 1 alone is protected, 0 and 1
+  pub chip-erase-tells-all : Demand2Gives 9 chipEraseTellsAll → ⊥
+  -- two bytes of output are enough for a deselect
+  pub two-a-deselect : Demand1Run ours twoADeselect → ⊥
+
+-- The demands refute them.
+pub in-the-way : InTheWay
+unfolding answerOf memoryOf saidOf happens refusal bodyUsed legal legalCore legalJob legalFrame isEmpty isBlank permitted knownKind knownIn kindRow kindRowIn applied exchanged taken judge rowOf rowIn isProgram verdict recordOf listed isRead commandVerdict jobVerdict jobOf fitsRule settled acted heldAfter instantly protectedSectors protectedCount ticksCore tickCore tickLoad ticksLoad tickMemory ticksMemory worked sweep image imageFrom runsBy workedBy AllGood AllSpare AllInside AllBytes bytesOf deselects Run.answerOf Run.refusal firstBad room roomNeeded eventsFrom walk faultAt
+in-the-way =
+    record {
+      keeps-nine = λ d. absurd (omega (arith, first-byte (d all-protected two-sectors [] 0x03 0 false (ending-there all-protected refl refl) refl)));
+      swaps-ends = λ d. absurd (omega (arith, second-of-three (d all-protected two-sectors [] 0x03 0 false (ending-there all-protected refl refl) refl)));
+      ends-late = λ d. absurd (omega (arith, third-byte (d all-protected two-sectors [] 0x03 0 false (ending-there all-protected refl refl) refl)));
+      tells-target = λ d. absurd (omega (arith, second-of-three (d all-protected two-sectors [] 0x03 0 false (ending-there all-protected refl refl) refl)));
+      chip-erase-tells-all = λ d. absurd (omega (arith, second-of-three (d top-protected two-sectors [] 0x03 0 false (ending-there top-protected refl refl) refl)));
+      two-a-deselect = λ d. absurd (omega (arith, d .numbers (unselected resting) (cells 0) [] (0x03 ∷ []) (0 ∷ 0 ∷ []) .none .0 refl .2));
+    }
+  where
+    second-of-three : {t t′ a a′ b b′ : ℕ} → t ∷ a ∷ b ∷ [] ≡ t′ ∷ a′ ∷ b′ ∷ [] → a ≡ a′
+    second-of-three e = ap (λ (says : List ℕ). getD says 1 0) e
+
+    third-byte : {t t′ a a′ b b′ : ℕ} → t ∷ a ∷ b ∷ [] ≡ t′ ∷ a′ ∷ b′ ∷ [] → b ≡ b′
+    third-byte e = ap (λ (says : List ℕ). getD says 2 0) e
 
 -- ---- our three earlier versions
 

@@ -1,9 +1,9 @@
 -- Wrong models of the part: each is ours with one thing changed, so that nothing else can be what refutes it. `Refuted` has the theorems.
-use Prim.Native.Nat.{ℕ, zero, suc, _+_, _*_, _%_, _-_}
+use Prim.Native.Nat.{ℕ, zero, suc, _+_, _*_, _/_, _%_, _-_}
 use mathlib.Core.Bool.{Bool, true, false, cond, not, _&&_, _||_}
-use mathlib.Core.List.{List, [], _∷_}
+use mathlib.Core.List.{List, [], _∷_, _++_}
 use lib.Dec.{eqb, ltb}
-use lib.ListN.{length, getD}
+use lib.ListN.{length, getD, take, replicate}
 use Rattle.cells.specs.Cells.{Rule, sweep, later}
 use Rattle.part.specs.Part.{sectorsIn}
 use Rattle.chip.specs.declared.Chip.{Chip}
@@ -14,7 +14,11 @@ use Rattle.chip.specs.declared.JobKind.the-variants.{Idle, WriteStatus, Program
 use Rattle.chip.specs.Fields.{withWen, withArmed, withJudgement}
 use Rattle.chip.specs.Chip.{whole, running}
 use Rattle.chip.specs.Job.{isJob, total}
+use Rattle.script.specs.declared.Ran.{Ran}
+use Rattle.script.specs.Script.{Event, events}
+use Rattle.script.specs.Run.{answerOf, memoryOf, outputOf}
 use Rattle.demands.specs.Model.{Reply, Model, ours}
+use Rattle.demands.specs.Demand1.{Runner}
 
 -- ---- how a model is changed
 
@@ -60,12 +64,19 @@ drives says = eqb (getD says 0 0) 0x81
 abbrev pub ends : ℕ → Chip → List ℕ → Bool
 ends v c says = c .frame .selected && eqb (getD says 0 0) 0x82 && eqb (getD says 1 0) v
 
--- programs, erases and reads of cells
+-- a frame ends with verdict 9, and the protected sectors are told
+abbrev pub tellsSectors : Chip → List ℕ → Bool
+tellsSectors c says = c .frame .selected && eqb (getD says 0 0) 0x83
+
+-- programs, chip erases, erases and reads of cells
 abbrev pub programs : Chip → Bool
 programs c = eqb (c .frame .opcode) 0x02 || eqb (c .frame .opcode) 0x0A
 
+abbrev pub ofChip : Chip → Bool
+ofChip c = eqb (c .frame .opcode) 0x60 || eqb (c .frame .opcode) 0xC7
+
 abbrev pub erases : Chip → Bool
-erases c = eqb (c .frame .opcode) 0x20 || eqb (c .frame .opcode) 0xD7 || eqb (c .frame .opcode) 0xD8 || eqb (c .frame .opcode) 0x60 || eqb (c .frame .opcode) 0xC7
+erases c = eqb (c .frame .opcode) 0x20 || eqb (c .frame .opcode) 0xD7 || eqb (c .frame .opcode) 0xD8 || ofChip c
 
 abbrev pub readsCells : Chip → Bool
 readsCells c = eqb (c .frame .opcode) 0x03 || eqb (c .frame .opcode) 0x0B
@@ -161,7 +172,7 @@ abbrev pub costsWen : (Chip → List ℕ → Bool) → Model
 costsWen here = except (λ c kind says. here c says && not (isJob (c .core .job .kind))) (λ c m area kind body. let r : Reply = ours c m area kind body in leaving (withCore (withWen false (r .chip .core)) (r .chip)) r)
 
 abbrev pub nineTenCostWen : Model
-nineTenCostWen = costsWen (λ c says. ends 9 c says || ends 10 c says)
+nineTenCostWen = costsWen (λ c says. tellsSectors c says || ends 10 c says)
 
 -- a spoiled program frame, sent in suspension, overwrites the suspended job's load
 abbrev pub spoiltLoads : Model
@@ -174,6 +185,52 @@ abbrev pub answersLate : Model
 answersLate =
     except (λ c kind says. eqb kind 0x02 && eqb (c .frame .judgement) 6 && readsCells c && not (running (c .core)))
     (λ c m area kind body. ours (whole (c .core) (withJudgement 0 (c .frame)) (c .load) (c .held)) m area kind body)
+
+-- ---- wrong ways to say which sectors were in the way
+
+-- another record where verdict 9 falls, made from the right one
+abbrev pub tells : (Chip → List ℕ → List ℕ → List ℕ) → Model
+tells other = except (λ c kind says. tellsSectors c says) (λ c m area kind body. let r : Reply = ours c m area kind body in saying (other c m (r .says)) r)
+
+-- 82h and the verdict, as before
+abbrev pub keepsNine : Model
+keepsNine = tells (λ c m says. 0x82 ∷ 9 ∷ [])
+
+-- the last sector first
+abbrev pub swapsEnds : Model
+swapsEnds = tells (λ c m says. 0x83 ∷ getD says 2 0 ∷ getD says 1 0 ∷ [])
+
+-- one sector too many: the count where the count less one belongs
+abbrev pub endsLate : Model
+endsLate = tells (λ c m says. 0x83 ∷ getD says 1 0 ∷ suc (getD says 2 0) ∷ [])
+
+-- the protected sectors under the target, and no other; a chip erase's are all of them
+abbrev pub tellsTarget : Model
+tellsTarget =
+    tells (λ c m says. cond (ofChip c) says (let x : ℕ = c .frame .address % length m / 65536 in 0x83 ∷ x ∷ x ∷ []))
+
+-- for a chip erase every sector of the part, whatever the level
+abbrev pub chipEraseTellsAll : Model
+chipEraseTellsAll = tells (λ c m says. cond (ofChip c) (0x83 ∷ 0 ∷ (sectorsIn (length m) - 1) ∷ []) says)
+
+-- a run that asks for two bytes of output a deselect: for one byte less each than ours
+unfoldable pub deselects : List Event → ℕ
+deselects [] = 0
+deselects (e ∷ es) = cond (eqb (e .kind) 0x03 || eqb (e .kind) 0x08) 1 0 + deselects es
+
+abbrev pub twoADeselect : Runner
+twoADeselect c m area s out =
+    let more : List ℕ = out ++ replicate (deselects (events s)) 0 in
+    let r : Ran = answerOf c m area s more in
+    record {
+      chip = r .chip;
+      memory = memoryOf c m area s more;
+      output = take (length out) (outputOf c m area s more);
+      refusal = r .refusal;
+      offset = r .offset;
+      written = r .written;
+      ticks = r .ticks;
+    }
 
 -- ---- our three earlier versions
 
@@ -194,7 +251,7 @@ secondLoads =
 
 -- the second: a program that is refused costs WEN
 abbrev pub secondWen : Model
-secondWen = costsWen (λ c says. c .frame .selected && programs c && eqb (getD says 0 0) 0x82 && ltb 2 (getD says 1 0))
+secondWen = costsWen (λ c says. c .frame .selected && programs c && (eqb (getD says 0 0) 0x82 && ltb 2 (getD says 1 0) || tellsSectors c says))
 
 -- the third: an erase is done in the moment that begins it
 abbrev pub thirdErases : Model
