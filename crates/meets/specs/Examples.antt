@@ -1,5 +1,5 @@
 -- Ten worked examples, P1 to P10, proved of the definitions: each a claim, all of them rows under one theorem, `worked-examples`.
-use Prim.Native.Nat.{ℕ, zero, suc, _%_, _<_, _≤_}
+use Prim.Native.Nat.{ℕ, zero, suc, _+_, _%_, _<_, _≤_}
 use mathlib.Core.Bool.{Bool, true, false}
 use mathlib.Core.List.{List, [], _∷_, _++_}
 use mathlib.Core.Path.{_≡_, refl, sym, ap, subst, _∙_}
@@ -7,12 +7,13 @@ use mathlib.Core.Logic.{inr}
 use native.Mathlib.Nat.{zero-add, add-zero}
 use native.Mathlib.Omega.{arith}
 use lib.Bits.{bitAnd}
-use lib.ListN.{length, getD}
+use lib.ListN.{length, getD, drop}
 use Rattle.cells.specs.Cells.{sweep, later, blanked, anded}
 use Rattle.cells.specs.Laws.{sweep-changes, sweep-outside}
 use Rattle.part.specs.Part.{Setting, setting}
 use Rattle.kinds.specs.Kinds.{SELECT, EXCHANGE, DESELECT, TICK, TICKS, knownIn, kindRowIn, knownKind, kindRow}
 use Rattle.commands.specs.Table.{rowOf, rowIn, fitsRule, isRead, isProgram}
+use Rattle.part.specs.declared.Protected.the-variants.{NoSector, Sectors}
 use Rattle.part.specs.Protection.{protectedCount, protectedSectors, protectedSector}
 use Rattle.chip.specs.declared.Core.{Core}
 use Rattle.chip.specs.declared.Frame.{Frame}
@@ -305,6 +306,44 @@ p3 m =
 -- P1 to P10 hold of the definitions.
 pub worked-examples : Rows (P1 ∷ P2 ∷ P3 ∷ P4 ∷ P5 ∷ P6 ∷ P7 ∷ P8 ∷ P9 ∷ P10 ∷ [])
 worked-examples = (p1, (p2, (p3, (p4, (p5, (p6, (p7, (p8, (p9, (p10, tt))))))))))
+
+-- ---- which sectors were in the way (RULES, Protection; Records)
+
+-- the real part's protected sectors, level by level: its top ones with TB 0, its bottom ones with TB 1
+pub real-part-sectors : Rows
+    ((protectedSectors 0 false 32 ≡ NoSector)
+    ∷ (protectedSectors 1 false 32 ≡ Sectors 31 31)
+    ∷ (protectedSectors 2 false 32 ≡ Sectors 30 31)
+    ∷ (protectedSectors 3 false 32 ≡ Sectors 28 31)
+    ∷ (protectedSectors 4 false 32 ≡ Sectors 24 31)
+    ∷ (protectedSectors 5 false 32 ≡ Sectors 16 31)
+    ∷ (protectedSectors 6 false 32 ≡ Sectors 0 31)
+    ∷ (protectedSectors 7 false 32 ≡ Sectors 0 31)
+    ∷ (protectedSectors 0 true 32 ≡ NoSector)
+    ∷ (protectedSectors 1 true 32 ≡ Sectors 0 0)
+    ∷ (protectedSectors 2 true 32 ≡ Sectors 0 1)
+    ∷ (protectedSectors 3 true 32 ≡ Sectors 0 3)
+    ∷ (protectedSectors 4 true 32 ≡ Sectors 0 7)
+    ∷ (protectedSectors 5 true 32 ≡ Sectors 0 15)
+    ∷ (protectedSectors 6 true 32 ≡ Sectors 0 31)
+    ∷ (protectedSectors 7 true 32 ≡ Sectors 0 31)
+    ∷ [])
+unfolding protectedSectors protectedCount
+real-part-sectors = (refl, (refl, (refl, (refl, (refl, (refl, (refl, (refl, (refl, (refl, (refl, (refl, (refl, (refl, (refl, (refl, tt))))))))))))))))
+
+-- write enable and then a frame of these bytes, at that level and TB, on S sectors: what the frame is told at its deselect
+abbrev pub toldAt : ℕ → ℕ → List ℕ → List ℕ → List ℕ
+toldAt S status bs m = drop (3 + length bs) (played S status (frame (0x06 ∷ []) ++ frame bs) m .written)
+
+-- All that is protected is told, whatever the target: of a chip erase at level 3 on 8 sectors, with TB 0 and TB 1; of a program in sector 7 where 0 to 15 are protected; of an
+-- erase in the top sector where the top four are.
+pub told-sectors : (m : List ℕ)
+    → (toldAt 8 0x0C (0x60 ∷ []) m ≡ 0x83 ∷ 4 ∷ 7 ∷ [])
+    × (toldAt 8 0x2C (0x60 ∷ []) m ≡ 0x83 ∷ 0 ∷ 3 ∷ [])
+    × (toldAt 32 0x34 (0x02 ∷ 0x07 ∷ 0x00 ∷ 0x00 ∷ 0x5A ∷ []) m ≡ 0x83 ∷ 0 ∷ 15 ∷ [])
+    × (toldAt 32 0x0C (0x20 ∷ 0x1F ∷ 0xF0 ∷ 0x00 ∷ []) m ≡ 0x83 ∷ 28 ∷ 31 ∷ [])
+unfolding runs eventsFrom walk faultAt knownKind knownIn kindRow kindRowIn applied exchanged taken judge fresh rowOf rowIn isProgram verdict recordOf listed isRead commandVerdict jobVerdict jobOf fitsRule settled acted heldAfter instantly protectedSectors protectedCount
+told-sectors m = (refl, refl, refl, refl)
 
 -- ---- the rule book's first worked exchange (RULES, Worked exchanges)
 
