@@ -11,7 +11,7 @@ use lib.Dec.{eqb, ltb, leb}
 use lib.ListN.{length, getD, List·getD-eq-default}
 use borrow.Author.Tests.{ne-eqb, lt-ltb, le-leb, leb-true}
 use Rattle.cells.specs.Choice.{cond-yes, and-right}
-use Rattle.kinds.specs.Kinds.{SELECT, EXCHANGE, DESELECT, TICK, TICKS, WP, POWER, LOOSE, Says, KindRow, row, knownIn, kindRowIn, knownKind, kindRow, isSaid, bodyLength, inRange, yields, roomOf, mostRoom}
+use Rattle.kinds.specs.Kinds.{SELECT, EXCHANGE, DESELECT, TICK, TICKS, WP, POWER, LOOSE, Says, KindRow, row, knownIn, kindRowIn, knownKind, kindRow, isSaid, bodyLength, inRange, yields, roomOf}
 use Rattle.kinds.specs.Body.{numberAt, bodyAt, nextAt, stepTo}
 
 -- ---- kind by kind

@@ -5,7 +5,7 @@ use mathlib.Core.List.{List, [], _∷_}
 use mathlib.Core.Path.{_≡_, refl, sym, ap, _∙_}
 use native.Mathlib.Omega.{arith}
 use lib.Dec.{eqb, leb}
-use lib.ListN.{length, getD}
+use lib.ListN.{length}
 use borrow.Author.Tests.{le-leb, eqb-true, ne-eqb}
 use Rattle.cells.specs.Choice.{and-left, and-right, and-both, and-four}
 use Rattle.part.specs.Part.{Setting, sectorsIn, lengthOf, settingOf, roundedDown}

@@ -80,7 +80,10 @@ fn protected_sectors(sectors: u8, core: Core) -> Protected
 fn start_protected(sectors: u8, core: Core, start: u32) -> bool
     ensures { λ r. ⌜ r ≡ startProtected sectors core start ⌝ }
 {
-    part::protects(protected_sectors(sectors, core), (start as usize) / Part::SECTOR)
+    part::protects(
+        protected_sectors(sectors, core),
+        (start as usize) / Part::SECTOR,
+    )
 }
 
 // Whether a job's target is protected.

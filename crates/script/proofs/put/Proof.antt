@@ -1,6 +1,5 @@
 -- `script::put` meets its contract. Each byte is laid behind those before it (`laid-byte`), and a record whose bytes are laid is stored (`stored-as`).
-use Prim.Native.Nat.{_+_, _<_, _≤_}
-use mathlib.Core.List.{[], _∷_}
+use Prim.Native.Nat.{_+_, _≤_}
 use mathlib.Core.Path.{ap, refl}
 use native.Mathlib.Omega.{arith}
 use lib.ListN.{length, length-set}
