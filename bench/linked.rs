@@ -5,7 +5,9 @@ use crate::event::Event;
 use crate::image::Image;
 use crate::model::Chip;
 use crate::sfdp::{Found, CONTENT};
-use crate::side::{Answer, Loan, RecordBytes, Side, GUARD, MEMORY_AREA, OUTPUT_AREA, SFDP_AREA};
+use crate::side::{
+    Answer, Loan, RecordBytes, Side, GUARD, LONGEST_RECORD, MEMORY_AREA, OUTPUT_AREA, SFDP_AREA,
+};
 use std::mem::MaybeUninit;
 
 #[repr(C)]
@@ -13,7 +15,7 @@ struct EventNumbers {
     chip: Image,
     refusal: u8,
     length: u8,
-    record: [u8; 2],
+    record: [u8; LONGEST_RECORD],
     ticks: u32,
 }
 

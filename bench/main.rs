@@ -25,6 +25,9 @@ mod image;
 mod linked;
 #[path = "../second/model.rs"]
 mod model;
+#[allow(dead_code)]
+#[path = "../compare/protection.rs"]
+mod protection;
 #[path = "../compare/rng.rs"]
 mod rng;
 #[allow(dead_code)]

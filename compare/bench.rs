@@ -1,10 +1,11 @@
 // The bench: the model beside the side that is held to it, compared after each step.
 
 use crate::case::{room, Case, Content, Start, Step, LENGTHS};
-use crate::event::{events_of, Event};
+use crate::event::{events_of, room_needed, Event};
 use crate::expected::Expected;
 use crate::image::{edited_image, image_difference, Image};
 use crate::model;
+use crate::protection::sectors_difference;
 use crate::rng::Rng;
 use crate::sfdp::{self, Found};
 use crate::side::{
@@ -14,6 +15,9 @@ use crate::side::{
 /// The part's own SFDP area as the file that a bench may take it from.
 const OWN_AREA_FILE: &[u8; 208] = include_bytes!("../samples/le25s161.sfdp");
 
+/// What the words of a difference about the room of refusal 7 begin with.
+pub const ROOM_DIFFERENCE: &str = "room";
+
 /// The chip that is expected, the model's memory and output, the SFDP area that is lent, and the
 /// side that is held to them.
 pub struct Bench<'a> {
@@ -21,6 +25,8 @@ pub struct Bench<'a> {
     pub length: usize,
     memory: Vec<u8>,
     output: Vec<u8>,
+    /// The records that are due for the last step, where verdict 9 is reckoned here.
+    due: Vec<u8>,
     /// The SFDP area with its guards.
     sfdp: Vec<u8>,
     area_length: usize,
@@ -59,6 +65,18 @@ fn area_difference(name: &str, wanted: &[u8], found: &[u8]) -> Option<String> {
     Some(format!("{name} at {at:X}h: {found:02X}h in place of {wanted:02X}h ({places} differ)"))
 }
 
+/// A side's answer to a run, in words, if it is wrong by the room alone, whatever the model says:
+/// done in less than the run asks for, or refused by 7 in that room or more.
+fn room_difference(side: &str, answer: &Answer, script: &[u8], room: usize) -> Option<String> {
+    let refusal = answer.refusal;
+    if !matches!(refusal, 0 | 7) {
+        return None;
+    }
+    let needed = room_needed(script) as usize;
+    let wrong = (refusal == 7) != (room < needed);
+    wrong.then(|| format!("{ROOM_DIFFERENCE} {room} of {needed}: {side} {refusal}"))
+}
+
 /// An answer in words.
 fn answer_words(answer: &Answer) -> String {
     let Answer { refusal, record, offset, written, ticks } = answer;
@@ -75,10 +93,10 @@ impl<'a> Bench<'a> {
     /// A bench with the side to compare.
     pub fn new(other: &'a mut dyn Side) -> Bench<'a> {
         let (expected, length) = (Expected::fresh(0), LENGTHS[0]);
-        let (memory, output) = (vec![0; MEMORY_AREA], vec![0; OUTPUT_AREA]);
+        let (memory, output, due) = (vec![0; MEMORY_AREA], vec![0; OUTPUT_AREA], Vec::new());
         let (sfdp, area_length) = (vec![0; SFDP_AREA], 0);
         let (scratch, differs) = (vec![0; LENGTHS[5]], true);
-        Bench { expected, length, memory, output, sfdp, area_length, scratch, differs, other }
+        Bench { expected, length, memory, output, due, sfdp, area_length, scratch, differs, other }
     }
 
     /// The SFDP area that is lent.
@@ -175,6 +193,7 @@ impl<'a> Bench<'a> {
         let (before, loan) = (self.other.image(), self.loan(length));
         let wanted = self.model_event(length, event);
         let found = self.other.event(loan, event, lent)?;
+        self.compare_sectors(wanted.record.written(), found.record.written())?;
         self.compare_step(&before, length, 0, wanted, found)
     }
 
@@ -186,7 +205,17 @@ impl<'a> Bench<'a> {
         mark_output(&mut self.other.output()[..end]);
         let wanted = self.model_run(length, script, room);
         let found = self.other.run(loan, script, room)?;
+        as_error(room_difference("the model's answer", &wanted, script, room))?;
+        as_error(room_difference("answer", &found, script, room))?;
+        let output = self.other.output()[..end.min(found.written as usize)].to_vec();
+        self.compare_sectors(self.written(&wanted), &output)?;
         self.compare_step(&before, length, end, wanted, found)
+    }
+
+    /// Holds the records of both sides to those that are due, as far as they tell verdict 9.
+    fn compare_sectors(&self, model: &[u8], found: &[u8]) -> Result<(), String> {
+        as_error(sectors_difference("the model's record", &self.due, model))?;
+        as_error(sectors_difference("record", &self.due, found))
     }
 
     /// A loan of so many bytes of memory and of the whole SFDP area.
@@ -246,7 +275,9 @@ impl<'a> Bench<'a> {
     /// The model's answer to one event.
     fn model_event(&mut self, length: usize, event: Event) -> Answer {
         let area = &self.sfdp[GUARD..GUARD + self.area_length];
-        let answer = self.expected.event(&mut self.memory[..length], area, event);
+        let memory = &mut self.memory[..length];
+        self.due.clear();
+        let answer = self.expected.event_with_due(memory, area, event, &mut self.due);
         Answer::to_event(answer.refusal, record_bytes(answer.record), answer.ticks)
     }
 
@@ -257,9 +288,11 @@ impl<'a> Bench<'a> {
         let (memory, output) = (&mut self.memory[..length], &mut self.output[..room]);
         let area = &self.sfdp[GUARD..GUARD + self.area_length];
         let answer = model::run(&mut chip, memory, area, script, output);
+        self.due.clear();
         if answer.refusal == 0 {
+            let memory = &mut self.scratch[..length];
             for event in events_of(script).0 {
-                self.expected.event(&mut self.scratch[..length], area, event);
+                self.expected.event_with_due(memory, area, event, &mut self.due);
             }
             assert!(self.expected.chip == chip, "the model's run is not its events one by one");
         }

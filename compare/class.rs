@@ -32,6 +32,18 @@ impl Class {
         }
     }
 
+    /// The class of the job that an opcode begins, if it begins one.
+    pub fn begun_by(opcode: u8) -> Option<Class> {
+        match opcode {
+            0x01 => Some(Class::WriteStatus),
+            0x02 | 0x0A => Some(Class::Program),
+            0x20 | 0xD7 => Some(Class::SmallSector),
+            0xD8 => Some(Class::Sector),
+            0x60 | 0xC7 => Some(Class::Chip),
+            _ => None,
+        }
+    }
+
     /// The steps of a job of this class from begin to end.
     pub fn steps(self, length: usize) -> u32 {
         match self {

@@ -9,7 +9,8 @@ use crate::event::{events_of, kind, Event, LONGEST};
 use crate::expected::{Expected, NOTHING};
 use crate::image::{Edit, FLAGS};
 use crate::model::{self, Chip, Record};
-use crate::side::Answer;
+use crate::protection_coverage::ProtectionCoverage;
+use crate::side::{verdict_of, Answer};
 use crate::states::RULES;
 use crate::tally::{mark, print_cells, print_head, print_line, Tally};
 use std::collections::BTreeSet;
@@ -108,6 +109,7 @@ pub struct Coverage {
     fates: Vec<Vec<BTreeSet<u32>>>,
     situations: Tally,
     areas: AreaCoverage,
+    protection: ProtectionCoverage,
     over_top: [[u64; 2]; 6],
     rules: [u64; RULES.len()],
     flags: [[u64; 3]; FLAGS.len()],
@@ -130,6 +132,7 @@ impl Coverage {
             fates: vec![vec![BTreeSet::new(); FATES.len()]; JOBS.len()],
             situations: Tally::new(&SITUATIONS),
             areas: AreaCoverage::new(),
+            protection: ProtectionCoverage::new(),
             over_top: [[0; 2]; 6],
             rules: [0; RULES.len()],
             flags: [[0; 3]; FLAGS.len()],
@@ -189,11 +192,16 @@ impl Coverage {
         };
         self.note_answer(before, step, entry, answer.refusal, length);
         match step {
+            Step::Run { script, spare, .. } if answer.refusal == 7 => {
+                self.note_short_room(before, script, *spare, length);
+                1
+            }
             _ if answer.refusal != 0 => 1,
             Step::Run { script, spare, .. } => {
                 let events = events_of(script).0;
-                let after = self.replay(before.clone(), &events, length);
+                let (after, records) = self.replay(before.clone(), &events, length);
                 self.note_run(&before.chip, script, *spare, &after.chip);
+                self.protection.note_room(&events, &records, *spare, 0);
                 events.len() as u64
             }
             Step::Event { event, .. } => {
@@ -222,6 +230,7 @@ impl Coverage {
             self.areas.note_lent_frame(&before.chip, refusal, length);
         }
         self.areas.note_step();
+        self.protection.note_step(entry);
         if self.areas.lent.len() > LONGEST_TAKEN {
             let otherwise = self.refusal_without_area(before, step, length);
             self.areas.note_too_long(entry, refusal, otherwise, self.no_state);
@@ -262,11 +271,31 @@ impl Coverage {
         self.saw("empty script done", script.is_empty());
     }
 
-    /// Applies events to the chip once more, over a memory whose content does not matter.
-    fn replay(&mut self, mut after: Expected, events: &[Event], length: usize) -> Expected {
+    /// Takes note of a run that was refused by 7, with the records that its events would yield, but
+    /// for the bytes of cells.
+    fn note_short_room(&mut self, before: &Expected, script: &[u8], spare: i64, length: usize) {
+        let (mut chip, memory) = (before.chip.clone(), &mut self.memory[..length]);
+        let (events, mut records) = (events_of(script).0, Vec::new());
+        for (kind, body) in &events {
+            let answer = model::event(&mut chip, memory, &self.areas.lent, *kind, *body);
+            records.push(answer.record);
+        }
+        self.protection.note_room(&events, &records, spare, 7);
+    }
+
+    /// Applies events to the chip once more, over a memory whose content does not matter, and gives
+    /// the chip after them and their records, but for the bytes of cells.
+    fn replay(
+        &mut self,
+        mut after: Expected,
+        events: &[Event],
+        length: usize,
+    ) -> (Expected, Vec<Record>) {
+        let mut records = Vec::new();
         for event in events {
             let before = after.clone();
             let answer = after.event(&mut self.memory[..length], &self.areas.lent, *event);
+            records.push(answer.record);
             self.note_leftovers(&before, *event, answer.record, &after);
             let (before, after) = (&before.chip, &after.chip);
             self.note_job(before, *event, answer.record, after, length);
@@ -282,7 +311,7 @@ impl Coverage {
                 _ => {}
             }
         }
-        after
+        (after, records)
     }
 
     /// Takes note of what an event does to leftovers; the load of a program is counted among them,
@@ -363,9 +392,10 @@ impl Coverage {
 
     /// Takes note of a deselect and its verdict.
     fn note_deselect(&mut self, before: &Chip, record: Record, loose: bool, length: usize) {
-        let Record::Verdict(verdict) = record else { return };
+        let Some(verdict) = verdict_of(record) else { return };
         let frame = &before.frame;
         self.areas.note_deselect(before, loose, verdict);
+        self.protection.note_deselect(before, record, length, self.frame_lent);
         let row = if !before.selected {
             UNSELECTED
         } else if frame.byte_count == 0 {
@@ -439,6 +469,7 @@ impl Coverage {
         let mut faults = self.report_verdicts();
         faults += self.report_refusals();
         faults += self.areas.report(&ENTRIES);
+        faults += self.protection.report(&ENTRIES);
         faults += self.report_fates();
         faults + self.report_situations()
     }

@@ -47,17 +47,22 @@ pub fn script_of(events: &[Event]) -> Vec<u8> {
     script
 }
 
-/// Whether events of a kind yield a record.
-fn yields_record(kind: u64) -> bool {
-    matches!(kind, kind::EXCHANGE | kind::DESELECT | kind::LOOSE_DESELECT)
+/// The room that a run asks for an event of a kind: a deselect gets that of the longest record,
+/// whatever its verdict turns out to be.
+pub fn room_of(kind: u64) -> i64 {
+    match kind {
+        kind::EXCHANGE => 2,
+        kind::DESELECT | kind::LOOSE_DESELECT => 3,
+        _ => 0,
+    }
 }
 
-/// The room that a run of a script asks for: two bytes for each event that yields a record.
+/// The room that a run of a script asks for.
 pub fn room_needed(script: &[u8]) -> i64 {
-    let (mut records, mut rest) = (0, script);
+    let (mut room, mut rest) = (0, script);
     while let Some(((kind, _), after)) = first_event(rest) {
-        records += i64::from(yields_record(kind));
+        room += room_of(kind);
         rest = after;
     }
-    2 * records
+    room
 }

@@ -3,6 +3,7 @@
 use crate::event::{kind, Event};
 use crate::image::{image_difference, image_of, Image, BLANK};
 use crate::model::{self, Chip, EventAnswer, Record};
+use crate::protection::due_record;
 
 /// The opcode of a reset.
 const RESET: u8 = 0x99;
@@ -71,6 +72,21 @@ impl Expected {
         if cleared && answer.refusal == 0 {
             self.left = NOTHING;
         }
+        answer
+    }
+
+    /// Applies one event, adds the bytes of the record that is due to a row, and gives the model's
+    /// answer.
+    pub fn event_with_due(
+        &mut self,
+        memory: &mut [u8],
+        area: &[u8],
+        event: Event,
+        due: &mut Vec<u8>,
+    ) -> EventAnswer {
+        let before = self.chip.clone();
+        let answer = self.event(memory, area, event);
+        due.extend_from_slice(due_record(&before, memory.len(), answer.record).written());
         answer
     }
 

@@ -1,18 +1,20 @@
 // A copy of the model as the other side, with a planted fault or none, to test the harness itself.
 
 use crate::areas::LONGEST_TAKEN;
+use crate::bench::ROOM_DIFFERENCE;
 use crate::case::LENGTHS;
-use crate::event::{events_of, kind, Event, LONGEST};
+use crate::event::{events_of, kind, room_needed, Event, LONGEST};
 use crate::expected::Expected;
 use crate::image::{with_flags, Image};
 use crate::model::{self, Chip, EventAnswer, Job, JobKind, Record};
+use crate::protection;
 use crate::sfdp::{self, Found, CONTENT};
 use crate::side::{
     record_bytes, Answer, Loan, Side, GUARD, MEMORY_AREA, NO_RECORD, OUTPUT_AREA, SFDP_AREA,
 };
-use crate::wrong_reader;
+use crate::{wrong_reader, wrong_room, wrong_sectors};
 
-/// The faults but the reader's, in words; the first five are errors that look right.
+/// The faults that have no file of their own, in words; the first five are errors that look right.
 const FAULTS: [&str; 31] = [
     "a load is laid down from the page start",
     "a program stores its bytes where cells only lose bits",
@@ -47,12 +49,25 @@ const FAULTS: [&str; 31] = [
     "the part's own area has zeros for its third header",
 ];
 
-/// The number of the first fault of the reader.
-const READER: usize = FAULTS.len();
+/// The number of the first fault of verdict 9's records, of the room, and of the reader.
+const SECTORS: usize = FAULTS.len();
+const ROOM: usize = SECTORS + wrong_sectors::FAULTS.len();
+const READER: usize = ROOM + wrong_room::FAULTS.len();
 
 /// All faults, in words, the reader's last.
 pub fn all_faults() -> impl Iterator<Item = &'static str> {
-    FAULTS.into_iter().chain(wrong_reader::FAULTS)
+    let files = [&wrong_sectors::FAULTS[..], &wrong_room::FAULTS, &wrong_reader::FAULTS];
+    FAULTS.into_iter().chain(files.into_iter().flatten().copied())
+}
+
+/// What the words about a fault have to begin with: where the harness's own reckoning has to find
+/// it, a difference from the model alone is not enough.
+pub fn words_begin(fault: usize) -> &'static str {
+    match fault {
+        SECTORS..ROOM if wrong_sectors::is_reckoned(fault - SECTORS) => protection::DIFFERENCE,
+        ROOM..READER if wrong_room::is_reckoned(fault - ROOM) => ROOM_DIFFERENCE,
+        _ => "",
+    }
 }
 
 /// The copy: its chip, memory and output, and the number of its fault.
@@ -66,6 +81,8 @@ pub struct WrongCopy {
     sfdp: Vec<u8>,
     /// A memory whose content does not matter.
     scratch: Vec<u8>,
+    /// The chip before the run that is done at present.
+    run_began: Option<Chip>,
     fault: Option<usize>,
 }
 
@@ -75,7 +92,7 @@ impl WrongCopy {
         let (memory, scratch) = (vec![0; MEMORY_AREA], vec![0; MEMORY_AREA]);
         let (expected, image) = (Expected::fresh(0), Expected::fresh(0).image());
         let (output, sfdp) = (vec![0; OUTPUT_AREA], vec![0; SFDP_AREA]);
-        WrongCopy { expected, image, memory, output, sfdp, scratch, fault }
+        WrongCopy { expected, image, memory, output, sfdp, scratch, run_began: None, fault }
     }
 
     /// Whether a fault is the planted one.
@@ -155,7 +172,9 @@ impl WrongCopy {
                     load.rotate_left(offset);
                 }
             }
-            (Record::Verdict(9 | 10), Some(2)) => chip.wen = before.job.is_some(),
+            (Record::Protected { .. } | Record::Verdict(10), Some(2)) => {
+                chip.wen = before.job.is_some();
+            }
             (Record::Verdict(4), Some(3)) if program && before.suspended => {
                 if let Some(Job { kind: JobKind::Program(load), .. }) = &mut chip.job {
                     *load = before.frame.load;
@@ -197,6 +216,10 @@ impl WrongCopy {
 
     /// Plants the faults that are seen in a record.
     fn spoil_record(&mut self, before: &Chip, record: Record, length: usize) -> Record {
+        if let Some(fault @ SECTORS..ROOM) = self.fault {
+            let run_began = self.run_began.as_ref();
+            return wrong_sectors::record(fault - SECTORS, before, run_began, length, record);
+        }
         let frame = &before.frame;
         let read = matches!(frame.opcode, 0x03 | 0x0B);
         let late = read && frame.judgement == Some(6) && before.job.is_none();
@@ -235,15 +258,40 @@ impl WrongCopy {
         record
     }
 
+    /// The room that a script asks for, with the fault of that number.
+    fn wrong_need(&mut self, fault: usize, loan: Loan, script: &[u8]) -> i64 {
+        let mut chip = self.expected.chip.clone();
+        let (memory, area) = (&mut self.scratch[..loan.memory], &self.sfdp[GUARD..][..loan.area]);
+        let mut needed = 0;
+        for (kind, body) in events_of(script).0 {
+            let record = model::event(&mut chip, memory, area, kind, body).record;
+            needed += wrong_room::room_of(fault, kind, record);
+        }
+        needed
+    }
+
+    /// The room that the model is told of: by a fault that counts it, enough or just too little as
+    /// that count says.
+    fn room_told(&mut self, loan: Loan, script: &[u8], room: usize) -> usize {
+        let Some(fault @ ROOM..READER) = self.fault else { return room };
+        let enough = self.wrong_need(fault - ROOM, loan, script) <= room as i64;
+        room_needed(script) as usize - usize::from(!enough)
+    }
+
     /// Runs the events of a script that the model takes, one by one, with the fault.
     fn run_events(&mut self, loan: Loan, script: &[u8]) -> Answer {
         let (mut written, mut ticks) = (0, 0);
+        self.run_began = Some(self.expected.chip.clone());
         for event in events_of(script).0 {
             let done = self.apply(loan, event);
-            let record = &done.record.bytes[..usize::from(done.record.length)];
+            let record = done.record.written();
             self.output[written..written + record.len()].copy_from_slice(record);
             written += record.len();
             ticks += done.ticks;
+        }
+        self.run_began = None;
+        if self.has(ROOM + wrong_room::WRITTEN) {
+            written = room_needed(script) as usize;
         }
         Answer::to_run(0, 0, written as u64, ticks)
     }
@@ -280,9 +328,12 @@ impl Side for WrongCopy {
     }
 
     fn event(&mut self, loan: Loan, event: Event, _: bool) -> Result<Answer, String> {
-        let answer = self.apply(loan, event);
+        let mut answer = self.apply(loan, event);
         if answer.refusal == 0 {
             self.take_numbers();
+        }
+        if let Some(fault @ SECTORS..ROOM) = self.fault {
+            answer.record = wrong_sectors::answered(fault - SECTORS, answer.record);
         }
         Ok(answer)
     }
@@ -291,7 +342,8 @@ impl Side for WrongCopy {
         if let Some(refusal) = self.early_refusal(loan) {
             return Ok(Answer::to_run(refusal, 0, 0, 0));
         }
-        let (mut chip, mut output) = (self.expected.chip.clone(), vec![0; room]);
+        let told = self.room_told(loan, script, room);
+        let (mut chip, mut output) = (self.expected.chip.clone(), vec![0; told]);
         let area = &self.sfdp[GUARD..][..self.area_length(loan)];
         let memory = &mut self.scratch[..loan.memory];
         let answer = model::run(&mut chip, memory, area, script, &mut output);

@@ -4,21 +4,8 @@ use crate::class::{Class, ALL_JOBS, LONG_JOBS};
 use crate::commands::COMMANDS;
 use crate::event::{kind, Event};
 use crate::model::{self, Chip};
+use crate::protection::protected;
 use crate::rng::Rng;
-
-/// Whether a sector is protected on a chip.
-fn protected(chip: &Chip, sector: usize, sectors: usize) -> bool {
-    let count = match chip.level {
-        0 => 0,
-        level @ 1..=5 => sectors.min(1 << (level - 1)),
-        _ => sectors,
-    };
-    if chip.tb {
-        sector < count
-    } else {
-        sector + count >= sectors
-    }
-}
 
 /// Writes events for a chip, which it keeps up with over a memory whose content does not matter.
 pub struct Writer<'a> {

@@ -110,8 +110,9 @@ impl Library {
 
     /// The answer to the event that was last served.
     fn event_answer(&self) -> Answer {
-        let [refusal, length, first, second] = [0, 1, 2, 3].map(|place| self.number(place) as u8);
-        Answer::to_event(refusal, RecordBytes { length, bytes: [first, second] }, self.number(4))
+        let [refusal, length] = [0, 1].map(|place| self.number(place) as u8);
+        let bytes = [3, 4, 5].map(|place| self.number(place) as u8);
+        Answer::to_event(refusal, RecordBytes { length, bytes }, self.number(2))
     }
 }
 

@@ -21,6 +21,9 @@ mod image;
 mod library;
 mod plan;
 mod plan_areas;
+mod plan_protection;
+mod protection;
+mod protection_coverage;
 mod random;
 mod refusals;
 mod rng;
@@ -32,6 +35,8 @@ mod states;
 mod tally;
 mod words;
 mod wrong_reader;
+mod wrong_room;
+mod wrong_sectors;
 
 use bench::Bench;
 use session::Session;
@@ -50,17 +55,21 @@ const PATIENCE: Duration = Duration::from_secs(20);
 const SELF_PATIENCE: Duration = Duration::from_millis(500);
 
 /// Runs the plan and a number of random events; prints the tables, or the difference made small.
-/// A planted fault needs no tables and less patience.
-fn compare(other: &mut dyn Side, seed: u64, events: u64, planted: bool) -> bool {
+/// What is not well, a difference or empty cells, is an error in words. A planted fault needs no
+/// tables and less patience.
+fn compare(other: &mut dyn Side, seed: u64, events: u64, planted: bool) -> Result<(), String> {
     let mut session = Session::new(Bench::new(other), seed);
     let failed = session.planned().and_then(|()| session.random(events)).err();
     let Some(failure) = failed else {
         println!("seed {seed}: {} cases, {} events, no difference", session.cases, session.events);
         let faults = if planted { 0 } else { session.coverage.report() };
-        if faults > 0 {
-            println!("\n{faults} cells marked ! are empty, or filled and listed as impossible");
+        if faults == 0 {
+            return Ok(());
         }
-        return faults == 0;
+        let words =
+            format!("{faults} cells marked ! are empty, or filled and listed as impossible");
+        println!("\n{words}");
+        return Err(words);
     };
     let number = session.cases;
     println!("seed {seed}: a difference in case {number}, after {} events", session.events);
@@ -69,22 +78,27 @@ fn compare(other: &mut dyn Side, seed: u64, events: u64, planted: bool) -> bool 
     let (small, difference) = shrink::shrink(&mut session.bench, failure.case, patience);
     println!("made smaller:\n{}", case_words(&small));
     println!("{}", difference.unwrap_or("it does not come again".to_string()));
-    false
+    Err(failure.difference)
 }
 
 /// Tests the harness: a true copy of the model must pass, each wrong copy must be found out.
 fn self_test(seed: u64) -> bool {
     println!("a true copy");
-    let mut good = compare(&mut faults::WrongCopy::new(None), seed, SELF_TEST, false);
+    let good = compare(&mut faults::WrongCopy::new(None), seed, SELF_TEST, false).is_ok();
+    let (mut planted, mut found) = (0, 0);
     for (number, words) in faults::all_faults().enumerate() {
         println!("\nfault {number}: {words}");
         let mut copy = faults::WrongCopy::new(Some(number));
-        if compare(&mut copy, seed, SELF_TEST, true) {
-            println!("NOT FOUND");
-            good = false;
+        let difference = compare(&mut copy, seed, SELF_TEST, true).err();
+        planted += 1;
+        if difference.is_some_and(|words| words.starts_with(faults::words_begin(number))) {
+            found += 1;
+        } else {
+            println!("NOT FOUND, or not by the reckoning that has to find it");
         }
     }
-    good
+    println!("\n{found} of {planted} planted faults found");
+    good && found == planted
 }
 
 /// A number on the command line, or what stands for it.
@@ -106,7 +120,7 @@ fn compare_as_asked(words: &[String]) -> Result<bool, String> {
     let [shared, command @ ..] = rest else { return Err("no library process".to_string()) };
     println!("seed {seed}");
     let mut library = library::Library::new(shared, command)?;
-    Ok(compare(&mut library, seed, events, false))
+    Ok(compare(&mut library, seed, events, false).is_ok())
 }
 
 /// The command line: quick [SEED], long MILLIONS [SEED] or self [SEED]; then, for the first two,

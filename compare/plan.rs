@@ -15,6 +15,7 @@ impl Session<'_> {
     pub fn planned(&mut self) -> Outcome {
         self.fresh_states()?;
         self.areas()?;
+        self.protection()?;
         self.leftovers()?;
         self.broken_states(LENGTHS[0])?;
         self.all_refusals()?;

@@ -57,11 +57,7 @@ impl Session<'_> {
         let data = std::iter::repeat_n(0, 16);
         let script = script_of(&frame_of([0x5A, 0, 0, 0, 0].into_iter().chain(data)));
         let answer = self.step(Step::Run { script, spare: 0, length: None })?;
-        let written = self.bench.written(&answer);
-        if *written != FIRST_BYTES {
-            let words = format!("output: {written:02X?}\nin place of {FIRST_BYTES:02X?}");
-            return Err(self.failure(words));
-        }
+        self.hold_to(self.bench.written(&answer), &FIRST_BYTES)?;
         self.close()
     }
 

@@ -84,16 +84,11 @@ impl Writer<'_> {
 
     /// A frame that begins a job, perhaps in the place of a suspended one.
     fn reach_begun(&mut self, opcode: u8) {
-        let class = match opcode {
-            0x01 => Class::WriteStatus,
-            0x02 | 0x0A => Class::Program,
-            0x20 | 0xD7 => Class::SmallSector,
-            0xD8 => Class::Sector,
-            _ => Class::Chip,
-        };
         self.allow(opcode);
         if self.chip.job.is_none() {
-            self.unprotect(class);
+            if let Some(class) = Class::begun_by(opcode) {
+                self.unprotect(class);
+            }
             self.enable();
         }
         if self.chip.srwp && !self.chip.wp_high && self.rng.once_in(2) {

@@ -88,6 +88,15 @@ impl<'a> Session<'a> {
         answer.map_err(|difference| self.failure(difference))
     }
 
+    /// Holds records to those that are written out in the plan.
+    pub fn hold_to(&self, found: &[u8], written_out: &[u8]) -> Outcome {
+        if found != written_out {
+            let words = format!("records: {found:02X?}\nin place of {written_out:02X?}");
+            return Err(self.failure(words));
+        }
+        Ok(())
+    }
+
     /// Ends a case: its last state has to be legal, or not, on both sides.
     pub fn close(&mut self) -> Outcome {
         self.bench.compare_legal().map_err(|difference| self.failure(difference))

@@ -22,7 +22,7 @@ struct chip {
     u8 load[256];
     u8 held[256];
 };
-struct event_answer { struct chip chip; u8 refusal, length; u8 record[2]; u32 ticks; };
+struct event_answer { struct chip chip; u8 refusal, length; u8 record[3]; u32 ticks; };
 struct run_answer { struct chip chip; u8 refusal; u64 offset, written, ticks; };
 struct found { u8 refusal; u64 place, length; };
 struct own_area { u8 bytes[208]; };
@@ -39,8 +39,8 @@ struct found sfdp_find(const u8 *area, u64 area_len, u8 identity);
 struct own_area sfdp_own_area(void);
 
 // The areas of the shared file; the harness has the same numbers.
-enum { SECTOR = 65536, MEMORY = 0, SCRIPT = 65 * SECTOR, OUTPUT = 68 * SECTOR, DESK = 73 * SECTOR };
-enum { SFDP = 74 * SECTOR, FILE_LENGTH = 75 * SECTOR };
+enum { SECTOR = 65536, MEMORY = 0, SCRIPT = 65 * SECTOR, OUTPUT = 68 * SECTOR, DESK = 75 * SECTOR };
+enum { SFDP = 76 * SECTOR, FILE_LENGTH = 77 * SECTOR };
 // The chip and the part's own SFDP area on the desk, and the bytes before the SFDP area that is lent.
 enum { IMAGE = 128, OWN_AREA = 1024, GUARD = 64 };
 
@@ -73,8 +73,8 @@ static void cross(int out) {
 // Keeps the chip of an event's answer and puts the rest of it on the desk.
 static void event_done(struct event_answer a, u64 *desk) {
     chip = a.chip;
-    desk[0] = a.refusal; desk[1] = a.length;
-    desk[2] = a.record[0]; desk[3] = a.record[1]; desk[4] = a.ticks;
+    desk[0] = a.refusal; desk[1] = a.length; desk[2] = a.ticks;
+    desk[3] = a.record[0]; desk[4] = a.record[1]; desk[5] = a.record[2];
 }
 
 // Keeps the chip of a run's answer and puts the rest of it on the desk.

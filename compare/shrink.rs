@@ -164,12 +164,14 @@ impl Shrinker<'_, '_> {
         self.try_step(number, step)
     }
 
-    /// Makes the numbers in a run's script, and its spare room, smaller.
+    /// Makes the numbers in a run's script smaller, and its room the exact one or a byte short.
     fn shrink_run(&mut self, number: usize) -> bool {
-        let Some(Step::Run { script, length, .. }) = self.case.steps.get(number).cloned() else {
+        let Some(Step::Run { script, spare, length }) = self.case.steps.get(number).cloned() else {
             return false;
         };
-        let mut smaller = self.try_step(number, Step::Run { script, spare: 0, length });
+        let nearer = [0, -1_i64].into_iter().filter(|nearer| nearer.abs() < spare.abs());
+        let mut steps = nearer.map(|spare| Step::Run { script: script.clone(), spare, length });
+        let mut smaller = steps.any(|step| self.try_step(number, step));
         let mut at = 0;
         while let Some(pieces) = self.script_pieces(number).filter(|pieces| at < pieces.len()) {
             let event = events_of(&pieces[at]).0.first().copied();

@@ -7,8 +7,8 @@ use crate::sfdp::{Found, CONTENT};
 
 /// Bytes of memory that both sides hold: 64 sectors, and one more that nothing may touch.
 pub const MEMORY_AREA: usize = 65 * Chip::SECTOR;
-/// Bytes of output that both sides hold.
-pub const OUTPUT_AREA: usize = 5 * Chip::SECTOR;
+/// Bytes of output that both sides hold: enough for a script of 131,072 deselects, and a guard.
+pub const OUTPUT_AREA: usize = 7 * Chip::SECTOR;
 /// Bytes after a lent buffer that are compared as well; the SFDP area has as many before it.
 pub const GUARD: usize = 64;
 /// The longest SFDP area that is lent.
@@ -23,25 +23,45 @@ pub struct Loan {
     pub area: usize,
 }
 
-/// A record as bytes: how many it has, and both places for them, 0 where it has none.
+/// The bytes of the longest record, that of verdict 9.
+pub const LONGEST_RECORD: usize = 3;
+
+/// A record as bytes: how many it has, and all places for them, 0 where it has none.
 #[derive(Clone, Copy, Debug, PartialEq, Eq)]
 pub struct RecordBytes {
     pub length: u8,
-    pub bytes: [u8; 2],
+    pub bytes: [u8; LONGEST_RECORD],
+}
+
+impl RecordBytes {
+    /// The bytes that a run writes for the record.
+    pub fn written(&self) -> &[u8] {
+        &self.bytes[..LONGEST_RECORD.min(usize::from(self.length))]
+    }
 }
 
 /// No record.
-pub const NO_RECORD: RecordBytes = RecordBytes { length: 0, bytes: [0, 0] };
+pub const NO_RECORD: RecordBytes = RecordBytes { length: 0, bytes: [0; LONGEST_RECORD] };
 
 /// The bytes of a record, the same in the answer to an event and in the output of a run.
 pub fn record_bytes(record: Record) -> RecordBytes {
     let (length, bytes) = match record {
         Record::None => return NO_RECORD,
-        Record::Floating => (1, [0x80, 0]),
-        Record::Driven(byte) => (2, [0x81, byte]),
-        Record::Verdict(verdict) => (2, [0x82, verdict]),
+        Record::Floating => (1, [0x80, 0, 0]),
+        Record::Driven(byte) => (2, [0x81, byte, 0]),
+        Record::Verdict(verdict) => (2, [0x82, verdict, 0]),
+        Record::Protected { first, last } => (3, [0x83, first, last]),
     };
     RecordBytes { length, bytes }
+}
+
+/// The verdict that a record tells, if it is a deselect's.
+pub fn verdict_of(record: Record) -> Option<u8> {
+    match record {
+        Record::Verdict(verdict) => Some(verdict),
+        Record::Protected { .. } => Some(9),
+        _ => None,
+    }
 }
 
 /// The answer to an event or a run; what only the other one has is no record or 0.
