@@ -33,6 +33,7 @@ fn record_number(said: Record) -> u64 {
         Record::Nothing => 256,
         Record::Floating => 257,
         Record::Verdict(v) => 512 + v as u64,
+        Record::InTheWay(first, last) => 1024 + 256 * (first as u64) + last as u64,
     }
 }
 

@@ -4,4 +4,5 @@ pub mod Output
 pub mod Report
 pub mod OutputLaws
 pub mod ReportLaws
+pub mod RoomLaws
 pub mod Sample

@@ -12,7 +12,7 @@ use Rattle.part.specs.Part.{Setting}
 use Rattle.kinds.specs.Kinds.{knownKind, isSaid, yields}
 use Rattle.kinds.specs.Body.{nextAt}
 use Rattle.chip.specs.declared.Record.{Record}
-use Rattle.chip.specs.declared.Record.the-variants.{Nothing, Floating, Driven, Verdict}
+use Rattle.chip.specs.declared.Record.the-variants.{Nothing, Floating, Driven, Verdict, InTheWay}
 use Rattle.chip.specs.Record.{recordBytes}
 use Rattle.event.specs.Event.{sortOf}
 use Rattle.event.specs.Laws.{says-its-kind}
@@ -36,11 +36,15 @@ record-back p q said = go said
     second : (bs : List ℕ) → getD (p ++ bs) (length p + 1) 0 ≡ getD bs 1 0
     second bs = getD-append-add p bs 1 0
 
+    third : (bs : List ℕ) → getD (p ++ bs) (length p + 2) 0 ≡ getD bs 2 0
+    third bs = getD-append-add p bs 2 0
+
     go : (said : Record) → isSaid (sortOf said) ≡ true → recordAt (p ++ (recordBytes said ++ q)) (length p) ≡ said
     go Nothing h = absurd (false≢true h)
     go Floating h = rw (first (recordBytes Floating ++ q))
     go (Driven b) h = rw (first (recordBytes (Driven b) ++ q), second (recordBytes (Driven b) ++ q))
     go (Verdict v) h = rw (first (recordBytes (Verdict v) ++ q), second (recordBytes (Verdict v) ++ q))
+    go (InTheWay from to) h = rw (first (recordBytes (InTheWay from to) ++ q), second (recordBytes (InTheWay from to) ++ q), third (recordBytes (InTheWay from to) ++ q))
 
 -- a silent one has no bytes
 no-bytes : (said : Record) → isSaid (sortOf said) ≡ false → recordBytes said ≡ []
@@ -48,6 +52,7 @@ no-bytes Nothing h = refl
 no-bytes Floating h = absurd (false≢true (sym h))
 no-bytes (Driven b) h = absurd (false≢true (sym h))
 no-bytes (Verdict v) h = absurd (false≢true (sym h))
+no-bytes (InTheWay first last) h = absurd (false≢true (sym h))
 
 -- ---- the lines of a run
 

@@ -14,15 +14,17 @@ use Rattle.script.specs.Script.{Event, events}
 use Rattle.script.specs.Run.{World, world, does, onward, answerOf}
 use Rattle.listing.specs.Text.{lineOf, partLine, doneLine, refusedLine, tooLong}
 
--- the longest script that is run, the room for its records, and that for what is printed of it: for each of its bytes more than a line needs
+-- the longest script that is run (RULES, The program)
 abbrev pub longestScript : ℕ
 longestScript = 4096
 
+-- the room for its records: each of its bytes may be a deselect, with the longest one
 abbrev pub outputRoom : ℕ
 outputRoom = longestRecord * longestScript
 
+-- the room for what is printed of it: for each of its bytes more than the longest line (`report-fits`)
 abbrev pub textRoom : ℕ
-textRoom = 64 * longestScript
+textRoom = 16 * longestScript
 
 -- a line for each record, as the events happen (RULES, The program)
 unfoldable pub linesOf : Setting → List Event → World → List ℕ

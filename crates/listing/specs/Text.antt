@@ -9,7 +9,7 @@ use lib.Dec.{ltb}
 use lib.ListN.{length}
 use lib.Seq.{sets}
 use Rattle.chip.specs.declared.Record.{Record}
-use Rattle.chip.specs.declared.Record.the-variants.{Nothing, Floating, Driven, Verdict}
+use Rattle.chip.specs.declared.Record.the-variants.{Nothing, Floating, Driven, Verdict, InTheWay}
 
 -- the codes of a text
 abbrev pub ascii : String → List ℕ
@@ -37,12 +37,13 @@ hexOf b = hexDigit (b / 16) ∷ hexDigit (b % 16) ∷ []
 
 -- ---- the lines (RULES, The program)
 
--- a record's word: two dashes for floating, the byte driven in hex, or V and the verdict (RULES, Records)
+-- a record's word: two dashes for floating, the byte driven in hex, or V and the verdict, 9 with the first and the last protected sector (RULES, Records)
 abbrev pub wordOf : Record → List ℕ
 wordOf Nothing = []
 wordOf Floating = ascii "--"
 wordOf (Driven b) = hexOf b
 wordOf (Verdict v) = ascii "V" ++ decimalOf v
+wordOf (InTheWay first last) = ascii "V9 " ++ decimalOf first ++ ascii " " ++ decimalOf last
 
 -- the line of a record: where its event starts, and its word
 unfoldable pub lineOf : ℕ → Record → List ℕ
@@ -64,9 +65,9 @@ refusedLine number offset = ascii "answer " ++ decimalOf number ++ ascii " " ++ 
 abbrev pub tooLong : List ℕ
 tooLong = ascii "too long\n"
 
--- the most bytes that a record's line has: two numbers of 20 digits, a blank, a V and the line's end
+-- the most bytes that a record's line has: an offset of four digits, a blank, the word `V9 31 31`, and the line's end
 abbrev pub longestLine : ℕ
-longestLine = 43
+longestLine = 14
 
 -- ---- bytes put into a text
 

@@ -1,6 +1,7 @@
 -- What is true of texts: bytes put one after the other, and a number's digits.
 use Prim.Native.Nat.{ℕ, zero, suc, _+_, _*_, _/_, _%_, _^_, _-_, _<_, _≤_}
-use mathlib.Core.List.{List, [], _∷_, _++_}
+use mathlib.Core.Bool.{cond}
+use mathlib.Core.List.{List, [], _∷_, _++_, append-assoc}
 use mathlib.Core.Path.{_≡_, refl, sym, ap, _∙_}
 use native.Mathlib.Nat.{add-zero, zero-add, add-suc, suc-add, pow-suc, one-le-pow, pow-le-pow-right}
 use native.Mathlib.Numerals.{add-one}
@@ -12,8 +13,9 @@ use lib.Seq.{sets, length-sets, sets-eq, take-suc, length-take-le}
 use borrow.Author.Tests.{lt-ltb, le-ltb}
 use Rattle.io.specs.Counts.{Counts}
 use Rattle.io.specs.Digits.{glyph, digits, Fewest}
-use Rattle.cells.specs.Choice.{cond-yes, cond-no}
-use Rattle.listing.specs.Text.{spelled, Put}
+use Rattle.cells.specs.Choice.{cond-yes, cond-no, cond-either}
+use Rattle.chip.specs.declared.Record.the-variants.{InTheWay}
+use Rattle.listing.specs.Text.{ascii, spelled, decimalOf, lineOf, Put}
 
 -- ---- bytes put one after the other
 
@@ -48,11 +50,25 @@ put-then {t} {u} {v} {p} {q} {r} {xs} {ys} a b =
 pub put-as : {t u : List ℕ} {p q : ℕ} {xs ys : List ℕ} → ys ≡ xs → Put t p xs q u → Put t p ys q u
 put-as e a = rw e a
 
+-- a text keeps its length
+pub put-length : {t u : List ℕ} {p q : ℕ} {xs : List ℕ} → Put t p xs q u → length u ≡ length t
+put-length {t} {u} {p} {q} {xs} a = ap length (a .text) ∙ length-sets t p xs
+
+-- where two texts fit one after the other, the second fits behind the first
+pub room-then : {t u : List ℕ} {p q : ℕ} {xs : List ℕ} (ys : List ℕ) → Put t p xs q u → p + length (xs ++ ys) ≤ length t → q + length ys ≤ length u
+room-then {t} {u} {p} {q} {xs} ys a fit = omega (arith, a .end, put-length a, length-append xs ys)
+
 -- what is put at the start of a text stands there, and the rest is as it was
-pub put-start : {t u : List ℕ} {r : ℕ} {new : List ℕ} → Put t 0 new r u → r ≤ length u → ((r ≡ length new) × (u ≡ new ++ drop r t)) × Counts r u
-put-start {t} {u} {r} {new} a inside =
+pub put-start : {t u : List ℕ} {r : ℕ} {new : List ℕ} → Put t 0 new r u → length new ≤ length t → ((r ≡ length new) × (u ≡ new ++ drop r t)) × Counts r u
+put-start {t} {u} {r} {new} a fit =
     let is : r ≡ length new = a .end ∙ zero-add (length new) in
-    ((is, a .text ∙ sets-eq new t 0 (omega (arith, is, inside, ap length (a .text), length-sets t 0 new)) ∙ ap (λ (n : ℕ). new ++ drop n t) (sym (a .end))), (inside, sym (length-take-le r u inside)))
+    let inside : r ≤ length u = omega (arith, put-length a) in
+    ((is, a .text ∙ sets-eq new t 0 (omega (arith, zero-add (length new))) ∙ ap (λ (n : ℕ). new ++ drop n t) (sym (a .end))), (inside, sym (length-take-le r u inside)))
+
+-- the line of verdict 9, in the three parts that are put
+pub line-nine : (offset first last : ℕ) → lineOf offset (InTheWay first last) ≡ decimalOf offset ++ ascii " " ++ ((ascii "V9 " ++ decimalOf first ++ ascii " ") ++ (decimalOf last ++ ascii "\n"))
+unfolding lineOf
+line-nine offset first last = ap (λ (t : List ℕ). decimalOf offset ++ ascii " " ++ t) (append-assoc (ascii "V9 " ++ decimalOf first ++ ascii " ") (decimalOf last) (ascii "\n"))
 
 -- ---- a number's digits
 
@@ -60,7 +76,7 @@ digit-decimal : (n : ℕ) → glyph (n % 10) ≡ 48 + n % 10
 digit-decimal n = cond-yes (ltb (n % 10) 10) _ _ (lt-ltb (n % 10) 10 (omega arith))
 
 -- the fewest digits that hold a number, which are those that `io::decimal` answers, are the number in decimal
-pub digits-spelled : (most k n : ℕ) → Fewest 10 1 n k → k ≤ most → digits 10 k n ≡ spelled most n
+digits-spelled : (most k n : ℕ) → Fewest 10 1 n k → k ≤ most → digits 10 k n ≡ spelled most n
 unfolding spelled
 digits-spelled zero k n h l = absurd (omega (arith, h .0))
 digits-spelled (suc most) zero n h l = absurd (omega (arith, h .0))
@@ -82,7 +98,7 @@ digits-spelled (suc most) (suc (suc k)) n h l =
     ∙ sym (ap (λ (x : List ℕ). x ++ (48 + n % 10) ∷ []) (cond-no (ltb n 10) [] (spelled most (n / 10)) (le-ltb n 10 (omega (arith, above, low, some)))))
 
 -- 20 digits hold a number of 64 bits
-pub fewest-most : (n k : ℕ) → n < 2 ^ 64 → Fewest 10 1 n k → k ≤ 20
+fewest-most : (n k : ℕ) → n < 2 ^ 64 → Fewest 10 1 n k → k ≤ 20
 fewest-most n k small h = go (decLe k 20)
   where
     go : Dec (k ≤ 20) → k ≤ 20
@@ -93,3 +109,31 @@ fewest-most n k small h = go (decLe k 20)
         let more : 10 ^ 20 ≤ 10 ^ (k - 1) = pow-le-pow-right some far in
         let above : 10 ^ (k - 1) ≤ n = h .2 (omega arith) in
         absurd (omega (arith, more, above, small))
+
+-- so those of a number of 64 bits are its decimal
+pub digits-decimal : (n k : ℕ) → n < 2 ^ 64 → Fewest 10 1 n k → digits 10 k n ≡ decimalOf n
+digits-decimal n k small h = digits-spelled 20 k n h (fewest-most n k small h)
+
+-- the last digit is one more than those in front of it
+one-more : (most d n : ℕ) → length (spelled most (n / 10)) ≤ d → length (spelled (suc most) n) ≤ suc d
+unfolding spelled
+one-more most d n few =
+    cond-either (λ (front : List ℕ). length (front ++ (48 + n % 10) ∷ []) ≤ suc d) (ltb n 10) [] (spelled most (n / 10)) (λ _. omega arith)
+    (λ _. omega (arith, few, length-append (spelled most (n / 10)) ((48 + n % 10) ∷ [])))
+
+-- a number has no more digits than it may have
+pub spelled-most : (most n : ℕ) → length (spelled most n) ≤ most
+unfolding spelled
+spelled-most zero n = omega arith
+spelled-most (suc most) n = one-more most most n (spelled-most most (n / 10))
+
+-- and below a power of ten no more than the power has zeros
+pub spelled-below : (most d n : ℕ) → 1 ≤ d → n < 10 ^ d → length (spelled most n) ≤ d
+unfolding spelled
+spelled-below zero d n some small = omega arith
+spelled-below (suc most) zero n some small = absurd (omega arith)
+spelled-below (suc most) (suc zero) n some small =
+    let one : cond (ltb n 10) [] (spelled most (n / 10)) ≡ [] = cond-yes (ltb n 10) _ _ (lt-ltb n 10 small) in
+    rw one (omega arith)
+spelled-below (suc most) (suc (suc d)) n some small =
+    one-more most (suc d) n (spelled-below most (suc d) (n / 10) (omega arith) (omega (arith, small, pow-suc 10 (suc d))))

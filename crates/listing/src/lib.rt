@@ -1,13 +1,13 @@
 // What the program prints: a run on a blank part, with its records read back from the output, as text.
 ghost use mathlib.Core.Path.{_≡_};
 ghost use mathlib.Core.List.{[], _∷_, _++_};
-ghost use Prim.Native.Nat.{_+_, _*_, _<_, _≤_};
+ghost use Prim.Native.Nat.{_+_, _<_, _≤_};
 ghost use lib.ListN.{length, drop};
 ghost use Rattle.io.specs.Counts.{Counts};
 ghost use Rattle.script.specs.Script.{events};
-ghost use Rattle.listing.specs.Text.{decimalOf, hexDigit, lineOf, longestLine, Put};
+ghost use Rattle.listing.specs.Text.{decimalOf, hexDigit, lineOf, Put};
 ghost use Rattle.listing.specs.Output.{recordAt, readLines};
-ghost use Rattle.listing.specs.Report.{longestScript, outputRoom, textRoom, answerText, runText, reportOf};
+ghost use Rattle.listing.specs.Report.{longestScript, outputRoom, answerText, runText, reportOf};
 use chip::Chip;
 use chip::Record;
 use part::Part;
@@ -15,8 +15,9 @@ use part::Part;
 // The longest script that is run.
 pub const LONGEST: usize = 4096;
 
-// Room for all that is printed of a script: for each of its bytes more than a line needs.
-pub const ROOM: usize = 64 * LONGEST;
+// Room for all that is printed of a script: a line has 14 bytes at the most, a byte of the script one line at the most,
+// and the first and the last line fit in the rest (`report-fits`).
+pub const ROOM: usize = 16 * LONGEST;
 
 // The record that stands at a place of a run's output.
 fn record_at(out: &[u8], at: usize) -> Record
@@ -25,10 +26,12 @@ fn record_at(out: &[u8], at: usize) -> Record
 {
     let first = cells::byte_at(out, at);
     let second = cells::byte_at(out, at + 1);
+    let third = cells::byte_at(out, at + 2);
     match first {
         0x80 => Record::Floating,
         0x81 => Record::Driven(second),
         0x82 => Record::Verdict(second),
+        0x83 => Record::InTheWay(second, third),
         _ => Record::Nothing,
     }
 }
@@ -47,11 +50,9 @@ fn put(text: &mut [u8], at: usize, bytes: &[u8]) -> usize
 }
 
 // Puts a label, a number in decimal, and a byte after it.
-fn put_number(text: &mut [u8; ROOM], at: usize, label: &[u8], n: u64, stop: u8) -> usize
-    requires { ⌜ at + length (now label) + 21 ≤ textRoom ⌝ }
-    ensures { λ r. ⌜ Put (now (text .entry)) at (now (label .entry) ++ decimalOf n ++ (stop ∷ [])) r (now (text .exit))
-        × (r ≤ at + length (now (label .entry)) + 21)
-        × (r ≤ length (now (text .exit))) ⌝ }
+fn put_number(text: &mut [u8], at: usize, label: &[u8], n: u64, stop: u8) -> usize
+    requires { ⌜ at + length (now label ++ decimalOf n ++ (stop ∷ [])) ≤ length (now text) ⌝ }
+    ensures { λ r. ⌜ Put (now (text .entry)) at (now (label .entry) ++ decimalOf n ++ (stop ∷ [])) r (now (text .exit)) ⌝ }
 {
     let mut digits = [0u8; 20];
     let k = io::decimal(n, &mut digits);
@@ -73,9 +74,9 @@ fn hex_digit(d: u8) -> u8
 }
 
 // Puts the line of a record and of its event's offset.
-fn put_line(text: &mut [u8; ROOM], at: usize, offset: usize, said: Record) -> usize
-    requires { ⌜ at + longestLine ≤ textRoom ⌝ }
-    ensures { λ r. ⌜ Put (now (text .entry)) at (lineOf offset said) r (now (text .exit)) × (r ≤ at + longestLine) ⌝ }
+fn put_line(text: &mut [u8], at: usize, offset: usize, said: Record) -> usize
+    requires { ⌜ at + length (lineOf offset said) ≤ length (now text) ⌝ }
+    ensures { λ r. ⌜ Put (now (text .entry)) at (lineOf offset said) r (now (text .exit)) ⌝ }
 {
     let word = put_number(text, at, b"", offset as u64, b' ');
     match said {
@@ -86,14 +87,17 @@ fn put_line(text: &mut [u8; ROOM], at: usize, offset: usize, said: Record) -> us
             put(text, word, &digits)
         }
         Record::Verdict(v) => put_number(text, word, b"V", v as u64, b'\n'),
+        Record::InTheWay(first, last) => {
+            let end = put_number(text, word, b"V9 ", first as u64, b' ');
+            put_number(text, end, b"", last as u64, b'\n')
+        }
     }
 }
 
 // Puts the lines of a script's records, which stand in the output.
-fn put_lines(text: &mut [u8; ROOM], at: usize, s: &[u8], out: &[u8]) -> usize
-    requires { ⌜ (length (now s) ≤ longestScript) × (at + longestLine * length (now s) ≤ textRoom) ⌝ }
-    ensures { λ r. ⌜ Put (now (text .entry)) at (readLines (events (now (s .entry))) (now (out .entry)) 0) r (now (text .exit))
-        × (r ≤ at + longestLine * length (now (s .entry))) ⌝ }
+fn put_lines(text: &mut [u8], at: usize, s: &[u8], out: &[u8]) -> usize
+    requires { ⌜ (length (now s) ≤ longestScript) × (at + length (readLines (events (now s)) (now out) 0) ≤ length (now text)) ⌝ }
+    ensures { λ r. ⌜ Put (now (text .entry)) at (readLines (events (now (s .entry))) (now (out .entry)) 0) r (now (text .exit)) ⌝ }
 {
     let mut end = at;
     let mut offset = 0;
@@ -113,7 +117,7 @@ fn put_lines(text: &mut [u8; ROOM], at: usize, s: &[u8], out: &[u8]) -> usize
 
 // Puts what follows line 1: the lines of the records and the last line, or the refusal.
 fn put_answer(
-    text: &mut [u8; ROOM],
+    text: &mut [u8],
     at: usize,
     s: &[u8],
     out: &[u8],
@@ -121,9 +125,9 @@ fn put_answer(
     offset: usize,
     ticks: u64,
 ) -> usize
-    requires { ⌜ (length (now s) ≤ longestScript) × (at ≤ longestLine) ⌝ }
-    ensures { λ r. ⌜ Put (now (text .entry)) at (answerText (readLines (events (now (s .entry))) (now (out .entry)) 0) refusal offset ticks) r (now (text .exit))
-        × (r ≤ length (now (text .exit))) ⌝ }
+    requires { ⌜ (length (now s) ≤ longestScript)
+        × (at + length (answerText (readLines (events (now s)) (now out) 0) refusal offset ticks) ≤ length (now text)) ⌝ }
+    ensures { λ r. ⌜ Put (now (text .entry)) at (answerText (readLines (events (now (s .entry))) (now (out .entry)) 0) refusal offset ticks) r (now (text .exit)) ⌝ }
 {
     if refusal != 0 {
         let end = put_number(text, at, b"answer ", refusal as u64, b' ');
@@ -134,9 +138,9 @@ fn put_answer(
 }
 
 // Runs a script with an empty SFDP area, and puts what is printed of the run.
-fn put_run(text: &mut [u8; ROOM], chip: Chip, mem: &mut [u8], s: &[u8], out: &mut [u8]) -> usize
-    requires { ⌜ length (now s) ≤ longestScript ⌝ }
-    ensures { λ r. ⌜ Put (now (text .entry)) 0 (runText chip (now (mem .entry)) (now (s .entry)) (now (out .entry))) r (now (text .exit)) × (r ≤ length (now (text .exit))) ⌝ }
+fn put_run(text: &mut [u8], chip: Chip, mem: &mut [u8], s: &[u8], out: &mut [u8]) -> usize
+    requires { ⌜ (length (now s) ≤ longestScript) × (length (runText chip (now mem) (now s) (now out)) ≤ length (now text)) ⌝ }
+    ensures { λ r. ⌜ Put (now (text .entry)) 0 (runText chip (now (mem .entry)) (now (s .entry)) (now (out .entry))) r (now (text .exit)) ⌝ }
 {
     let at = put_number(text, 0, b"part ", mem.len() as u64, b'\n');
     let r = script::run(chip, mem, &[], s, out);

@@ -1,12 +1,8 @@
--- `report` goes by the script's length: too long, only that line, else the run's text; either stands at the start of the text.
-use mathlib.Core.Path.{sym, ap, _∙_}
+-- `report` goes by the script's length: too long, only that line, else the run's text, for which there is room (`report-fits`); either stands at the start of the text.
 use native.Mathlib.Omega.{arith}
-use lib.ListN.{replicate}
-use Rattle.part.specs.Part.{sector}
-use Rattle.chip.specs.declared.Chip.{Chip}
-use Rattle.listing.specs.Report.{outputRoom, runText}
-use Rattle.listing.specs.TextLaws.{put-as, put-start}
+use Rattle.listing.specs.TextLaws.{put-start}
 use Rattle.listing.specs.ReportLaws.{report-long, report-run}
+use Rattle.listing.specs.RoomLaws.{report-fits}
 use borrow.Author.Needs.{needs}
 use Rattle.listing.proofs.report.Statement.{statement}
 use Rattle.listing.proofs.report.Tie as tie
@@ -18,7 +14,7 @@ put-requires : tie.Need-put-requires
 put-requires c κs = search needs
 
 returns : tie.Need-returns
-returns c = put-start (put-as (report-long _ (c .before .before .before .if1 .taken)) (c .put .ensures)) (omega (arith, c .put .ensures .end, c .put .kept .0, c .before .before .put-arg .given .0))
+returns c = rw (report-long _ (c .before .before .before .if1 .taken)) (put-start (c .put .ensures) (omega (arith, c .before .before .put-arg .given .0)))
 
 fresh-requires : tie.Need-fresh-requires
 fresh-requires c κs = search needs
@@ -30,10 +26,10 @@ slice-aggregate-put-run-2 : tie.Need-slice-aggregate-put-run-2
 slice-aggregate-put-run-2 c = search needs
 
 put-run-requires : tie.Need-put-run-requires
-put-run-requires c κs = search needs
+put-run-requires c κs = (c .before .before .before .before .if1 .left, omega (arith, c .before .before .before .put-run-arg .given .0, rw (← c .before .before .fresh .ensures) at (report-fits (c .before .before .before .before .before .before .args .s .now) (c .before .before .before .before .if1 .left))))
 
 returns-2 : tie.Need-returns-2
-returns-2 c = put-start (put-as (report-run _ (c .before .before .before .before .before .before .before .if1 .left) ∙ ap (λ (k : Chip). runText k (replicate sector 255) (c .before .before .before .before .before .before .before .before .before .args .s .now) (replicate outputRoom 0)) (sym (c .before .before .before .before .before .fresh .ensures))) (c .before .before .put-run .ensures .0)) (c .before .before .put-run .ensures .1)
+returns-2 c = rw (report-run _ (c .before .before .before .before .before .before .before .if1 .left), ← c .before .before .before .before .before .fresh .ensures) (put-start (c .before .before .put-run .ensures) (omega (arith, c .before .before .before .before .before .before .put-run-arg .given .0, rw (← c .before .before .before .before .before .fresh .ensures) at (report-fits (c .before .before .before .before .before .before .before .before .before .args .s .now) (c .before .before .before .before .before .before .before .if1 .left)))))
 
 pub report-spec : {M : Type 1} → statement M
 report-spec =

@@ -1,0 +1,152 @@
+-- How long what is printed can be: a record's word and its line, the lines of a run, and the whole text, for which there is room.
+use Prim.Native.Nat.{ℕ, zero, suc, _+_, _*_, _<_, _≤_}
+use mathlib.Core.Bool.{Bool, true, false, cond}
+use mathlib.Core.List.{List, [], _∷_}
+use mathlib.Core.Path.{_≡_, refl, sym, ap, _∙_}
+use native.Mathlib.Omega.{arith}
+use lib.Dec.{eqb, leb}
+use lib.ListN.{length, replicate, length-append, length-replicate}
+use borrow.Author.Tests.{leb-false}
+use Rattle.cells.specs.Choice.{cond-either}
+use Rattle.part.specs.Part.{permitted, sector, sectorsIn, Setting, settingOf}
+use Rattle.part.specs.declared.Protected.{Protected}
+use Rattle.part.specs.declared.Protected.the-variants.{NoSector, Sectors}
+use Rattle.part.specs.Protection.{protectedSectors}
+use Rattle.part.specs.Laws.{ends-small}
+use Rattle.kinds.specs.Kinds.{yields}
+use Rattle.kinds.specs.Body.{nextAt}
+use Rattle.chip.specs.declared.Chip.{Chip}
+use Rattle.chip.specs.declared.Record.{Record}
+use Rattle.chip.specs.declared.Record.the-variants.{Nothing, Floating, Driven, Verdict, InTheWay}
+use Rattle.chip.specs.Chip.{fresh}
+use Rattle.legal.specs.Legal.{legal, legalJob, legalCore, legalFrame, isEmpty, isBlank}
+use Rattle.legal.specs.Legality.{LegalChip, chip-facts}
+use Rattle.frame.specs.Frame.{Exchange, exchanged}
+use Rattle.frame.specs.Legality.{taken-each, exchanged-each}
+use Rattle.verdict.specs.Verdict.{verdict, inTheWay, recordOf}
+use Rattle.verdict.specs.Laws.{verdict-most}
+use Rattle.event.specs.Event.{Outcome, deselect, applied}
+use Rattle.event.specs.Laws.{applied-each}
+use Rattle.event.specs.Legality.{legal-applied}
+use Rattle.event.specs.Keeps.{length-applied}
+use Rattle.script.specs.declared.Ran.{Ran}
+use Rattle.script.specs.Script.{Event, eventAt, walk, eventsFrom, events}
+use Rattle.script.specs.Run.{World, world, does, onward, answerOf}
+use Rattle.listing.specs.Text.{wordOf, lineOf, partLine, doneLine, refusedLine, longestLine}
+use Rattle.listing.specs.TextLaws.{spelled-most, spelled-below}
+use Rattle.listing.specs.Report.{longestScript, outputRoom, textRoom, linesOf, answerText, programArea, runText}
+
+-- ---- a record's line
+
+-- a record with numbers as small as those of a legal state: a verdict of the list, and sectors of the largest part
+abbrev Small : Record → Type 0
+Small Nothing = Unit {0}
+Small Floating = Unit {0}
+Small (Driven b) = Unit {0}
+Small (Verdict v) = v ≤ 12
+Small (InTheWay first last) = (first ≤ 31) × (last ≤ 31)
+
+-- its word is at most `V9 31 31`
+word-most : (said : Record) → Small said → length (wordOf said) ≤ 8
+word-most Nothing small = omega arith
+word-most Floating small = omega arith
+word-most (Driven b) small = omega arith
+word-most (Verdict v) small = omega (arith, spelled-below 20 2 v (omega arith) (omega arith))
+word-most (InTheWay first last) (f, l) =
+    simp length-append (omega (arith, spelled-below 20 2 first (omega arith) (omega arith), spelled-below 20 2 last (omega arith) (omega arith)))
+
+-- and its line, where it is in the longest script, at most the longest line
+line-most : (offset : ℕ) (said : Record) → offset < longestScript → Small said → length (lineOf offset said) ≤ longestLine
+unfolding lineOf
+line-most offset said early small = simp length-append (omega (arith, spelled-below 20 4 offset (omega arith) (omega arith), word-most said small))
+
+-- ---- what a legal state says
+
+module _ (T : Setting) (c : Chip) (m : List ℕ) (same : T .sectors ≡ sectorsIn (length m)) (l : legal c (length m) ≡ true) where
+  abbrev facts : LegalChip c (length m)
+  facts = chip-facts c (length m) l
+
+  abbrev SmallSaid : Outcome → Type 0
+  SmallSaid o = Small (o .said)
+
+  -- the ends of the protected sectors lie on the part
+  ends-said : (range : Protected) → protectedSectors (c .core .level) (c .core .tb) (T .sectors) ≡ range → Small (inTheWay range)
+  ends-said NoSector e = omega arith
+  ends-said (Sectors first last) e =
+      ends-small (c .core .level) (c .core .tb) (length m) first last (facts .length-permitted) (ap (protectedSectors (c .core .level) (c .core .tb)) (sym same) ∙ e)
+
+  deselect-small : (loose : Bool) → SmallSaid (deselect T c m loose)
+  unfolding recordOf
+  deselect-small loose =
+      cond-either SmallSaid (c .frame .selected) _ _
+      (λ _. cond-either Small (eqb v 9) _ _ (λ _. ends-said _ refl) (λ _. verdict-most (T .sectors) (c .core) (c .frame) loose (facts .frame-part .judgement-known)))
+      (λ _. omega arith)
+    where
+      v : ℕ
+      v = verdict (T .sectors) (c .core) (c .frame) loose
+
+  exchange-small : (b : ℕ) → Small (exchanged T (c .core) (c .frame) (c .load) m b .said)
+  exchange-small b =
+      exchanged-each T (c .core) (c .frame) (c .load) m b (λ (e : Exchange). Small (e .said)) (λ _. tt) (λ _ _. tt) (λ _. tt)
+      (λ _. taken-each T (c .core) (c .frame) (c .load) m b (λ (e : Exchange). Small (e .said)) (λ _. tt) (λ _. tt) (λ _. tt) (λ _. tt) tt (λ _. tt) (λ _. tt))
+
+  -- whatever the event, what it says is small
+  said-small : (kind body : ℕ) → SmallSaid (applied T c m kind body)
+  said-small kind body =
+      applied-each T c m kind body SmallSaid
+      (λ _. tt) (λ _. exchange-small _) (λ _. deselect-small false) (λ _. tt) (λ _. tt) (λ _. tt) (λ _. tt) (λ _. deselect-small true)
+
+-- ---- the lines of a run
+
+-- as many events as the fuel allows have at most so many lines, each at most the longest
+lines-most : (T : Setting) (s : List ℕ) → length s ≤ longestScript → (fuel at : ℕ) (w : World) → T .sectors ≡ sectorsIn (length (w .memory)) → legal (w .chip) (length (w .memory)) ≡ true
+    → length (linesOf T (walk fuel s at) w) ≤ longestLine * fuel
+unfolding walk linesOf
+lines-most T s short zero at w same l = omega arith
+lines-most T s short (suc fuel) at w same l =
+    let e : Event = eventAt s at in
+    let keeps : length (onward T e w .memory) ≡ length (w .memory) = length-applied T (w .chip) (w .memory) (e .kind) (e .body) in
+    let later : length (linesOf T (walk fuel s (nextAt s at)) (onward T e w)) ≤ longestLine * fuel =
+    lines-most T s short fuel (nextAt s at) (onward T e w) (same ∙ ap sectorsIn (sym keeps))
+    (ap (legal (onward T e w .chip)) keeps ∙ legal-applied T (w .chip) (w .memory) (e .kind) (e .body) same l) in
+    cond-either (λ (es : List Event). length (linesOf T es w) ≤ longestLine * suc fuel) (leb (length s) at) [] (e ∷ walk fuel s (nextAt s at)) (λ _. omega arith)
+    (λ inside.
+    let line : List ℕ = cond (yields (e .kind)) (lineOf at (does T e w .said)) [] in
+    let short-line : length line ≤ longestLine =
+    cond-either (λ (t : List ℕ). length t ≤ longestLine) (yields (e .kind)) _ _
+    (λ _. line-most at (does T e w .said) (omega (arith, leb-false (length s) at inside)) (said-small T (w .chip) (w .memory) same l (e .kind) (e .body))) (λ _. omega arith) in
+    omega (arith, length-append line (linesOf T (walk fuel s (nextAt s at)) (onward T e w)), short-line, later))
+
+-- ---- the whole text
+
+-- the first line, and what follows it: a number has at most 20 digits
+part-most : (n : ℕ) → length (partLine n) ≤ 26
+unfolding partLine
+part-most n = simp length-append (omega (arith, spelled-most 20 n))
+
+answer-most : (lines : List ℕ) (refusal offset ticks : ℕ) → length (answerText lines refusal offset ticks) ≤ length lines + 52
+unfolding answerText doneLine refusedLine
+answer-most lines refusal offset ticks =
+    cond-either (λ (t : List ℕ). length t ≤ length lines + 52) (eqb refusal 0) _ _
+    (λ _. simp length-append (omega (arith, spelled-most 20 ticks)))
+    (λ _. simp length-append (omega (arith, spelled-most 20 refusal, spelled-most 20 offset)))
+
+-- there is room for a run of a script that is not too long, from any legal state
+run-fits : (c : Chip) (m s out : List ℕ) → legal c (length m) ≡ true → length s ≤ longestScript → length (runText c m s out) ≤ textRoom
+unfolding runText eventsFrom
+run-fits c m s out l short =
+    let r : Ran = answerOf c m programArea s out in
+    let lines : List ℕ = linesOf (settingOf (length m) programArea) (events s) (world c m [] 0) in
+    omega (
+      arith,
+      length-append (partLine (length m)) (answerText lines (r .refusal) (r .offset) (r .ticks)),
+      part-most (length m),
+      answer-most lines (r .refusal) (r .offset) (r .ticks),
+      lines-most (settingOf (length m) programArea) s short (length s) 0 (world c m [] 0) refl l,
+    )
+
+-- so there is for what the program prints
+pub report-fits : (s : List ℕ) → length s ≤ longestScript → length (runText (fresh 0) (replicate sector 255) s (replicate outputRoom 0)) ≤ textRoom
+unfolding permitted fresh legalJob legalCore legalFrame isEmpty isBlank legal
+report-fits s short =
+    run-fits (fresh 0) (replicate sector 255) s (replicate outputRoom 0) (ap (legal (fresh 0)) (length-replicate {A = ℕ} sector 255)) short
