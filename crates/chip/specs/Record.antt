@@ -4,7 +4,7 @@ use mathlib.Core.List.{List, [], _∷_}
 use Rattle.chip.specs.declared.Record.{Record}
 use Rattle.chip.specs.declared.Record.the-variants.{Nothing, Floating, Driven, Verdict, InTheWay}
 
--- a record's bytes: the first tells how many follow; a verdict is 82h and its number, but for verdict 9, which is 83h and the two ends of the protected sectors
+-- a record's bytes: the first tells how many follow; 83h and the two ends of the protected sectors are how verdict 9 is said (RULES, Records)
 abbrev pub recordBytes : Record → List ℕ
 recordBytes Nothing = []
 recordBytes Floating = 0x80 ∷ []

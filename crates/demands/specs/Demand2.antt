@@ -7,7 +7,7 @@ use mathlib.Core.Path.{_≡_}
 use lib.Dec.{eqb, leb}
 use lib.ListN.{length, getD, set, replicate}
 use Rattle.part.specs.Part.{sectorsIn}
-use Rattle.part.specs.Protection.{protectedCount, protectedSector}
+use Rattle.part.specs.Protection.{protectedCount, isProtected}
 use Rattle.commands.specs.Table.{rowOf, fitsRule}
 use Rattle.chip.specs.declared.Chip.{Chip}
 use Rattle.chip.specs.declared.Core.{Core}
@@ -89,7 +89,7 @@ rulesList n k f loose =
     ∷ test 12 (changesCells (f .opcode) && k .suspended && not (k .wen))
     ∷ test 8 (beginsJob (f .opcode) && not (k .wen))
     ∷ test 10 (eqb (f .opcode) 0x01 && k .srwp && not (k .wp))
-    ∷ test 9 (inOneSector (f .opcode) && protectedSector (k .level) (k .tb) (sectorsIn n) (f .address % n / 65536))
+    ∷ test 9 (inOneSector (f .opcode) && isProtected (k .level) (k .tb) (sectorsIn n) (f .address % n / 65536))
     ∷ test 9 (ofTheChip (f .opcode) && not (eqb (k .level) 0))
     ∷ test 2 (beginsJob (f .opcode))
     ∷ [])
@@ -105,8 +105,7 @@ firstProtected S k = cond (k .tb) 0 (S - protectedCount (k .level) S)
 abbrev pub lastProtected : ℕ → Core → ℕ
 lastProtected S k = cond (k .tb) (protectedCount (k .level) S - 1) (S - 1)
 
--- what is said of a verdict: 82h and its number; of verdict 9 it is 83h, the first and the last protected sector, of all there are and not of those under the target
--- (RULES, Records)
+-- what is said of a verdict: 82h and its number; of 9 it is 83h and the ends of all that is protected, whatever the target (RULES, Records)
 abbrev pub saysVerdict : ℕ → Core → ℕ → List ℕ
 saysVerdict n k v = cond (eqb v 9) (0x83 ∷ firstProtected (sectorsIn n) k ∷ lastProtected (sectorsIn n) k ∷ []) (0x82 ∷ v ∷ [])
 
@@ -340,7 +339,7 @@ pub record Begins (M : Model) (c : Chip) (m area bs : List ℕ) (kind : JobKind)
 
 -- the sector of address A is not protected
 abbrev pub FreeAt : Chip → List ℕ → ℕ → Type 0
-FreeAt c m A = protectedSector (c .core .level) (c .core .tb) (sectorsIn (length m)) (A % length m / 65536) ≡ false
+FreeAt c m A = isProtected (c .core .level) (c .core .tb) (sectorsIn (length m)) (A % length m / 65536) ≡ false
 
 -- the jobs that a ready chip with WEN begins, from their bytes, at every address below 2^24; that a load has 256 bytes is what the state's type says
 pub record JobsFromBytes (M : Model) (c : Chip) (m area : List ℕ) : Type 0 where

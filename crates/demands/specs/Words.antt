@@ -8,7 +8,7 @@ use mathlib.Core.Logic.{_↔_}
 use lib.Dec.{eqb}
 use lib.ListN.{replicate}
 use Rattle.part.specs.Part.{permitted, sectorsIn}
-use Rattle.part.specs.Protection.{protectedCount, protectedSector}
+use Rattle.part.specs.Protection.{protectedCount, isProtected}
 use Rattle.chip.specs.declared.Chip.{Chip}
 use Rattle.chip.specs.declared.Core.{Core}
 use Rattle.chip.specs.declared.JobKind.the-variants.{Idle, WriteStatus, Program, SmallErase, SectorErase, ChipErase}
@@ -36,11 +36,11 @@ pub record ProtectionInNumbers : Type 0 where
       ∷ (protectedCount 7 S ≡ S)
       ∷ [])
   -- at the bottom with TB 1, at the top with TB 0
-  pub bottom : (L S cell : ℕ) → (protectedSector L true S (cell / 65536) ≡ true) ↔ (cell < protectedCount L S * 65536)
-  pub top : (L S cell : ℕ) → cell < S * 65536 → (protectedSector L false S (cell / 65536) ≡ true) ↔ ((S - protectedCount L S) * 65536 ≤ cell)
-  -- so of the part's sectors exactly those between the two ends that verdict 9 tells, where there are any; and these are at most 31 on a permitted part
-  pub between : (S : ℕ) (k : Core) (x : ℕ) → x < S → (protectedCount (k .level) S ≡ 0 → ⊥)
-      → (protectedSector (k .level) (k .tb) S x ≡ true) ↔ ((firstProtected S k ≤ x) × (x ≤ lastProtected S k))
+  pub bottom : (L S cell : ℕ) → (isProtected L true S (cell / 65536) ≡ true) ↔ (cell < protectedCount L S * 65536)
+  pub top : (L S cell : ℕ) → cell < S * 65536 → (isProtected L false S (cell / 65536) ≡ true) ↔ ((S - protectedCount L S) * 65536 ≤ cell)
+  -- so exactly the sectors between the two ends that verdict 9 tells, where there are any; and these are at most 31 on a permitted part
+  pub between : (S : ℕ) (k : Core) (x : ℕ) → (protectedCount (k .level) S ≡ 0 → ⊥)
+      → (isProtected (k .level) (k .tb) S x ≡ true) ↔ ((firstProtected S k ≤ x) × (x ≤ lastProtected S k))
   pub at-most-31 : (n : ℕ) (k : Core) → permitted n ≡ true → (protectedCount (k .level) (sectorsIn n) ≡ 0 → ⊥)
       → (firstProtected (sectorsIn n) k ≤ lastProtected (sectorsIn n) k) × (lastProtected (sectorsIn n) k ≤ 31)
 

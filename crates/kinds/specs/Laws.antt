@@ -76,19 +76,12 @@ yields-as kind = go (ℕ-discrete kind EXCHANGE) (ℕ-discrete kind DESELECT) (�
     go (no n) (no m) (yes e) = subst As (sym e) refl
     go (no n) (no m) (no o) = no-record kind n m o .0 ∙ sym (rw (ne-eqb _ _ n, ne-eqb _ _ m, ne-eqb _ _ o))
 
--- and its room by two tests: what an exchange says, and what a deselect says, clean or loose
-pub room-as : (kind : ℕ) → roomOf kind ≡ cond (eqb kind EXCHANGE) 2 (cond (eqb kind DESELECT || eqb kind LOOSE) 3 0)
+-- and its room by that test and one more: two bytes for an exchange, three for a deselect, clean or loose
+pub room-as : (kind : ℕ) → roomOf kind ≡ cond (yields kind) (cond (eqb kind EXCHANGE) 2 3) 0
 unfolding kindRow kindRowIn
-room-as kind = go (ℕ-discrete kind EXCHANGE) (ℕ-discrete kind DESELECT) (ℕ-discrete kind LOOSE)
-  where
-    As : ℕ → Type 0
-    As k = roomOf k ≡ cond (eqb k EXCHANGE) 2 (cond (eqb k DESELECT || eqb k LOOSE) 3 0)
-
-    go : Dec (kind ≡ EXCHANGE) → Dec (kind ≡ DESELECT) → Dec (kind ≡ LOOSE) → As kind
-    go (yes e) d l = subst As (sym e) refl
-    go (no n) (yes e) l = subst As (sym e) refl
-    go (no n) (no m) (yes e) = subst As (sym e) refl
-    go (no n) (no m) (no o) = no-record kind n m o .1 ∙ sym (rw (ne-eqb _ _ n, ne-eqb _ _ m, ne-eqb _ _ o))
+room-as =
+    kind-each (λ kind. roomOf kind ≡ cond (yields kind) (cond (eqb kind EXCHANGE) 2 3) 0) refl refl refl refl refl refl refl refl
+    (λ kind o. ap (λ (r : KindRow). r .room) (o .no-row) ∙ sym (ap (λ (r : KindRow). cond (isSaid (r .says)) (cond (eqb kind EXCHANGE) 2 3) 0) (o .no-row)))
 
 -- a body in its range fits two bytes
 pub range-small : (kind body : ℕ) → inRange kind body ≡ true → (bodyLength kind ≡ 0) ⊎ (body ≤ 65535)

@@ -132,7 +132,7 @@ answer-most lines refusal offset ticks =
     (λ _. simp length-append (omega (arith, spelled-most 20 refusal, spelled-most 20 offset)))
 
 -- there is room for a run of a script that is not too long, from any legal state
-run-fits : (c : Chip) (m s out : List ℕ) → legal c (length m) ≡ true → length s ≤ longestScript → length (runText c m s out) ≤ textRoom
+pub run-fits : (c : Chip) (m s out : List ℕ) → legal c (length m) ≡ true → length s ≤ longestScript → length (runText c m s out) ≤ textRoom
 unfolding runText eventsFrom
 run-fits c m s out l short =
     let r : Ran = answerOf c m programArea s out in

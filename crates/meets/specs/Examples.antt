@@ -14,7 +14,7 @@ use Rattle.part.specs.Part.{Setting, setting}
 use Rattle.kinds.specs.Kinds.{SELECT, EXCHANGE, DESELECT, TICK, TICKS, knownIn, kindRowIn, knownKind, kindRow}
 use Rattle.commands.specs.Table.{rowOf, rowIn, fitsRule, isRead, isProgram}
 use Rattle.part.specs.declared.Protected.the-variants.{NoSector, Sectors}
-use Rattle.part.specs.Protection.{protectedCount, protectedSectors, protectedSector}
+use Rattle.part.specs.Protection.{protectedCount, protectedSectors, isProtected}
 use Rattle.chip.specs.declared.Core.{Core}
 use Rattle.chip.specs.declared.Frame.{Frame}
 use Rattle.chip.specs.declared.JobKind.{JobKind}
@@ -115,7 +115,7 @@ p6 m = (refl, refl)
 -- P7: a part of one sector is protected whole at level 5: sectors 0 to 0 (RULES, Protection)
 abbrev pub P7 : Type 0
 P7 =
-    ((tb : Bool) (x : ℕ) → x < 1 → protectedSector 5 tb 1 x ≡ true)
+    ((tb : Bool) (x : ℕ) → x < 1 → isProtected 5 tb 1 x ≡ true)
     × ((m : List ℕ)
     → played 1 0x14 (frame (0x06 ∷ []) ++ frame (0x20 ∷ 0x00 ∷ 0xF0 ∷ 0x00 ∷ [])) m .written ≡ 0x80 ∷ 0x82 ∷ 1 ∷ 0x80 ∷ 0x80 ∷ 0x80 ∷ 0x80 ∷ 0x83 ∷ 0 ∷ 0 ∷ [])
 
@@ -123,12 +123,12 @@ p7 : P7
 unfolding runs eventsFrom walk faultAt knownKind knownIn kindRow kindRowIn applied exchanged taken judge fresh rowOf rowIn isProgram verdict recordOf listed isRead commandVerdict jobVerdict jobOf fitsRule settled acted heldAfter instantly protectedSectors protectedCount
 p7 = (sectors-all, λ m. refl)
   where
-    only : (tb : Bool) → protectedSector 5 tb 1 0 ≡ true
+    only : (tb : Bool) → isProtected 5 tb 1 0 ≡ true
     only true = refl
     only false = refl
 
-    sectors-all : (tb : Bool) (x : ℕ) → x < 1 → protectedSector 5 tb 1 x ≡ true
-    sectors-all tb x h = let none : x ≡ 0 = omega arith in subst (λ (y : ℕ). protectedSector 5 tb 1 y ≡ true) (sym none) (only tb)
+    sectors-all : (tb : Bool) (x : ℕ) → x < 1 → isProtected 5 tb 1 x ≡ true
+    sectors-all tb x h = let none : x ≡ 0 = omega arith in subst (λ (y : ℕ). isProtected 5 tb 1 y ≡ true) (sym none) (only tb)
 
 -- P8: a status read between reset enable and reset disarms (RULES, Verdicts)
 abbrev pub P8 : Type 0

@@ -98,7 +98,7 @@ module _ (T : Setting) (c : Chip) (m : List ℕ) (v : ℕ) (some : v ≡ 0 → �
   deselect-closed : (loose : Bool) → deselect T c m loose .said ≡ Verdict v → ClosedWith T c m v (deselect T c m loose)
   deselect-closed loose =
       cond-either (λ (o : Outcome). o .said ≡ Verdict v → ClosedWith T c m v o) (c .frame .selected) _ _
-      (λ _ e. let is : verdict (T .sectors) (c .core) (c .frame) loose ≡ v = record-tells (T .sectors) (c .core) _ v (ap recordBytes e) in record { loose = loose; verdict-is = is; closed = ap (closes T c m) is })
+      (λ _ e. let is : verdict (T .sectors) (c .core) (c .frame) loose ≡ v = record-tells (T .sectors) (c .core) _ v e in record { loose = loose; verdict-is = is; closed = ap (closes T c m) is })
       (λ _ e. absurd (some (sym (ap (λ (r : Record). getD (recordBytes r) 1 0) e))))
 
   -- An event that says a verdict other than 0 closes a frame with it.

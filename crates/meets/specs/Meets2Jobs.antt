@@ -9,7 +9,7 @@ use lib.ListN.{length, replicate}
 use borrow.Author.Tests.{le-leb, leb-true, eq-eqb}
 use Rattle.cells.specs.Choice.{cond-yes, and-left}
 use Rattle.part.specs.Part.{Setting, settingOf, sectorsIn, lengthOf, roundedDown}
-use Rattle.part.specs.Protection.{protectedSector}
+use Rattle.part.specs.Protection.{isProtected}
 use Rattle.part.specs.Laws.{permitted-some, any-by-level}
 use Rattle.kinds.specs.Kinds.{knownIn, knownKind, kindRowIn, kindRow}
 use Rattle.commands.specs.Table.{rowOf, rowIn, fitsRule, isProgram}
@@ -133,7 +133,7 @@ module _ (c : Chip) (m area : List ℕ) (ready : Ready c m area) (enabled : c .c
 
   -- rounded down inside its sector, an address is as free as it was
   free-start : (size A : ℕ) → ((x : ℕ) → roundedDown size x / 65536 ≡ x / 65536) → FreeAt c m A → startProtected S (c .core) (roundedDown size (A % lengthOf S)) ≡ false
-  free-start size A same free = ap (protectedSector (c .core .level) (c .core .tb) S) (same (A % lengthOf S) ∙ ap (λ (n : ℕ). A % n / 65536) (as-long c m area fit)) ∙ free
+  free-start size A same free = ap (isProtected (c .core .level) (c .core .tb) S) (same (A % lengthOf S) ∙ ap (λ (n : ℕ). A % n / 65536) (as-long c m area fit)) ∙ free
 
   -- ---- command by command
 

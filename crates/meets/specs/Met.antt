@@ -6,7 +6,7 @@ use mathlib.Core.Path.{_≡_, refl, ap}
 use native.Mathlib.Omega.{arith}
 use lib.ListN.{length, replicate}
 use Rattle.part.specs.Part.{permitted, sectorsIn, setting}
-use Rattle.part.specs.Protection.{protectedCount, protectedSectors, protectedSector}
+use Rattle.part.specs.Protection.{protectedCount, protectedSectors, isProtected}
 use Rattle.commands.specs.Table.{rowOf, rowIn, fitsRule}
 use Rattle.chip.specs.declared.Chip.{Chip}
 use Rattle.chip.specs.declared.Core.{Core}
@@ -46,7 +46,7 @@ ready-met m long = record { quiet = record { fit = record { state-legal = ap (le
 
 pub free-met : (m : List ℕ) (A : ℕ) → length m ≡ 65536 → FreeAt enabled m A
 unfolding fresh protectedSectors protectedCount
-free-met m A long = ap (λ (n : ℕ). protectedSector 0 false (sectorsIn n) (A % n / 65536)) long
+free-met m A long = ap (λ (n : ℕ). isProtected 0 false (sectorsIn n) (A % n / 65536)) long
 
 pub stopped-met : (length (enabled .load) ≡ 256) × (enabled .core .wen ≡ true) × (stopOf (enabled .core) 0xFF ≡ 3)
 unfolding rowOf rowIn

@@ -9,7 +9,7 @@ use lib.Dec.{eqb}
 use borrow.Author.Tests.{ne-eqb}
 use Rattle.cells.specs.Choice.{cond-yes, cond-no, not-so}
 use Rattle.part.specs.Part.{permitted, sectorsIn, lengthOf, page, smallSector, sector, roundedDown}
-use Rattle.part.specs.Protection.{protectedCount, protectedSector, anyProtected}
+use Rattle.part.specs.Protection.{protectedCount, protectedSectors, protectsAny, isProtected}
 use Rattle.part.specs.Laws.{permitted-whole, permitted-some, any-by-level}
 use Rattle.commands.specs.Table.{rowOf, fitsRule, isRead, isProgram}
 use Rattle.chip.specs.declared.Core.{Core}
@@ -61,13 +61,13 @@ module _ (n : ℕ) (p : permitted n ≡ true) (k : Core) (address : ℕ) where
       cond (changesCells opcode && k .suspended && not (k .wen)) 12
       (cond (beginsJob opcode && not (k .wen)) 8
       (cond (eqb opcode 0x01 && k .srwp && not (k .wp)) 10
-      (cond (inOneSector opcode && protectedSector (k .level) (k .tb) (sectorsIn n) (address % n / 65536)) 9
+      (cond (inOneSector opcode && isProtected (k .level) (k .tb) (sectorsIn n) (address % n / 65536)) 9
       (cond (ofTheChip opcode && not (eqb (k .level) 0)) 9
       (cond (beginsJob opcode) 2 1)))))
 
   -- the verdict of a job in one sector, that sector being x
   abbrev ofSector : ℕ → ℕ
-  ofSector x = cond (k .suspended && not (k .wen)) 12 (cond (not (k .wen)) 8 (cond (protectedSector (k .level) (k .tb) (sectorsIn n) x) 9 2))
+  ofSector x = cond (k .suspended && not (k .wen)) 12 (cond (not (k .wen)) 8 (cond (isProtected (k .level) (k .tb) (sectorsIn n) x) 9 2))
 
   -- a job's place lies in the sector of its address
   same-sector : (size : ℕ) → roundedDown size (address % lengthOf (sectorsIn n)) / sector ≡ address % lengthOf (sectorsIn n) / sector
@@ -78,7 +78,7 @@ module _ (n : ℕ) (p : permitted n ≡ true) (k : Core) (address : ℕ) where
   abbrev ofChip : Bool → ℕ
   ofChip kept-off = cond (k .suspended && not (k .wen)) 12 (cond (not (k .wen)) 8 (cond kept-off 9 2))
 
-  by-level : ofChip (anyProtected (k .level) (k .tb) (sectorsIn n)) ≡ ofChip (not (eqb (k .level) 0))
+  by-level : ofChip (protectsAny (protectedSectors (k .level) (k .tb) (sectorsIn n))) ≡ ofChip (not (eqb (k .level) 0))
   by-level = ap ofChip (any-by-level (k .level) (k .tb) (sectorsIn n) (permitted-some n p))
 
   job-part : (opcode : ℕ) → defined opcode ≡ inList opcode

@@ -1,4 +1,4 @@
--- What is true of the part: its lengths, how many sectors are protected, and the bytes inside an area.
+-- What is true of the part: its lengths, its protected sectors and their two ends, and the bytes inside an area.
 use Prim.Native.Nat.{ℕ, zero, suc, _≤_, _<_, _-_, _^_}
 use mathlib.Core.Bool.{Bool, true, false, cond, not, _||_, false≢true}
 use mathlib.Core.List.{List, [], _∷_}
@@ -14,7 +14,7 @@ use Rattle.part.specs.Part.{permitted, sectorsIn, lengthOf}
 use Rattle.part.specs.Area.{areaByte}
 use Rattle.part.specs.declared.Protected.{Protected}
 use Rattle.part.specs.declared.Protected.the-variants.{NoSector, Sectors}
-use Rattle.part.specs.Protection.{protectedCount, protectedSectors, protectsAny, anyProtected}
+use Rattle.part.specs.Protection.{protectedCount, firstEnd, lastEnd, protectedSectors, protectsAny}
 
 -- ---- protection
 
@@ -37,20 +37,16 @@ module _ (L : ℕ) (tb : Bool) (S : ℕ) where
   unfolding protectedSectors
   no-ends none = cond-yes _ _ _ (eq-eqb (protectedCount L S) 0 none)
 
-  pub two-ends : (protectedCount L S ≡ 0 → ⊥) → protectedSectors L tb S ≡ Sectors (cond tb 0 (S - protectedCount L S)) (cond tb (protectedCount L S - 1) (S - 1))
+  pub two-ends : (protectedCount L S ≡ 0 → ⊥) → protectedSectors L tb S ≡ Sectors (firstEnd (protectedCount L S) tb S) (lastEnd (protectedCount L S) tb S)
   unfolding protectedSectors
-  two-ends some = cond-no _ _ _ (ne-eqb (protectedCount L S) 0 some) ∙ at tb
-    where
-      at : (b : Bool) → cond b (Sectors 0 (protectedCount L S - 1)) (Sectors (S - protectedCount L S) (S - 1)) ≡ Sectors (cond b 0 (S - protectedCount L S)) (cond b (protectedCount L S - 1) (S - 1))
-      at true = refl
-      at false = refl
+  two-ends some = cond-no _ _ _ (ne-eqb (protectedCount L S) 0 some)
 
 -- so there is a protected sector exactly where the level is not 0
-pub any-by-level : (L : ℕ) (tb : Bool) (S : ℕ) → 1 ≤ S → anyProtected L tb S ≡ not (eqb L 0)
+pub any-by-level : (L : ℕ) (tb : Bool) (S : ℕ) → 1 ≤ S → protectsAny (protectedSectors L tb S) ≡ not (eqb L 0)
 unfolding protectedCount
 any-by-level L tb S some = go (ℕ-discrete L 0)
   where
-    go : Dec (L ≡ 0) → anyProtected L tb S ≡ not (eqb L 0)
+    go : Dec (L ≡ 0) → protectsAny (protectedSectors L tb S) ≡ not (eqb L 0)
     go (yes z) = ap protectsAny (no-ends L tb S (ap (λ (l : ℕ). protectedCount l S) z)) ∙ sym (ap not (eq-eqb L 0 z))
     go (no n) =
         let count : 1 ≤ protectedCount L S = protectedCount-some L S some n in
@@ -75,7 +71,7 @@ ends-inside L tb S first last e = go (ℕ-discrete (protectedCount L S) 0)
         let is = sym (two-ends L tb S some) ∙ e in
         at tb (ap low is) (ap high is)
       where
-        at : (b : Bool) → cond b 0 (S - protectedCount L S) ≡ first → cond b (protectedCount L S - 1) (S - 1) ≡ last → (first ≤ last) × (last < S)
+        at : (b : Bool) → firstEnd (protectedCount L S) b S ≡ first → lastEnd (protectedCount L S) b S ≡ last → (first ≤ last) × (last < S)
         at true f l = (omega (arith, f, l, protectedCount-le L S), omega (arith, f, l, protectedCount-le L S))
         at false f l = (omega (arith, f, l, protectedCount-le L S), omega (arith, f, l, protectedCount-le L S))
 

@@ -9,27 +9,27 @@ use Rattle.part.specs.declared.Protected.the-variants.{NoSector, Sectors
 unfoldable pub protectedCount : ℕ → ℕ → ℕ
 protectedCount L S = cond (eqb L 0) 0 (cond (ltb L 6) (min (2 ^ (L - 1)) S) S)
 
--- the first and the last of `count` sectors of S: with TB 1 they are counted from the bottom, with TB 0 from the top
-abbrev pub endsOf : ℕ → Bool → ℕ → Protected
-endsOf count tb S = cond (eqb count 0) NoSector (cond tb (Sectors 0 (count - 1)) (Sectors (S - count) (S - 1)))
+-- the first and the last of `count` sectors of S: with TB 1 they are counted from the bottom, with TB 0 from the top (RULES, Protection)
+abbrev pub firstEnd : ℕ → Bool → ℕ → ℕ
+firstEnd count tb S = cond tb 0 (S - count)
 
--- the protect test: the first and the last protected sector, nothing where the count is 0
+abbrev pub lastEnd : ℕ → Bool → ℕ → ℕ
+lastEnd count tb S = cond tb (count - 1) (S - 1)
+
+-- the protect test: the two ends of the protected sectors, nothing where the count is 0 (RULES, Protection)
 unfoldable pub protectedSectors : ℕ → Bool → ℕ → Protected
-protectedSectors L tb S = endsOf (protectedCount L S) tb S
+protectedSectors L tb S =
+    cond (eqb (protectedCount L S) 0) NoSector (Sectors (firstEnd (protectedCount L S) tb S) (lastEnd (protectedCount L S) tb S))
 
--- whether sector x lies between the two ends
+-- whether sector x lies between the two ends, both of them included; and whether there is any such sector (RULES, Protection)
 abbrev pub protects : Protected → ℕ → Bool
 protects NoSector x = false
 protects (Sectors first last) x = leb first x && leb x last
 
--- whether there is any protected sector
 abbrev pub protectsAny : Protected → Bool
 protectsAny NoSector = false
 protectsAny (Sectors first last) = true
 
--- whether sector x of S is protected, and whether any of them is
-abbrev pub protectedSector : ℕ → Bool → ℕ → ℕ → Bool
-protectedSector L tb S x = protects (protectedSectors L tb S) x
-
-abbrev pub anyProtected : ℕ → Bool → ℕ → Bool
-anyProtected L tb S = protectsAny (protectedSectors L tb S)
+-- the plain yes: whether sector x of S is protected
+abbrev pub isProtected : ℕ → Bool → ℕ → ℕ → Bool
+isProtected L tb S x = protects (protectedSectors L tb S) x

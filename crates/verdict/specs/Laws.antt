@@ -1,7 +1,7 @@
 -- What is true of verdicts: what 1, 2 and 9 say of the frame and the state, what is said of them, and that the others change no job and no status bit.
-use Prim.Native.Nat.{ℕ, _-_, _/_, _≤_}
+use Prim.Native.Nat.{ℕ, _/_, _≤_}
 use mathlib.Core.Bool.{Bool, true, false, cond, not, _&&_, _||_, false≢true}
-use mathlib.Core.List.{List, [], _∷_}
+use mathlib.Core.List.{List}
 use mathlib.Core.Path.{_≡_, refl, sym, ap, subst, _∙_}
 use native.Mathlib.Omega.{arith}
 use native.Mathlib.Decide.{ℕ-discrete}
@@ -12,7 +12,7 @@ use Rattle.cells.specs.Choice.{cond-yes, cond-no, cond-either, and-left, and-ri
 use Rattle.part.specs.Part.{sector}
 use Rattle.part.specs.declared.Protected.{Protected}
 use Rattle.part.specs.declared.Protected.the-variants.{NoSector, Sectors}
-use Rattle.part.specs.Protection.{protectedCount, protectedSectors, protects, protectsAny, protectedSector}
+use Rattle.part.specs.Protection.{protectedCount, firstEnd, lastEnd, protectedSectors, protects, protectsAny, isProtected}
 use Rattle.part.specs.Laws.{no-ends, two-ends}
 use Rattle.commands.specs.Table.{rowOf, fitsRule, isRead, isProgram, writeEnable, writeDisable, suspend, resume, wake, deepPowerDown, reset}
 use Rattle.chip.specs.declared.Core.{Core}
@@ -20,6 +20,7 @@ use Rattle.chip.specs.declared.Frame.{Frame}
 use Rattle.chip.specs.declared.Job.{Job}
 use Rattle.chip.specs.declared.JobKind.{JobKind}
 use Rattle.chip.specs.declared.JobKind.the-variants.{Idle, WriteStatus, Program, SmallErase, SectorErase, ChipErase}
+use Rattle.chip.specs.declared.Record.{Record}
 use Rattle.chip.specs.declared.Record.the-variants.{Verdict, InTheWay}
 use Rattle.chip.specs.Fields.{withWen, withSuspended, withDeep}
 use Rattle.chip.specs.Job.{isJob, hasCells}
@@ -130,7 +131,7 @@ module _ (S : ℕ) (k : Core) (f : Frame) (loose : Bool) (known : judgementKnown
       nothing : protectedSectors (k .level) (k .tb) S ≡ NoSector
       nothing = no-ends (k .level) (k .tb) S none
 
-      at : (x : ℕ) → protectedSector (k .level) (k .tb) S x ≡ false
+      at : (x : ℕ) → isProtected (k .level) (k .tb) S x ≡ false
       at x = ap (λ (range : Protected). protects range x) nothing
 
       free : (kind : JobKind) → targetProtected S k kind start ≡ false
@@ -177,22 +178,25 @@ pub record-plain : (S : ℕ) (k : Core) (v : ℕ) → (v ≡ 9 → ⊥) → reco
 unfolding recordOf
 record-plain S k v other = cond-no (eqb v 9) _ _ (ne-eqb _ _ other)
 
--- so 82h and a number tell that verdict and no other
-pub record-tells : (S : ℕ) (k : Core) (u v : ℕ) → recordBytes (recordOf S k u) ≡ 0x82 ∷ v ∷ [] → u ≡ v
+-- so a record that says a verdict by its number says the verdict that fell
+pub record-tells : (S : ℕ) (k : Core) (u v : ℕ) → recordOf S k u ≡ Verdict v → u ≡ v
 unfolding recordOf
 record-tells S k u v = go (ℕ-discrete u 9)
   where
-    at : (range : Protected) → recordBytes (inTheWay range) ≡ 0x82 ∷ v ∷ [] → 9 ≡ v
-    at NoSector e = ap (λ (bytes : List ℕ). getD bytes 1 0) e
-    at (Sectors first last) e = let longer : _≡_ {A = ℕ} 3 2 = ap length e in absurd (omega arith)
+    number : {a b : ℕ} → Verdict a ≡ Verdict b → a ≡ b
+    number e = ap (λ (r : Record). getD (recordBytes r) 1 0) e
 
-    go : Dec (u ≡ 9) → recordBytes (recordOf S k u) ≡ 0x82 ∷ v ∷ [] → u ≡ v
-    go (yes nine) e = nine ∙ at (protectedSectors (k .level) (k .tb) S) (sym (ap (λ (w : ℕ). recordBytes (recordOf S k w)) nine) ∙ e)
-    go (no other) e = ap (λ (bytes : List ℕ). getD bytes 1 0) (sym (ap recordBytes (record-plain S k u other)) ∙ e)
+    at : (range : Protected) → inTheWay range ≡ Verdict v → 9 ≡ v
+    at NoSector e = number e
+    at (Sectors first last) e = let longer : _≡_ {A = ℕ} 3 2 = ap (λ (r : Record). length (recordBytes r)) e in absurd (omega arith)
+
+    go : Dec (u ≡ 9) → recordOf S k u ≡ Verdict v → u ≡ v
+    go (yes nine) e = nine ∙ at (protectedSectors (k .level) (k .tb) S) (sym (ap (recordOf S k) nine) ∙ e)
+    go (no other) e = number (sym (record-plain S k u other) ∙ e)
 
 -- and the record of 9 is the two ends of what is protected, where something is
 pub record-nine : (S : ℕ) (k : Core) → (protectedCount (k .level) S ≡ 0 → ⊥)
-    → recordOf S k 9 ≡ InTheWay (cond (k .tb) 0 (S - protectedCount (k .level) S)) (cond (k .tb) (protectedCount (k .level) S - 1) (S - 1))
+    → recordOf S k 9 ≡ InTheWay (firstEnd (protectedCount (k .level) S) (k .tb) S) (lastEnd (protectedCount (k .level) S) (k .tb) S)
 unfolding recordOf
 record-nine S k some = ap inTheWay (two-ends (k .level) (k .tb) S some)
 

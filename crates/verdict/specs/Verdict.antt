@@ -6,7 +6,7 @@ use Rattle.part.specs.Part.{page, smallSector, sector, reduced, roundedDown}
 use Rattle.commands.specs.Table.{rowOf, fitsRule, isRead, isProgram, writeStatus, smallSectorErase, smallSectorErase′, sectorErase, chipErase, chipErase′, suspend, resume, reset}
 use Rattle.part.specs.declared.Protected.{Protected}
 use Rattle.part.specs.declared.Protected.the-variants.{NoSector, Sectors}
-use Rattle.part.specs.Protection.{protectedSectors, protectedSector, anyProtected}
+use Rattle.part.specs.Protection.{protectedSectors, protectsAny, isProtected}
 use Rattle.chip.specs.declared.Core.{Core}
 use Rattle.chip.specs.declared.Frame.{Frame}
 use Rattle.chip.specs.declared.Job.{Job}
@@ -44,7 +44,7 @@ jobAsked S f = record { kind = jobOf (f .opcode) (f .address); start = startOf S
 
 -- whether the sector of a start is protected
 abbrev pub startProtected : ℕ → Core → ℕ → Bool
-startProtected S k start = protectedSector (k .level) (k .tb) S (start / sector)
+startProtected S k start = isProtected (k .level) (k .tb) S (start / sector)
 
 -- whether protection keeps a job off: a job in one sector by that sector, a chip erase by any sector at all (RULES, Protection)
 abbrev pub targetProtected : ℕ → Core → JobKind → ℕ → Bool
@@ -53,7 +53,7 @@ targetProtected S k (WriteStatus value) start = false
 targetProtected S k Program start = startProtected S k start
 targetProtected S k SmallErase start = startProtected S k start
 targetProtected S k SectorErase start = startProtected S k start
-targetProtected S k ChipErase start = anyProtected (k .level) (k .tb) S
+targetProtected S k ChipErase start = protectsAny (protectedSectors (k .level) (k .tb) S)
 
 -- ---- the list
 
@@ -90,7 +90,7 @@ verdict S k f loose = cond (eqb (f .count) 0) 0 (cond (not (eqb (f .judgement) 0
 
 -- ---- what is said of it
 
--- the protected sectors, as verdict 9 says them; on a legal state that verdict finds some (`nine-finds`)
+-- the protected sectors, as verdict 9 says them (RULES, Records); on a legal state that verdict finds some (`nine-finds`)
 abbrev pub inTheWay : Protected → Record
 inTheWay NoSector = Verdict 9
 inTheWay (Sectors first last) = InTheWay first last

@@ -69,8 +69,8 @@ fn job_asked(sectors: u8, f: Frame) -> Job
     }
 }
 
-// The protected sectors.
-fn protected_sectors(sectors: u8, core: Core) -> Protected
+// The protected sectors, as the core's level and TB have them.
+fn protected_of(sectors: u8, core: Core) -> Protected
     ensures { λ r. ⌜ r ≡ protectedSectors (core .level) (core .tb) sectors ⌝ }
 {
     part::protected_sectors(core.level, core.tb, sectors)
@@ -80,10 +80,7 @@ fn protected_sectors(sectors: u8, core: Core) -> Protected
 fn start_protected(sectors: u8, core: Core, start: u32) -> bool
     ensures { λ r. ⌜ r ≡ startProtected sectors core start ⌝ }
 {
-    part::protects(
-        protected_sectors(sectors, core),
-        (start as usize) / Part::SECTOR,
-    )
+    part::protects(protected_of(sectors, core), (start as usize) / Part::SECTOR)
 }
 
 // Whether a job's target is protected.
@@ -96,7 +93,7 @@ fn target_protected(sectors: u8, core: Core, kind: JobKind, start: u32) -> bool
         JobKind::Program => start_protected(sectors, core, start),
         JobKind::SmallErase => start_protected(sectors, core, start),
         JobKind::SectorErase => start_protected(sectors, core, start),
-        JobKind::ChipErase => part::protects_any(protected_sectors(sectors, core)),
+        JobKind::ChipErase => part::protects_any(protected_of(sectors, core)),
     }
 }
 
@@ -190,12 +187,12 @@ fn in_the_way(range: Protected) -> Record
     }
 }
 
-// The record of a verdict.
+// The record of a verdict. The core is the one that was judged, before the verdict acts on it.
 pub fn record_of(sectors: u8, core: Core, v: u8) -> Record
     ensures { λ r. ⌜ r ≡ recordOf sectors core v ⌝ }
 {
     if v == 9 {
-        return in_the_way(protected_sectors(sectors, core));
+        return in_the_way(protected_of(sectors, core));
     }
     Record::Verdict(v)
 }

@@ -22,7 +22,7 @@ unfolding protectedSectors
 returns-2 c = rw (← c .before .before .protected-count .ensures, ne-eqb _ _ (c .before .if1 .left), c .if2 .taken)
 
 sub-t7 : tie.Need-sub-t7
-sub-t7 c = omega (arith, c .before .before .protected-count .ensures, protectedCount-le (c .before .before .before .args .level) (c .before .before .before .args .sectors))
+sub-t7 c = omega (arith, c .before .if1 .left, c .before .before .protected-count .ensures, protectedCount-le (c .before .before .before .args .level) (c .before .before .before .args .sectors))
 
 sub-t8 : tie.Need-sub-t8
 sub-t8 c = omega (arith, c .before .if1 .left, c .before .before .protected-count .ensures, protectedCount-le (c .before .before .before .args .level) (c .before .before .before .args .sectors))

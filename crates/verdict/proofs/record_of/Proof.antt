@@ -5,19 +5,19 @@ use borrow.Author.Needs.{needs}
 use Rattle.verdict.proofs.record_of.Statement.{statement}
 use Rattle.verdict.proofs.record_of.Tie as tie
 
-protected-sectors-requires : tie.Need-protected-sectors-requires
-protected-sectors-requires c κs = search needs
+protected-of-requires : tie.Need-protected-of-requires
+protected-of-requires c κs = search needs
 
 in-the-way-requires : tie.Need-in-the-way-requires
 in-the-way-requires c κs = search needs
 
 returns : tie.Need-returns
 unfolding recordOf
-returns c = rw (eq-eqb _ _ (c .before .before .if1 .taken), c .in-the-way .ensures, c .before .protected-sectors .ensures)
+returns c = rw (eq-eqb _ _ (c .before .before .if1 .taken), c .in-the-way .ensures, c .before .protected-of .ensures)
 
 returns-2 : tie.Need-returns-2
 unfolding recordOf
 returns-2 c = rw (ne-eqb _ _ (c .if1 .left))
 
 pub record-of-spec : {M : Type 1} → statement M
-record-of-spec = tie.close (tie.spec protected-sectors-requires in-the-way-requires returns returns-2)
+record-of-spec = tie.close (tie.spec protected-of-requires in-the-way-requires returns returns-2)

@@ -30,8 +30,8 @@ start-protected-requires-3 c κs = search needs
 enum-told-6 : tie.Need-enum-told-6
 enum-told-6 c = search needs
 
-protected-sectors-requires : tie.Need-protected-sectors-requires
-protected-sectors-requires c κs = search needs
+protected-of-requires : tie.Need-protected-of-requires
+protected-of-requires c κs = search needs
 
 protects-any-requires : tie.Need-protects-any-requires
 protects-any-requires c κs = search needs
@@ -52,7 +52,7 @@ returns-5 : tie.Need-returns-5
 returns-5 c = rw (c .before .enum-told5 .given .1, c .start-protected3 .ensures)
 
 returns-6 : tie.Need-returns-6
-returns-6 c = rw (c .before .before .enum-told6 .given .1, c .protects-any .ensures, c .before .protected-sectors .ensures)
+returns-6 c = rw (c .before .before .enum-told6 .given .1, c .protects-any .ensures, c .before .protected-of .ensures)
 
 pub target-protected-spec : {M : Type 1} → statement M
 target-protected-spec =
@@ -67,7 +67,7 @@ target-protected-spec =
     enum-told-5
     start-protected-requires-3
     enum-told-6
-    protected-sectors-requires
+    protected-of-requires
     protects-any-requires
     returns
     returns-2
