@@ -22,7 +22,7 @@ struct chip {
     u8 load[256];
     u8 held[256];
 };
-struct event_answer { struct chip chip; u8 refusal, length; u8 record[3]; u32 ticks; };
+struct event_answer { struct chip chip; u8 refusal, size; u8 bytes[3]; u32 ticks; };
 struct run_answer { struct chip chip; u8 refusal; u64 offset, written, ticks; };
 struct found { u8 refusal; u64 place, length; };
 struct own_area { u8 bytes[208]; };
@@ -73,8 +73,8 @@ static void cross(int out) {
 // Keeps the chip of an event's answer and puts the rest of it on the desk.
 static void event_done(struct event_answer a, u64 *desk) {
     chip = a.chip;
-    desk[0] = a.refusal; desk[1] = a.length; desk[2] = a.ticks;
-    desk[3] = a.record[0]; desk[4] = a.record[1]; desk[5] = a.record[2];
+    desk[0] = a.refusal; desk[1] = a.size; desk[2] = a.ticks;
+    desk[3] = a.bytes[0]; desk[4] = a.bytes[1]; desk[5] = a.bytes[2];
 }
 
 // Keeps the chip of a run's answer and puts the rest of it on the desk.

@@ -555,7 +555,7 @@ fn verdict_8_without_wen() {
     }
 }
 
-/// The sectors that the paper protects, counted from the end that TB names.
+/// The protected sectors by the rules, counted from the end that TB names.
 fn protected_walk(sectors: usize, level: usize, tb: bool) -> Vec<usize> {
     let count = sectors.min([0, 1, 2, 4, 8, 16, 32, 32][level]);
     let from_the_end = |sector: usize| if tb { sector } else { sectors - 1 - sector };
@@ -1100,7 +1100,9 @@ fn a_run_is_its_events_one_by_one() {
         whole.area = CONTENT[..dice.below(209) as usize].to_vec();
         let mut single = whole.clone();
         let room = room_of(&script);
-        assert_eq!(refused(&mut whole, &script, room - 1), (7, 0));
+        if room > 0 {
+            assert_eq!(refused(&mut whole, &script, room - 1), (7, 0));
+        }
         let mut output = vec![0; room];
         let answer = run(&mut whole.chip, &mut whole.memory, &whole.area, &script, &mut output);
         assert_eq!(answer.refusal, 0);
