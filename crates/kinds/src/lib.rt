@@ -75,9 +75,8 @@ pub fn yields(kind: u64) -> bool
     (kind == Kind::EXCHANGE) | (kind == Kind::DESELECT) | (kind == Kind::LOOSE)
 }
 
-// The room that a kind's record is given, whatever the record turns out to be. By whether there is
-// one first: most events that are no exchanges have none, and a `match` of the kind would cost the
-// look through a script of ticks 5 parts in 100.
+// The room that a kind's record is given, whatever the record turns out to be. Whether there is one
+// is asked first: the look through a script comes here with all that is no exchange, ticks above all.
 pub fn room_of(kind: u64) -> usize
     ensures { λ r. ⌜ (r ≡ roomOf kind) × (r ≤ mostRoom) ⌝ }
 {

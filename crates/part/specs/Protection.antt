@@ -5,7 +5,7 @@ use lib.Dec.{eqb, ltb, leb}
 use Rattle.part.specs.declared.Protected.{Protected}
 use Rattle.part.specs.declared.Protected.the-variants.{NoSector, Sectors}
 
--- how many of S sectors level L protects: none at 0, a power of two from 1 to 5, but never more than there are, and every one from 6 on
+-- how many of S sectors level L protects: none at 0, a power of two from 1 to 5, but never more than there are, and every one from 6 on (RULES, Protection)
 unfoldable pub protectedCount : ℕ → ℕ → ℕ
 protectedCount L S = cond (eqb L 0) 0 (cond (ltb L 6) (min (2 ^ (L - 1)) S) S)
 
@@ -30,6 +30,6 @@ abbrev pub protectsAny : Protected → Bool
 protectsAny NoSector = false
 protectsAny (Sectors first last) = true
 
--- the plain yes: whether sector x of S is protected
+-- the plain yes, read off it: whether sector x of S is protected (RULES, Protection)
 abbrev pub isProtected : ℕ → Bool → ℕ → ℕ → Bool
 isProtected L tb S x = protects (protectedSectors L tb S) x
