@@ -1,7 +1,7 @@
 // A second, independent model of the LE25S161: one chip, its events and its runs.
 
 /// The opcodes, by the names of the commands they start.
-mod opcode {
+pub(crate) mod opcode {
     pub const WRITE_ENABLE: u8 = 0x06;
     pub const WRITE_DISABLE: u8 = 0x04;
     pub const READ_STATUS: u8 = 0x05;
@@ -26,7 +26,7 @@ mod opcode {
 }
 
 /// The kinds of event a script is made of.
-mod kind {
+pub(crate) mod kind {
     pub const SELECT: u8 = 0x01;
     pub const EXCHANGE: u8 = 0x02;
     pub const DESELECT: u8 = 0x03;
@@ -94,6 +94,8 @@ const JEDEC_CYCLE: [u8; 4] = [0x62, 0x16, 0x15, 0x00];
 const DEVICE_ID_BYTE: u8 = 0x88;
 /// Bytes that one step of a program handles.
 const PROGRAM_STEP: usize = 16;
+/// Steps of a program from begin to end.
+pub(crate) const PROGRAM_STEPS: usize = Chip::PAGE / PROGRAM_STEP;
 /// Bytes that one step of an erase handles.
 const ERASE_STEP: usize = 256;
 /// The longest script that a run takes.
@@ -195,7 +197,7 @@ impl Job {
     /// The steps of a job from begin to end.
     fn total_steps(&self, memory_length: usize) -> u32 {
         let steps = match self.kind {
-            JobKind::Program(_) => Chip::PAGE / PROGRAM_STEP,
+            JobKind::Program(_) => PROGRAM_STEPS,
             JobKind::WriteStatus(_) => 1,
             _ => self.size(memory_length) / ERASE_STEP,
         };
@@ -443,7 +445,7 @@ impl Chip {
 }
 
 /// Whether a memory length is one of the six.
-fn memory_length_known(length: usize) -> bool {
+pub(crate) fn memory_length_known(length: usize) -> bool {
     length % Chip::SECTOR == 0 && matches!(length / Chip::SECTOR, 1 | 2 | 4 | 8 | 16 | 32)
 }
 

@@ -10,6 +10,12 @@ mod program;
 #[path = "sfdp.rs"]
 mod sfdp;
 
+#[path = "writer.rs"]
+mod writer;
+
+#[path = "writer_tests.rs"]
+mod writer_tests;
+
 use model::{event, run, Chip, Frame, Job, JobKind, Record, RunAnswer};
 use sfdp::{find, table, Found, CONTENT};
 

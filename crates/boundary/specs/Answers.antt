@@ -17,7 +17,9 @@ use Rattle.sfdp.specs.declared.Found.{Found}
 use Rattle.boundary.specs.declared.ChipNumbers.{ChipNumbers}
 use Rattle.boundary.specs.declared.EventNumbers.{EventNumbers}
 use Rattle.boundary.specs.declared.RunNumbers.{RunNumbers}
+use Rattle.writer.specs.declared.Written.{Written}
 use Rattle.boundary.specs.declared.TableNumbers.{TableNumbers}
+use Rattle.boundary.specs.declared.WrittenNumbers.{WrittenNumbers}
 use Rattle.boundary.specs.declared.AreaNumbers.{AreaNumbers}
 use Rattle.boundary.specs.Numbers.{isState, chipOf, numbersOf}
 
@@ -82,3 +84,9 @@ tableNumbers f = record { refusal = f .refusal; place = f .place; length = f .le
 
 abbrev pub areaNumbers : List ℕ → AreaNumbers
 areaNumbers area = record { bytes = area }
+
+-- ---- the script writer
+
+-- what the writer answers (RULES, The script writer)
+abbrev pub writtenNumbers : Written → WrittenNumbers
+writtenNumbers w = record { refusal = w .refusal; written = w .written }

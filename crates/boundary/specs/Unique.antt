@@ -7,13 +7,15 @@ use Rattle.cells.specs.Choice.{same}
 use Rattle.part.specs.Area.{ownArea}
 use Rattle.chip.specs.Chip.{fresh}
 use Rattle.sfdp.specs.Reader.{foundOf}
+use Rattle.writer.specs.Writer.{answerOf, outputOf}
 use Rattle.boundary.specs.declared.ChipNumbers.{ChipNumbers}
 use Rattle.boundary.specs.declared.EventNumbers.{EventNumbers}
 use Rattle.boundary.specs.declared.RunNumbers.{RunNumbers}
 use Rattle.boundary.specs.declared.TableNumbers.{TableNumbers}
 use Rattle.boundary.specs.declared.AreaNumbers.{AreaNumbers}
+use Rattle.boundary.specs.declared.WrittenNumbers.{WrittenNumbers}
 use Rattle.boundary.specs.Numbers.{numbersOf, legalNumbers}
-use Rattle.boundary.specs.Answers.{eventOf, eventMemory, runOf, runMemory, runOutput, tableNumbers, areaNumbers}
+use Rattle.boundary.specs.Answers.{eventOf, eventMemory, runOf, runMemory, runOutput, tableNumbers, areaNumbers, writtenNumbers}
 
 pub chip-fresh-unique : (status : ℕ) (r r′ : ChipNumbers) → r ≡ numbersOf (fresh status) → r′ ≡ numbersOf (fresh status) → r ≡ r′
 chip-fresh-unique status r r′ h h′ = same h h′
@@ -41,3 +43,9 @@ sfdp-find-unique area identity r r′ h h′ = same h h′
 
 pub sfdp-own-area-unique : (r r′ : AreaNumbers) → r ≡ areaNumbers ownArea → r′ ≡ areaNumbers ownArea → r ≡ r′
 sfdp-own-area-unique r r′ h h′ = same h h′
+
+-- `write_program`: r the answer, z the output at exit
+pub write-program-unique : (n A : ℕ) (bs out : List ℕ) (r r′ : WrittenNumbers) (z z′ : List ℕ)
+    → (r ≡ writtenNumbers (answerOf n A bs out)) × (z ≡ outputOf n A bs out) → (r′ ≡ writtenNumbers (answerOf n A bs out)) × (z′ ≡ outputOf n A bs out)
+    → (r ≡ r′) × (z ≡ z′)
+write-program-unique n A bs out r r′ z z′ h h′ = (same (h .0) (h′ .0), same (h .1) (h′ .1))

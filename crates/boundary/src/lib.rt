@@ -1,16 +1,17 @@
-// The library for C and Rust: a chip and its answers as plain numbers, and the reader of an SFDP area.
+// The library for C and Rust: a chip and its answers as plain numbers, the reader of an SFDP area, and the script writer.
 //
 // What a caller must not do: the memory and the output of one call must overlap neither each other nor
-// the area or the script, not even in a byte (the area and the script are only read, and may overlap
-// each other); a slice's pointer must not be null, also where its length is 0; it must point to that
+// the area, the script or the bytes to program, not even in a byte (what is only read may overlap
+// what is only read); a slice's pointer must not be null, also where its length is 0; it must point to that
 // many bytes, which nobody else writes during the call. Nothing here can check that, and nothing is
 // promised where it does not hold. Any number may stand in any field: what is no state is refused by 2.
 ghost use mathlib.Core.Path.{_≡_};
 ghost use Rattle.part.specs.Area.{ownArea};
 ghost use Rattle.chip.specs.Chip.{fresh};
 ghost use Rattle.sfdp.specs.Reader.{foundOf};
+ghost use Rattle.writer.specs.Writer.{answerOf, outputOf};
 ghost use Rattle.boundary.specs.Numbers.{kindOf, kindNumber, kindValue, flagNumber, isStateOf, chipOf, numbersOf, legalNumbers};
-ghost use Rattle.boundary.specs.Answers.{padded, noState, refusedEvent, doneEvent, eventOf, eventMemory, refusedRun, doneRun, runOf, runMemory, runOutput, tableNumbers, areaNumbers};
+ghost use Rattle.boundary.specs.Answers.{padded, noState, refusedEvent, doneEvent, eventOf, eventMemory, refusedRun, doneRun, runOf, runMemory, runOutput, tableNumbers, areaNumbers, writtenNumbers};
 use chip::Chip;
 use chip::Core;
 use chip::Frame;
@@ -86,6 +87,13 @@ pub struct TableNumbers {
 #[repr(C)]
 pub struct AreaNumbers {
     pub bytes: [u8; 208],
+}
+
+// The answer of the script writer: what refuses it, and how many bytes of the output are the script.
+#[repr(C)]
+pub struct WrittenNumbers {
+    pub refusal: u8,
+    pub written: usize,
 }
 
 // The kind of job that a number means; a number over 5 is none, and is read as no job.
@@ -413,4 +421,22 @@ pub extern "C" fn sfdp_own_area() -> AreaNumbers
     let own = part::own_area();
     let bytes = own.bytes;
     AreaNumbers { bytes: bytes }
+}
+
+// The script that programs some bytes from an address on, for a memory of n cells.
+#[no_mangle]
+pub extern "C" fn write_program(
+    n: usize,
+    address: usize,
+    bytes: &[u8],
+    out: &mut [u8],
+) -> WrittenNumbers
+    ensures { λ r. ⌜ (r ≡ writtenNumbers (answerOf n address (now (bytes .entry)) (now (out .entry))))
+        × (now (out .exit) ≡ outputOf n address (now (bytes .entry)) (now (out .entry))) ⌝ }
+{
+    let a = writer::write_program(n, address, bytes, out);
+    WrittenNumbers {
+        refusal: a.refusal,
+        written: a.written,
+    }
 }

@@ -4,8 +4,8 @@ use mathlib.Core.Path.{_≡_, refl, sym, ap, _∙_}
 use mathlib.Core.Logic.{_↔_, Iff·trans}
 use Prim.Native.Nat.{ℕ, _<_, _≤_}
 use native.Mathlib.Omega.{arith}
-use lib.Dec.{eqb, ltb}
-use borrow.Author.Tests.{eqb-true, eqb-false, ltb-true, ltb-false}
+use lib.Dec.{eqb, ltb, leb}
+use borrow.Author.Tests.{eqb-true, eqb-false, ltb-true, ltb-false, leb-true, leb-false}
 
 -- two answers that are equal to one thing are equal
 pub same : {A : Type 0} {a r r′ : A} → r ≡ a → r′ ≡ a → r ≡ r′
@@ -88,6 +88,9 @@ decides-not false = record { on-true = λ _. refl; on-false = λ e. absurd (true
 -- a comparison decides which number is the larger
 pub decides-less : (m n : ℕ) → Decides (ltb m n) (m < n) (n ≤ m)
 decides-less m n = record { on-true = ltb-true m n; on-false = ltb-false m n; apart = λ p q. omega arith }
+
+pub decides-most : (m n : ℕ) → Decides (leb m n) (m ≤ n) (n < m)
+decides-most m n = record { on-true = leb-true m n; on-false = leb-false m n; apart = λ p q. omega arith }
 
 -- a test that is false exactly when a fact holds decides between the fact's absence and the fact
 pub decides-absent : {b : Bool} {Q : Type 0} → (b ≡ false ↔ Q) → Decides b (Q → ⊥) Q

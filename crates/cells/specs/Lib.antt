@@ -1,4 +1,6 @@
 pub mod Choice
 pub mod Cells
 pub mod Laws
+pub mod Put
+pub mod PutLaws
 pub mod Stepping

@@ -7,6 +7,8 @@ use native.Mathlib.Omega.{arith}
 use lib.ListN.{length, getD, length-append}
 use lib.Seq.{sets, length-sets}
 use Rattle.cells.specs.Choice.{cond-yes, cond-no}
+use Rattle.cells.specs.Put.{Put}
+use Rattle.cells.specs.PutLaws.{put-none, put-then, put-as, put-length}
 use Rattle.kinds.specs.Kinds.{yields}
 use Rattle.kinds.specs.Body.{nextAt, stepTo}
 use Rattle.kinds.specs.Laws.{step-inside}
@@ -15,8 +17,7 @@ use Rattle.chip.specs.Record.{recordBytes, longestRecord}
 use Rattle.chip.specs.Laws.{recordBytes-most}
 use Rattle.script.specs.Script.{Event, eventsFrom, events}
 use Rattle.script.specs.Laws.{events-none, events-more}
-use Rattle.listing.specs.Text.{lineOf, Put}
-use Rattle.listing.specs.TextLaws.{put-none, put-then, put-as, put-length}
+use Rattle.listing.specs.Text.{lineOf}
 use Rattle.listing.specs.Output.{recordAt, readLines}
 
 pub record Listing (s out t₀ : List ℕ) (p₀ : ℕ) (t : List ℕ) (p at q : ℕ) : Type 0 where
@@ -33,7 +34,7 @@ module _ {s out t₀ : List ℕ} {p₀ : ℕ} {t : List ℕ} {p at q : ℕ} (i :
   lines-left = readLines (eventsFrom s at) out q
 
   left : Put t₀ p₀ (readLines (events s) out 0) (p + length lines-left) (sets t p lines-left)
-  left = i .all _ _ (record { end = refl; text = refl })
+  left = i .all _ _ (record { end = refl; buffer = refl })
 
   -- so the text is as long as it was
   pub same-room : length t ≡ length t₀

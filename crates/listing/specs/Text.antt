@@ -1,13 +1,11 @@
--- The text that the program prints, as ASCII codes: numbers, a record's word, the lines, and bytes put into a text (RULES, The program).
+-- The text that the program prints, as ASCII codes: numbers, a record's word, the lines (RULES, The program).
 use Prim.Native.Nat.{ℕ, zero, suc, _+_, _/_, _%_}
 use Prim.Native.String.{String, [] as noText, _∷_ as _then_}
 use Prim.Native.Char.{code}
 use mathlib.Core.Bool.{cond}
 use mathlib.Core.List.{List, [], _∷_, _++_}
-use mathlib.Core.Path.{_≡_}
 use lib.Dec.{ltb}
 use lib.ListN.{length}
-use lib.Seq.{sets}
 use Rattle.chip.specs.declared.Record.{Record}
 use Rattle.chip.specs.declared.Record.the-variants.{Nothing, Floating, Driven, Verdict, InTheWay}
 
@@ -68,10 +66,3 @@ tooLong = ascii "too long\n"
 -- the most bytes that a record's line has: an offset of four digits, a blank, the word `V9 31 31`, and the line's end
 abbrev pub longestLine : ℕ
 longestLine = 14
-
--- ---- bytes put into a text
-
--- what putting `new` into a text t at a place p leaves: the place after it, and the text
-pub record Put (t : List ℕ) (p : ℕ) (new : List ℕ) (p′ : ℕ) (t′ : List ℕ) : Type 0 where
-  pub end : p′ ≡ p + length new
-  pub text : t′ ≡ sets t p new

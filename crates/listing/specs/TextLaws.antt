@@ -1,69 +1,30 @@
--- What is true of texts: bytes put one after the other, and a number's digits.
+-- What is true of texts: what is put at their start, and a number's digits.
 use Prim.Native.Nat.{ℕ, zero, suc, _+_, _*_, _/_, _%_, _^_, _-_, _<_, _≤_}
 use mathlib.Core.Bool.{cond}
 use mathlib.Core.List.{List, [], _∷_, _++_, append-assoc}
 use mathlib.Core.Path.{_≡_, refl, sym, ap, _∙_}
-use native.Mathlib.Nat.{add-zero, zero-add, add-suc, suc-add, pow-suc, one-le-pow, pow-le-pow-right}
-use native.Mathlib.Numerals.{add-one}
+use native.Mathlib.Nat.{pow-suc, one-le-pow, pow-le-pow-right}
 use native.Mathlib.Omega.{arith}
 use native.Mathlib.Decide.{decLe}
 use lib.Dec.{ltb}
-use lib.ListN.{length, getD, set, take, drop, length-append}
-use lib.Seq.{sets, length-sets, sets-eq, take-suc, length-take-le}
+use lib.ListN.{length, drop, length-append}
+use lib.Seq.{length-take-le}
 use borrow.Author.Tests.{lt-ltb, le-ltb}
 use Rattle.io.specs.Counts.{Counts}
 use Rattle.io.specs.Digits.{glyph, digits, Fewest}
 use Rattle.cells.specs.Choice.{cond-yes, cond-no, cond-either}
+use Rattle.cells.specs.Put.{Put}
+use Rattle.cells.specs.PutLaws.{put-length, put-start}
 use Rattle.chip.specs.declared.Record.the-variants.{InTheWay}
-use Rattle.listing.specs.Text.{ascii, spelled, decimalOf, lineOf, Put}
+use Rattle.listing.specs.Text.{ascii, spelled, decimalOf, lineOf}
 
--- ---- bytes put one after the other
+-- ---- lines
 
--- two rows of stores, the second from where the first ends, are one
-sets-add : (t : List ℕ) (p : ℕ) (xs ys : List ℕ) → sets t p (xs ++ ys) ≡ sets (sets t p xs) (p + length xs) ys
-sets-add t p [] ys = rw add-zero
-sets-add t p (x ∷ xs) ys = sets-add (set t p x) (suc p) xs ys ∙ ap (λ (q : ℕ). sets (sets (set t p x) (suc p) xs) q ys) (suc-add p (length xs) ∙ sym (add-suc p (length xs)))
-
--- one byte more of the bytes that are put
-pub sets-more : (t : List ℕ) (p : ℕ) (xs : List ℕ) (i : ℕ) → i < length xs → set (sets t p (take i xs)) (p + i) (getD xs i 0) ≡ sets t p (take (i + 1) xs)
-sets-more t p xs i h =
-    let n : length (take i xs) ≡ i = length-take-le i xs (omega arith) in
-    sym
-    (ap (λ (k : ℕ). sets t p (take k xs)) (add-one i)
-    ∙ ap (sets t p) (take-suc xs i 0 h)
-    ∙ sets-add t p (take i xs) (getD xs i 0 ∷ [])
-    ∙ ap (λ (k : ℕ). set (sets t p (take i xs)) (p + k) (getD xs i 0)) n)
-
-pub put-none : (t : List ℕ) (p : ℕ) → Put t p [] p t
-put-none t p = record { end = sym (add-zero p); text = refl }
-
-pub put-byte : (t : List ℕ) (p b : ℕ) → Put t p (b ∷ []) (p + 1) (set t p b)
-put-byte t p b = record { end = refl; text = refl }
-
-pub put-then : {t u v : List ℕ} {p q r : ℕ} {xs ys : List ℕ} → Put t p xs q u → Put u q ys r v → Put t p (xs ++ ys) r v
-put-then {t} {u} {v} {p} {q} {r} {xs} {ys} a b =
-    record {
-      end = omega (arith, a .end, b .end, length-append xs ys);
-      text = b .text ∙ ap (λ (w : List ℕ). sets w q ys) (a .text) ∙ ap (λ (k : ℕ). sets (sets t p xs) k ys) (a .end) ∙ sym (sets-add t p xs ys);
-    }
-
-pub put-as : {t u : List ℕ} {p q : ℕ} {xs ys : List ℕ} → ys ≡ xs → Put t p xs q u → Put t p ys q u
-put-as e a = rw e a
-
--- a text keeps its length
-pub put-length : {t u : List ℕ} {p q : ℕ} {xs : List ℕ} → Put t p xs q u → length u ≡ length t
-put-length {t} {u} {p} {q} {xs} a = ap length (a .text) ∙ length-sets t p xs
-
--- where two texts fit one after the other, the second fits behind the first
-pub room-then : {t u : List ℕ} {p q : ℕ} {xs : List ℕ} (ys : List ℕ) → Put t p xs q u → p + length (xs ++ ys) ≤ length t → q + length ys ≤ length u
-room-then {t} {u} {p} {q} {xs} ys a fit = omega (arith, a .end, put-length a, length-append xs ys)
-
--- what is put at the start of a text stands there, and the rest is as it was
-pub put-start : {t u : List ℕ} {r : ℕ} {new : List ℕ} → Put t 0 new r u → length new ≤ length t → ((r ≡ length new) × (u ≡ new ++ drop r t)) × Counts r u
-put-start {t} {u} {r} {new} a fit =
-    let is : r ≡ length new = a .end ∙ zero-add (length new) in
-    let inside : r ≤ length u = omega (arith, put-length a) in
-    ((is, a .text ∙ sets-eq new t 0 (omega (arith, zero-add (length new))) ∙ ap (λ (n : ℕ). new ++ drop n t) (sym (a .end))), (inside, sym (length-take-le r u inside)))
+-- what is put at the start of a text stands there, is counted, and the rest is as it was
+pub text-start : {t u : List ℕ} {r : ℕ} {new : List ℕ} → Put t 0 new r u → length new ≤ length t → ((r ≡ length new) × (u ≡ new ++ drop r t)) × Counts r u
+text-start {t} {u} {r} {new} a fit =
+    let inside : r ≤ length u = omega (arith, a .end, put-length a) in
+    (put-start a fit, (inside, sym (length-take-le r u inside)))
 
 -- the line of verdict 9, in the three parts that are put
 pub line-nine : (offset first last : ℕ) → lineOf offset (InTheWay first last) ≡ decimalOf offset ++ ascii " " ++ ((ascii "V9 " ++ decimalOf first ++ ascii " ") ++ (decimalOf last ++ ascii "\n"))

@@ -97,6 +97,9 @@ permitted-whole = permitted-each (λ n. lengthOf (sectorsIn n) ≡ n) refl refl 
 pub permitted-most : (n : ℕ) → permitted n ≡ true → sectorsIn n ≤ 32
 permitted-most = permitted-each (λ n. sectorsIn n ≤ 32) (omega arith) (omega arith) (omega arith) (omega arith) (omega arith) (omega arith)
 
+pub permitted-length : (n : ℕ) → permitted n ≡ true → n ≤ 2097152
+permitted-length = permitted-each (λ n. n ≤ 2097152) (omega arith) (omega arith) (omega arith) (omega arith) (omega arith) (omega arith)
+
 pub permitted-some : (n : ℕ) → permitted n ≡ true → 1 ≤ sectorsIn n
 permitted-some = permitted-each (λ n. 1 ≤ sectorsIn n) (omega arith) (omega arith) (omega arith) (omega arith) (omega arith) (omega arith)
 

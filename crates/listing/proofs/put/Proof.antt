@@ -4,7 +4,7 @@ use mathlib.Core.List.{List}
 use mathlib.Core.Path.{_≡_, refl, ap, _∙_}
 use lib.ListN.{length, take, set, getD, length-set}
 use lib.Seq.{sets, take-all}
-use Rattle.listing.specs.TextLaws.{sets-more}
+use Rattle.cells.specs.PutLaws.{sets-more}
 use borrow.Author.Needs.{needs}
 use Rattle.listing.proofs.put.Statement.{statement}
 use Rattle.listing.proofs.put.Tie as tie
@@ -47,7 +47,7 @@ same-length : tie.Need-same-length Inv-loop μ-loop
 same-length c = search needs
 
 returns : tie.Need-returns Inv-loop μ-loop
-returns c = record { end = refl; text = c .before .loop .inv .1 ∙ ap (sets _ _) (take-all _ _ (c .loop-test .left)) }
+returns c = record { end = refl; buffer = c .before .loop .inv .1 ∙ ap (sets _ _) (take-all _ _ (c .loop-test .left)) }
 
 pub put-spec : {M : Type 1} → statement M
 put-spec =

@@ -4,7 +4,7 @@ use lib.ListN.{length-append}
 use borrow.Author.Tests.{eq-eqb, ne-eqb}
 use Rattle.cells.specs.Choice.{cond-yes, cond-no}
 use Rattle.listing.specs.Text.{doneLine, refusedLine}
-use Rattle.listing.specs.TextLaws.{put-as, put-then, room-then}
+use Rattle.cells.specs.PutLaws.{put-as, put-then, room-then}
 use Rattle.listing.specs.Report.{answerText}
 use borrow.Author.Needs.{needs}
 use Rattle.listing.proofs.put_answer.Statement.{statement}

@@ -3,7 +3,8 @@ use mathlib.Core.Path.{ap, _∙_}
 use native.Mathlib.Omega.{arith}
 use lib.ListN.{length-append}
 use Rattle.listing.specs.Text.{lineOf}
-use Rattle.listing.specs.TextLaws.{put-then, put-as, room-then, line-nine}
+use Rattle.cells.specs.PutLaws.{put-then, put-as, room-then}
+use Rattle.listing.specs.TextLaws.{line-nine}
 use borrow.Author.Needs.{needs}
 use Rattle.listing.proofs.put_line.Statement.{statement}
 use Rattle.listing.proofs.put_line.Tie as tie

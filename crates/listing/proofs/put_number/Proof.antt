@@ -2,7 +2,8 @@
 use mathlib.Core.Path.{_∙_}
 use native.Mathlib.Omega.{arith}
 use lib.ListN.{length-append, length-set}
-use Rattle.listing.specs.TextLaws.{put-then, put-byte, room-then, digits-decimal}
+use Rattle.cells.specs.PutLaws.{put-then, put-byte, room-then}
+use Rattle.listing.specs.TextLaws.{digits-decimal}
 use borrow.Author.Needs.{needs}
 use Rattle.listing.proofs.put_number.Statement.{statement}
 use Rattle.listing.proofs.put_number.Tie as tie

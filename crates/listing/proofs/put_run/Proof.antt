@@ -2,7 +2,7 @@
 use native.Mathlib.Omega.{arith}
 use lib.ListN.{length-append}
 use Rattle.listing.specs.Text.{partLine}
-use Rattle.listing.specs.TextLaws.{put-as, put-then}
+use Rattle.cells.specs.PutLaws.{put-as, put-then}
 use Rattle.listing.specs.Report.{runText}
 use Rattle.listing.specs.ReportLaws.{text-run}
 use borrow.Author.Needs.{needs}
