@@ -8,3 +8,4 @@ pub mod Scripts
 pub mod Commands
 pub mod Jobs
 pub mod Words
+pub mod Programming

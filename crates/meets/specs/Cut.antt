@@ -52,7 +52,7 @@ unfolding room movedAll
 room-moved d [] = refl
 room-moved d (e ∷ es) = ap (λ (n : ℕ). roomOf (e .kind) + n) (room-moved d es)
 
-room-append : (es fs : List Event) → room (es ++ fs) ≡ room es + room fs
+pub room-append : (es fs : List Event) → room (es ++ fs) ≡ room es + room fs
 unfolding room
 room-append [] fs = sym (zero-add (room fs))
 room-append (e ∷ es) fs = ap (λ (n : ℕ). roomOf (e .kind) + n) (room-append es fs) ∙ sym (add-assoc _ (room es) (room fs))
@@ -280,7 +280,7 @@ module _ (T : Setting) (n : ℕ) (part : T .sectors ≡ sectorsIn n) where
       (no-leftovers-applied T (w .chip) (w .memory) n (e .kind) (e .body) h none)
 
 -- what was written and worked before a run only stands before what the run writes and works
-runs-from : (T : Setting) (es : List Event) (c : Chip) (m a : List ℕ) (k : ℕ)
+pub runs-from : (T : Setting) (es : List Event) (c : Chip) (m a : List ℕ) (k : ℕ)
     → runs T es (world c m a k) ≡ world (runs T es (world c m [] 0) .chip) (runs T es (world c m [] 0) .memory) (a ++ runs T es (world c m [] 0) .written) (k + runs T es (world c m [] 0) .ticks)
 unfolding runs
 runs-from T [] c m a k = λ i. world c m (sym (append-nil a) i) (sym (add-zero k) i)

@@ -10,13 +10,14 @@ use lib.ListN.{length, replicate, set}
 use borrow.Author.Tests.{le-leb, eq-eqb, ne-eqb}
 use Rattle.cells.specs.Choice.{cond-yes, cond-no, cond-either}
 use Rattle.part.specs.Part.{Setting}
-use Rattle.commands.specs.Table.{rowOf, rowIn, fitsRule, isRead, isProgram}
+use Rattle.commands.specs.Table.{rowOf, rowIn, fitsRule, isRead, isProgram, resetEnable}
 use Rattle.chip.specs.declared.Core.{Core}
 use Rattle.chip.specs.declared.Frame.{Frame}
 use Rattle.chip.specs.declared.Job.{Job}
 use Rattle.chip.specs.declared.JobKind.{JobKind}
 use Rattle.chip.specs.declared.JobKind.the-variants.{WriteStatus, Program, SmallErase, SectorErase, ChipErase}
 use Rattle.chip.specs.declared.Record.the-variants.{Floating}
+use Rattle.chip.specs.Fields.{withSuspended, withArmed, withJob}
 use Rattle.chip.specs.Job.{isJob, hasCells}
 use Rattle.chip.specs.Chip.{whole}
 use Rattle.frame.specs.Frame.{judge, loading, Exchange, exchange, taken}
@@ -138,6 +139,10 @@ status-writes value byte = fact refl refl refl (λ k. refl) (ap WriteStatus (mod
 
 -- ---- verdict 2
 
+never : (a : Bool) → (a && false) ≡ false
+never true = refl
+never false = refl
+
 module _ (S : ℕ) (k : Core) (f : Frame) (opcode A rule n : ℕ) (kind : JobKind) (command : Command opcode A rule kind) (at : Holds opcode A n f) where
   -- the job of that kind, at its place
   abbrev job : Job
@@ -157,10 +162,6 @@ module _ (S : ℕ) (k : Core) (f : Frame) (opcode A rule n : ℕ) (kind : JobKin
       ∙ cond-no (not (k .wen)) _ _ (ap not enabled)
       ∙ cond-no (not (hasCells kind) && k .srwp && not (k .wp)) _ _ unlocked
       ∙ cond-no (targetProtected S k kind (startOf S kind A)) _ _ free
-    where
-      never : (a : Bool) → (a && false) ≡ false
-      never true = refl
-      never false = refl
 
   -- So does its frame, at the right length and with nothing to stop it.
   pub verdict-begins : judge k opcode ≡ 0 → 1 ≤ n → fitsRule rule (f .count) ≡ true
@@ -178,7 +179,10 @@ module _ (S : ℕ) (k : Core) (f : Frame) (opcode A rule n : ℕ) (kind : JobKin
       ∙ cond-yes (isJob kind) _ _ (command .a-job)
       ∙ job-begins enabled unlocked free
 
-  -- It leaves that job.
-  pub settled-job : 1 ≤ n → settled S k f 2 .job ≡ job
+  -- It leaves that job, not suspended and unarmed, and all else as it was.
+  pub settled-begun : 1 ≤ n → settled S k f 2 ≡ withArmed false (withSuspended false (withJob job k))
   unfolding settled acted
-  settled-job some = ap (λ (q : Core). q .job) (cond-no (eqb (f .count) 0) _ _ (ne-eqb (f .count) 0 (λ z. omega (arith, z, some, at .so-many)))) ∙ asks-job
+  settled-begun some =
+      cond-no (eqb (f .count) 0) _ _ (ne-eqb (f .count) 0 (λ z. omega (arith, z, some, at .so-many)))
+      ∙ ap (λ (armed : Bool). withArmed armed (withSuspended false (withJob (jobAsked S f) k))) (never (eqb (f .opcode) resetEnable))
+      ∙ ap (λ (j : Job). withArmed false (withSuspended false (withJob j k))) asks-job

@@ -27,6 +27,9 @@ pub mod Array
 pub mod Sfdp
 pub mod Unique
 pub mod Cut
+pub mod Plays
+pub mod ProgramPiece
+pub mod Programs
 pub mod Examples
 pub mod SfdpExamples
 pub mod Met

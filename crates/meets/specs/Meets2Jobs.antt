@@ -1,6 +1,6 @@
 -- Demand 2 of ours: from the bytes of a frame to its load, and to the job that it begins.
 use Prim.Native.Nat.{ℕ, _*_, _/_, _%_, _^_, _<_, _≤_}
-use mathlib.Core.Bool.{Bool, true, false, not, _&&_}
+use mathlib.Core.Bool.{Bool, true, false, cond, not, _&&_}
 use mathlib.Core.List.{List, [], _∷_, _++_}
 use mathlib.Core.Path.{_≡_, refl, sym, ap, subst, _∙_}
 use native.Mathlib.Omega.{arith}
@@ -14,11 +14,13 @@ use Rattle.part.specs.Laws.{permitted-some, any-by-level}
 use Rattle.kinds.specs.Kinds.{knownIn, knownKind, kindRowIn, kindRow}
 use Rattle.commands.specs.Table.{rowOf, rowIn, fitsRule, isProgram}
 use Rattle.chip.specs.declared.Chip.{Chip}
+use Rattle.chip.specs.declared.Core.{Core}
 use Rattle.chip.specs.declared.Frame.{Frame}
 use Rattle.chip.specs.declared.JobKind.{JobKind}
 use Rattle.chip.specs.declared.JobKind.the-variants.{WriteStatus, Program, SmallErase, SectorErase, ChipErase}
+use Rattle.chip.specs.Fields.{withSuspended, withArmed, withJob}
 use Rattle.chip.specs.Job.{hasCells}
-use Rattle.chip.specs.Chip.{whole, blankLoad}
+use Rattle.chip.specs.Chip.{whole, emptyFrame, blankLoad}
 use Rattle.legal.specs.Legality.{chip-facts}
 use Rattle.frame.specs.Frame.{judge, loading}
 use Rattle.verdict.specs.Verdict.{startOf, targetProtected, startProtected, verdict, recordOf}
@@ -32,7 +34,7 @@ use Rattle.meets.specs.EventRules.{down-256, down-4096, down-65536}
 use Rattle.meets.specs.Opening.{opcodeFrame, addressFrame, hasAddress, among-two, Leaves, load-blank, quiet-takes, ready-takes, opens-opcode, opens-value, opens-address, opens-address-and}
 use Rattle.meets.specs.OursFrames.{as-long, address-bytes, opened-as, runsBy-add, reached}
 use Rattle.meets.specs.Load.{loadAfter, load-of}
-use Rattle.meets.specs.JobFrames.{Holds, dataFrame, data-keeps, data-runs, Command, programs, small-erases, sector-erases, chip-erases, status-writes, verdict-begins, settled-job}
+use Rattle.meets.specs.JobFrames.{Holds, dataFrame, data-keeps, data-runs, Command, programs, small-erases, sector-erases, chip-erases, status-writes, verdict-begins, settled-begun}
 
 -- ---- a page program's load
 
@@ -88,10 +90,19 @@ module _ (c : Chip) (m area : List ℕ) (ready : Ready c m area) (enabled : c .c
   abbrev fit : Fit c m area
   fit = ready .quiet .fit
 
+  -- the world after a frame of these bytes that has begun this job with this load
+  abbrev pub begun : JobKind → ℕ → List ℕ → List ℕ → World
+  begun kind start held bs =
+      world (whole (withArmed false (withSuspended false (withJob (record { kind = kind; start = start; done = 0 }) (c .core)))) emptyFrame blankLoad held) m (replicate (length bs) 0x80 ++ (0x82 ∷ 2 ∷ [])) 0
+
+  begins : (bs : List ℕ) (kind : JobKind) (start : ℕ) (held : List ℕ) → framed ours c m area bs ≡ begun kind start held bs → Begins ours c m area bs kind start
+  begins bs kind start held e =
+      record { verdict-two = ap (λ (w : World). w .written) e; job-is = ap (λ (w : World). w .chip .core .job) e; cells-same = ap (λ (w : World). w .memory) e }
+
   -- ---- a whole frame of ours, from its opening
 
   -- the definitions' own
-  framed-as : (bs : List ℕ) → AllBytes bs → framed ours c m area bs ≡ runs T (event 0x03 0 ∷ []) (runs T (event 0x01 0 ∷ sends bs) (world c m [] 0))
+  pub framed-as : (bs : List ℕ) → AllBytes bs → framed ours c m area bs ≡ runs T (event 0x03 0 ∷ []) (runs T (event 0x01 0 ∷ sends bs) (world c m [] 0))
   unfolding AllGood knownKind knownIn kindRow kindRowIn
   framed-as bs bytes = runsBy-add ours area (event 0x01 0 ∷ sends bs) (event 0x03 0 ∷ []) (world c m [] 0) ∙ reached c m area bs (event 0x03 0 ∷ []) fit bytes ((refl, refl), _) .as-defined
 
@@ -113,17 +124,14 @@ module _ (c : Chip) (m area : List ℕ) (ready : Ready c m area) (enabled : c .c
         closed-as bs load f bytes leaves (at .is-open)
         (verdict-begins S (c .core) f opcode A rule n kind command at (ready-takes c m area ready opcode (command .known)) some right enabled unlocked free)
 
-    -- it begins its job, and if that is a program, with this load
-    begins-at : (start : ℕ) → startOf S kind A ≡ start → Begins ours c m area bs kind start × (isProgram opcode ≡ true → framed ours c m area bs .chip .held ≡ load)
+    -- it leaves its job; if that is a program, with this load
+    begins-at : (start : ℕ) → startOf S kind A ≡ start → framed ours c m area bs ≡ begun kind start (cond (isProgram opcode) load blankLoad) bs
     unfolding heldAfter recordOf
-    begins-at start there = (
-      record {
-        verdict-two = ap (λ (w : World). w .written) closed;
-        job-is = ap (λ (w : World). w .chip .core .job) closed ∙ settled-job S (c .core) f opcode A rule n kind command at some ∙ ap (λ (q : ℕ). record { kind = kind; start = q; done = 0 }) there;
-        cells-same = ap (λ (w : World). w .memory) closed;
-      },
-      λ program. ap (λ (w : World). w .chip .held) closed ∙ cond-yes (isProgram (f .opcode)) load blankLoad (ap isProgram (at .opcode-is) ∙ program),
-    )
+    begins-at start there =
+        closed
+        ∙ ap (λ (k : Core). world (whole k emptyFrame blankLoad (cond (isProgram (f .opcode)) load blankLoad)) m (replicate (length bs) 0x80 ++ (0x82 ∷ 2 ∷ [])) 0)
+        (settled-begun S (c .core) f opcode A rule n kind command at some ∙ ap (λ (q : ℕ). withArmed false (withSuspended false (withJob (record { kind = kind; start = q; done = 0 }) (c .core)))) there)
+        ∙ ap (λ (q : ℕ). begun kind start (cond (isProgram q) load blankLoad) bs) (at .opcode-is)
 
   -- ---- the places
 
@@ -138,22 +146,30 @@ module _ (c : Chip) (m area : List ℕ) (ready : Ready c m area) (enabled : c .c
   -- ---- command by command
 
   -- a program, with its data bytes in its load
-  program-begins : (opcode A first : ℕ) (more : List ℕ) → length (c .load) ≡ 256 → among (0x02 ∷ 0x0A ∷ []) opcode ≡ true → A < 2 ^ 24 → AllBytes (first ∷ more) → FreeAt c m A
-      → Begins ours c m area (opcode ∷ (address A ++ (first ∷ more))) Program (A % length m / 256 * 256)
-      × LoadOf A (first ∷ more) (framed ours c m area (opcode ∷ (address A ++ (first ∷ more))) .chip .held)
+  pub program-begun : (opcode A first : ℕ) (more : List ℕ) → among (0x02 ∷ 0x0A ∷ []) opcode ≡ true → A < 2 ^ 24 → AllBytes (first ∷ more) → FreeAt c m A
+      → framed ours c m area (opcode ∷ (address A ++ (first ∷ more)))
+      ≡ begun Program (A % length m / 256 * 256) (loadAfter (first ∷ more) (A % 256) (c .load)) (opcode ∷ (address A ++ (first ∷ more)))
   unfolding AllBytes dataFrame fitsRule isProgram
-  program-begins opcode A first more page program small bytes free =
+  program-begun opcode A first more program small bytes free =
       let quiet : Quiet c m area = ready .quiet in
+      let bs : List ℕ = opcode ∷ (address A ++ (first ∷ more)) in
+      let load : List ℕ = loadAfter (first ∷ more) (A % 256) (c .load) in
       let f : Frame = dataFrame (first ∷ more) (addressFrame S opcode A) in
       let at : Holds opcode A 5 f =
       data-keeps opcode A 5 more (loading (addressFrame S opcode A)) (omega arith) (record { is-open = refl; opcode-is = refl; address-is = refl; unjudged = refl; so-many = omega arith }) in
-      let begun =
-      begins-at (opcode ∷ (address A ++ (first ∷ more))) (loadAfter (first ∷ more) (A % 256) (c .load)) f (all-bytes c m area quiet opcode A first more program small bytes)
+      begins-at bs load f (all-bytes c m area quiet opcode A first more program small bytes)
       (program-leaves c m area quiet opcode A first more program small bytes)
-      opcode A 5 5 Program (programs opcode A program) at (omega arith) (le-leb 5 (f .count) (at .so-many)) refl (free-start 256 A (λ x. omega arith) free) (A % length m / 256 * 256) (rounds 256 A down-256) in (
-        begun .0,
-        subst (LoadOf A (first ∷ more)) (sym (begun .1 (among-two (λ (q : ℕ). isProgram q ≡ true) 0x02 0x0A refl refl opcode program)))
-            (program-load-of c m area quiet opcode A first more program small bytes page),
+      opcode A 5 5 Program (programs opcode A program) at (omega arith) (le-leb 5 (f .count) (at .so-many)) refl (free-start 256 A (λ x. omega arith) free) (A % length m / 256 * 256) (rounds 256 A down-256)
+      ∙ ap (λ (held : List ℕ). begun Program (A % length m / 256 * 256) held bs)
+      (cond-yes (isProgram opcode) load blankLoad (among-two (λ (q : ℕ). isProgram q ≡ true) 0x02 0x0A refl refl opcode program))
+
+  program-begins : (opcode A first : ℕ) (more : List ℕ) → length (c .load) ≡ 256 → among (0x02 ∷ 0x0A ∷ []) opcode ≡ true → A < 2 ^ 24 → AllBytes (first ∷ more) → FreeAt c m A
+      → Begins ours c m area (opcode ∷ (address A ++ (first ∷ more))) Program (A % length m / 256 * 256)
+      × LoadOf A (first ∷ more) (framed ours c m area (opcode ∷ (address A ++ (first ∷ more))) .chip .held)
+  program-begins opcode A first more page program small bytes free =
+      let e = program-begun opcode A first more program small bytes free in (
+        begins _ _ _ _ e,
+        subst (LoadOf A (first ∷ more)) (sym (ap (λ (w : World). w .chip .held) e)) (program-load-of c m area (ready .quiet) opcode A first more program small bytes page),
       )
 
   -- an erase at an address, which has four bytes
@@ -161,10 +177,11 @@ module _ (c : Chip) (m area : List ℕ) (ready : Ready c m area) (enabled : c .c
       → (start : ℕ) → startOf S kind A ≡ start → Begins ours c m area (opcode ∷ address A) kind start
   unfolding AllBytes fitsRule
   erase-begins opcode A kind command has cells small free start there =
-      begins-at (opcode ∷ address A) (c .load) (addressFrame S opcode A) (leb-true opcode 255 (and-left (leb opcode 255) _ has), address-bytes A [] small _)
+      begins _ _ _ _
+      (begins-at (opcode ∷ address A) (c .load) (addressFrame S opcode A) (leb-true opcode 255 (and-left (leb opcode 255) _ has), address-bytes A [] small _)
       (opens-address c m area fit (ready .quiet .unselected) opcode A small has (ready-takes c m area ready opcode (command .known)))
       opcode A 4 4 kind command (record { is-open = refl; opcode-is = refl; address-is = refl; unjudged = refl; so-many = omega arith }) (omega arith) refl
-      (ap (λ (h : Bool). not h && c .core .srwp && not (c .core .wp)) cells) free start there .0
+      (ap (λ (h : Bool). not h && c .core .srwp && not (c .core .wp)) cells) free start there)
 
   -- a chip erase, which has its opcode alone
   chip-erase-begins : (opcode : ℕ) → among (0x60 ∷ 0xC7 ∷ []) opcode ≡ true → c .core .level ≡ 0 → Begins ours c m area (opcode ∷ []) ChipErase 0
@@ -173,17 +190,19 @@ module _ (c : Chip) (m area : List ℕ) (ready : Ready c m area) (enabled : c .c
       let small : opcode ≤ 255 = among-two (λ (q : ℕ). q ≤ 255) 0x60 0xC7 (omega arith) (omega arith) opcode is in
       let command : Command opcode 0 1 ChipErase = chip-erases opcode is in
       let some : 1 ≤ S = permitted-some (length m) (chip-facts c (length m) (fit .state-legal) .length-permitted) in
-      begins-at (opcode ∷ []) (c .load) (opcodeFrame opcode (judge (c .core) opcode)) (small, _) (opens-opcode c m area fit (ready .quiet .unselected) opcode small) opcode 0 1 1 ChipErase command
+      begins _ _ _ _
+      (begins-at (opcode ∷ []) (c .load) (opcodeFrame opcode (judge (c .core) opcode)) (small, _) (opens-opcode c m area fit (ready .quiet .unselected) opcode small) opcode 0 1 1 ChipErase command
       (record { is-open = refl; opcode-is = refl; address-is = refl; unjudged = ready-takes c m area ready opcode (command .known); so-many = omega arith }) (omega arith) refl refl
-      (any-by-level (c .core .level) (c .core .tb) S some ∙ ap not (eq-eqb _ _ level-none)) 0 refl .0
+      (any-by-level (c .core .level) (c .core .tb) S some ∙ ap not (eq-eqb _ _ level-none)) 0 refl)
 
   -- a write status, with its value
   write-status-begins : (value : ℕ) → value ≤ 255 → (c .core .srwp && not (c .core .wp)) ≡ false → Begins ours c m area (0x01 ∷ value ∷ []) (WriteStatus value) 0
   unfolding AllBytes fitsRule
   write-status-begins value byte unlocked =
       let command : Command 0x01 value 2 (WriteStatus value) = status-writes value byte in
-      begins-at (0x01 ∷ value ∷ []) (c .load) _ (omega arith, (byte, _)) (opens-value c m area fit (ready .quiet .unselected) value byte (ready-takes c m area ready 0x01 (command .known)))
-      0x01 value 2 2 (WriteStatus value) command (record { is-open = refl; opcode-is = refl; address-is = refl; unjudged = refl; so-many = omega arith }) (omega arith) refl unlocked refl 0 refl .0
+      begins _ _ _ _
+      (begins-at (0x01 ∷ value ∷ []) (c .load) _ (omega arith, (byte, _)) (opens-value c m area fit (ready .quiet .unselected) value byte (ready-takes c m area ready 0x01 (command .known)))
+      0x01 value 2 2 (WriteStatus value) command (record { is-open = refl; opcode-is = refl; address-is = refl; unjudged = refl; so-many = omega arith }) (omega arith) refl unlocked refl 0 refl)
 
   -- Ours begins its jobs from their bytes, as the demand says.
   pub ours-jobs-from-bytes : JobsFromBytes ours c m area

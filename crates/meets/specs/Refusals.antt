@@ -114,6 +114,10 @@ unfolding firstBad AllAt AllSound
 clean-sound s [] a = (λ _. tt, λ _. refl)
 clean-sound s (e ∷ es) a = Iff·trans (clean-more e es) (both (sound-event s e (a .0)) (clean-sound s es (a .1)))
 
+-- So a script is sound where no event of it is bad.
+pub sound-script : (s : List ℕ) → firstBad (events s) .number ≡ 0 → AllSound s (events s)
+sound-script s = clean-sound s (events s) (events-at s) .0
+
 -- behind good events the first bad one is the same
 pub bad-behind : (es fs : List Event) → firstBad es .number ≡ 0 → firstBad (es ++ fs) ≡ firstBad fs
 unfolding firstBad
@@ -185,7 +189,7 @@ bad-never s v f e =
     fault-when s at .never v f (fault-when s at .exactly v .1 (first-bad-at s v at some .0 (ap (λ (n : ℕ). refusalOf n at) e) .1))
 
 -- the room by the table of kinds is the room by the kinds' numbers
-room-needed : (es : List Event) → room es ≡ roomNeeded es
+pub room-needed : (es : List Event) → room es ≡ roomNeeded es
 unfolding room roomNeeded
 room-needed [] = refl
 room-needed (e ∷ es) =

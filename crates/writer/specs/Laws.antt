@@ -102,7 +102,7 @@ count-some : (A n : ℕ) → 0 < n → pieceCount A n ≡ (A % 256 + n - 1) / 25
 count-some A n some = cond-no (eqb n 0) 0 _ (ne-eqb n 0 (λ z. omega (arith, z, some)))
 
 -- the first piece is one of them
-count-more : (A total n rest : ℕ) → 0 < total → n ≡ min total (leftInPage A) → rest ≡ total - n → pieceCount A total ≡ 1 + pieceCount (A + n) rest
+pub count-more : (A total n rest : ℕ) → 0 < total → n ≡ min total (leftInPage A) → rest ≡ total - n → pieceCount A total ≡ 1 + pieceCount (A + n) rest
 count-more A total n zero some is left =
     let left-is : leftInPage A ≡ 256 - A % 256 = refl in
     omega (arith, count-some A total some, is, left, left-is)
