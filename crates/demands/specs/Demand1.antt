@@ -13,7 +13,9 @@ use Rattle.legal.specs.Legal.{legal}
 use Rattle.kinds.specs.Kinds.{knownKind, bodyLength, inRange}
 use Rattle.kinds.specs.Body.{bodyAt}
 use Rattle.script.specs.Script.{Event, eventAt, events}
+use Rattle.script.specs.declared.Ran.{Ran}
 use Rattle.script.specs.Run.{World, world}
+use Rattle.script.specs.Run as Run
 use Rattle.demands.specs.Model.{Model, Fit, runsBy}
 
 -- ---- one event alone
@@ -51,6 +53,19 @@ pub record RunReply : Type 0 where
 -- a runner answers every script: chip, memory, SFDP area, script and output are any
 abbrev pub Runner : Type 0
 Runner = Chip → List ℕ → List ℕ → List ℕ → List ℕ → RunReply
+
+-- what a caller of `script::run` holds afterwards: the answer, the memory and the output
+abbrev pub ran : Ran → List ℕ → List ℕ → RunReply
+ran r m out = record { chip = r .chip; memory = m; output = out; refusal = r .refusal; offset = r .offset; written = r .written; ticks = r .ticks }
+
+-- the runner that its contract describes
+abbrev pub ourRun : Runner
+ourRun c m area s out = ran (Run.answerOf c m area s out) (Run.memoryOf c m area s out) (Run.outputOf c m area s out)
+
+-- Whatever meets the contract of `script::run` answers as ours.
+pub runner-is-ours : (c : Chip) (m area s out : List ℕ) (r : Ran) (m′ out′ : List ℕ)
+    → (r ≡ Run.answerOf c m area s out) × (m′ ≡ Run.memoryOf c m area s out) × (out′ ≡ Run.outputOf c m area s out) → ran r m′ out′ ≡ ourRun c m area s out
+runner-is-ours c m area s out r m′ out′ p = λ i. ran (p .0 i) (p .1 i) (p .2 i)
 
 -- an event of a script with nothing wrong: of a known kind, whole, and its body in its range
 pub record Sound (s : List ℕ) (e : Event) : Type 0 where

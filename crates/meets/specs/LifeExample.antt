@@ -29,7 +29,7 @@ use Rattle.event.specs.Keeps.{length-applied}
 use Rattle.script.specs.Script.{Event, eventAt, faultAt, walk, eventsFrom, events}
 use Rattle.script.specs.Run.{World, world, does, onward, runs}
 use Rattle.demands.specs.Model.{ours, Good, AllGood, Fit, doesBy, onwardBy, runsBy, workedBy}
-use Rattle.demands.specs.Demand1.{RunReply, AllSound, Heard, roomNeeded}
+use Rattle.demands.specs.Demand1.{RunReply, AllSound, Heard, roomNeeded, ourRun}
 use Rattle.demands.specs.Demand2.{Closing, on-a-byte}
 use Rattle.demands.specs.Demand3.{Spares, AllSpare, stepsOf}
 use Rattle.meets.specs.Ours.{onward-ours, setting-same, fit-onward, runs-ours, fit-runs, worked-ours}
@@ -38,7 +38,7 @@ use Rattle.meets.specs.Cut.{length-runs}
 use Rattle.meets.specs.Examples.{frame, one}
 use Rattle.meets.specs.Met.{legal-met}
 use Rattle.meets.specs.Stepwise as Stepwise
-use Rattle.meets.specs.Meets1.{ourRun, all-good, meets-1-run}
+use Rattle.meets.specs.Meets1.{all-good, meets-1-run}
 use Rattle.meets.specs.WholeLife.{jobIn, HoldsLife, LifeRun, good-split, script-whole-life}
 
 -- ---- tests that compute

@@ -11,7 +11,7 @@ use borrow.Author.Tests.{ne-eqb}
 use Rattle.chip.specs.declared.Chip.{Chip}
 use Rattle.script.specs.Laws as ScriptLaws
 use Rattle.demands.specs.Model.{Model, ours}
-use Rattle.demands.specs.Demand1.{Demand1Run, Runner, RunReply, RunRefusedWhen}
+use Rattle.demands.specs.Demand1.{Demand1Run, Runner, RunReply, RunRefusedWhen, ourRun}
 use Rattle.meets.specs.Refusals.{run-numbers}
 use Rattle.demands.specs.Words.{SmallWords, Words}
 use Rattle.meets.specs.Array.{protection-in-numbers}
@@ -20,7 +20,7 @@ use Rattle.meets.specs.ScriptWords.{kinds-in-numbers, events-in-numbers}
 use Rattle.meets.specs.TableWords.{table-in-numbers}
 use Rattle.meets.specs.JobWords.{jobs-in-numbers}
 use Rattle.meets.specs.Meets2Reads.{status-bits}
-use Rattle.meets.specs.Meets1.{meets-1, ourRun, meets-1-run}
+use Rattle.meets.specs.Meets1.{meets-1, meets-1-run}
 use Rattle.meets.specs.Meets2.{meets-2}
 use Rattle.meets.specs.Meets3.{meets-3}
 use Rattle.meets.specs.Decided.{Meets, decided}

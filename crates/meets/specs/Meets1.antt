@@ -15,7 +15,7 @@ use Rattle.script.specs.Run.{World, world}
 use Rattle.script.specs.Run as Run
 use Rattle.script.specs.Laws as ScriptLaws
 use Rattle.demands.specs.Model.{Reply, replied, ours, event, AllGood, Fit, runsBy}
-use Rattle.demands.specs.Demand1.{RefusedWhen, Demand1, RunReply, Runner, AllSound, RunRefusedWhen, Demand1Run}
+use Rattle.demands.specs.Demand1.{RefusedWhen, Demand1, RunReply, ran, ourRun, AllSound, RunRefusedWhen, Demand1Run}
 use Rattle.meets.specs.Refusals.{event-refused-when, event-refused-keeps, run-refused-when, run-refused-keeps}
 use Rattle.meets.specs.Ours.{done-as, fit-next, runs-ours}
 
@@ -45,19 +45,6 @@ meets-1 =
     }
 
 -- ---- a script run
-
--- what a caller of `script::run` holds afterwards: the answer, the memory and the output
-abbrev pub ran : Ran → List ℕ → List ℕ → RunReply
-ran r m out = record { chip = r .chip; memory = m; output = out; refusal = r .refusal; offset = r .offset; written = r .written; ticks = r .ticks }
-
--- the runner that its contract describes
-abbrev pub ourRun : Runner
-ourRun c m area s out = ran (Run.answerOf c m area s out) (Run.memoryOf c m area s out) (Run.outputOf c m area s out)
-
--- Whatever meets the contract of `script::run` answers as ours.
-pub runner-is-ours : (c : Chip) (m area s out : List ℕ) (r : Ran) (m′ out′ : List ℕ)
-    → (r ≡ Run.answerOf c m area s out) × (m′ ≡ Run.memoryOf c m area s out) × (out′ ≡ Run.outputOf c m area s out) → ran r m′ out′ ≡ ourRun c m area s out
-runner-is-ours c m area s out r m′ out′ p = λ i. ran (p .0 i) (p .1 i) (p .2 i)
 
 -- sound events of a script are good
 pub all-good : (s : List ℕ) (es : List Event) → AllSound s es → AllGood es

@@ -13,8 +13,8 @@ use Rattle.chip.specs.Chip.{fresh}
 use Rattle.legal.specs.Legal.{legal}
 use Rattle.kinds.specs.Body.{nextAt}
 use Rattle.script.specs.Script.{Event, eventAt, walk, eventsFrom, events}
-use Rattle.demands.specs.Demand1.{RunRefusedWhen, roomNeeded}
-use Rattle.meets.specs.Meets1.{ourRun, meets-1-run}
+use Rattle.demands.specs.Demand1.{RunRefusedWhen, roomNeeded, ourRun}
+use Rattle.meets.specs.Meets1.{meets-1-run}
 use Rattle.meets.specs.Met.{legal-met}
 
 -- a script has no more events than bytes, and each of them asks for three bytes of output at the most

@@ -34,12 +34,12 @@ use Rattle.writer.specs.Writer as Writer
 use Rattle.writer.specs.Laws.{pieces-none, pieces-more, count-more, longest-is}
 use Rattle.writer.specs.Refusals as WriterLaws
 use Rattle.demands.specs.Model.{event, sends, address, Fit}
-use Rattle.demands.specs.Demand1.{RunReply, AllSound, roomNeeded}
+use Rattle.demands.specs.Demand1.{RunReply, AllSound, roomNeeded, ran, ourRun, runner-is-ours}
 use Rattle.demands.specs.Demand2.{AllBytes, Ready, FreeAt, poweredUp}
 use Rattle.demands.specs.Programming.{pagesTouched, inFirstPage, pageSays, saysFor, says, Programmable, chipAfter, Programmed, Programs}
 use Rattle.meets.specs.Refusals.{room-needed, sound-script}
 use Rattle.meets.specs.Ours.{runs-ours}
-use Rattle.meets.specs.Meets1.{ran, ourRun, runner-is-ours, all-good, meets-1-run}
+use Rattle.meets.specs.Meets1.{all-good, meets-1-run}
 use Rattle.meets.specs.Cut.{room-append, legal-runs, runs-from}
 use Rattle.meets.specs.Plays.{Plays, plays-none, plays-then, plays-frame, plays-16-ticks}
 use Rattle.meets.specs.ProgramPiece.{frameEvents, pieceEvents, piece-runs, after-piece, piece-cells, piece-others, piece-long, piece-bytes}

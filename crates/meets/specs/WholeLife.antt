@@ -17,12 +17,12 @@ use Rattle.script.specs.declared.Ran.{Ran}
 use Rattle.script.specs.Run.{World, world}
 use Rattle.script.specs.Run as Run
 use Rattle.demands.specs.Model.{Model, ours, Good, AllGood, Fit, doesBy, onwardBy, runsBy, workingTicks, workedBy}
-use Rattle.demands.specs.Demand1.{Demand1, RunReply, Runner, Demand1Run}
+use Rattle.demands.specs.Demand1.{Demand1, RunReply, Runner, Demand1Run, ran, ourRun, runner-is-ours}
 use Rattle.demands.specs.Demand2.{Closing, on-a-byte, inside-a-byte}
 use Rattle.demands.specs.Demand3.{Started, UnderWay, AllSpare, bitsAfter, stepsOf, Outlook, Demand3}
 use Rattle.meets.specs.Ours.{finds-none}
 use Rattle.meets.specs.OursFrames.{runsBy-add}
-use Rattle.meets.specs.Meets1.{ran, ourRun, runner-is-ours, all-good, meets-1, meets-1-run}
+use Rattle.meets.specs.Meets1.{all-good, meets-1, meets-1-run}
 use Rattle.meets.specs.Meets3.{meets-3}
 
 -- ---- the words

@@ -1,2 +1,4 @@
 pub mod Wrong
 pub mod Refuted
+pub mod WrongWriters
+pub mod RefutedWriters
