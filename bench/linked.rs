@@ -4,10 +4,12 @@
 use crate::event::Event;
 use crate::image::Image;
 use crate::model::Chip;
+use crate::programming::Programming;
 use crate::sfdp::{Found, CONTENT};
 use crate::side::{
     Answer, Loan, RecordBytes, Side, GUARD, LONGEST_RECORD, MEMORY_AREA, OUTPUT_AREA, SFDP_AREA,
 };
+use crate::writer::Written;
 use std::mem::MaybeUninit;
 
 #[repr(C)]
@@ -33,6 +35,12 @@ struct FoundNumbers {
     refusal: u8,
     place: usize,
     length: usize,
+}
+
+#[repr(C)]
+struct WrittenNumbers {
+    refusal: u8,
+    written: usize,
 }
 
 /// A function that applies one event: its answer, the chip, the memory with its length, the SFDP
@@ -66,6 +74,15 @@ extern "C" {
     );
     fn sfdp_find(answer: *mut FoundNumbers, area: *const u8, length: usize, identity: u8);
     fn sfdp_own_area(answer: *mut [u8; CONTENT.len()]);
+    // Its answer is small enough to come back by value.
+    fn write_program(
+        length: usize,
+        address: usize,
+        data: *const u8,
+        data_length: usize,
+        output: *mut u8,
+        room: usize,
+    ) -> WrittenNumbers;
     fn chip_run(
         answer: *mut RunNumbers,
         chip: *mut Image,
@@ -173,6 +190,15 @@ impl Side for Linked {
         // It writes the whole area.
         unsafe { sfdp_own_area(&mut area) };
         Ok(area)
+    }
+
+    fn write_program(&mut self, asked: &Programming) -> Result<Written, String> {
+        let Programming { memory, address, data, room } = asked;
+        let (from, to) = (data.as_ptr(), self.output[..*room].as_mut_ptr());
+        // The data and the output are lent for the call alone.
+        let WrittenNumbers { refusal, written } =
+            unsafe { write_program(*memory, *address, from, data.len(), to, *room) };
+        Ok(Written { refusal, written })
     }
 
     fn memory(&mut self) -> &mut [u8] {

@@ -26,6 +26,11 @@ mod linked;
 #[path = "../second/model.rs"]
 mod model;
 #[allow(dead_code)]
+#[path = "../compare/programming.rs"]
+mod programming;
+#[path = "../compare/promise.rs"]
+mod promise;
+#[allow(dead_code)]
 #[path = "../compare/protection.rs"]
 mod protection;
 #[path = "../compare/rng.rs"]
@@ -37,7 +42,11 @@ mod scenes;
 mod sfdp;
 #[path = "../compare/side.rs"]
 mod side;
+#[path = "../tools/text.rs"]
+mod text;
 mod timing;
+#[path = "../second/writer.rs"]
+mod writer;
 
 use bench::Bench;
 use case::{Case, Content, Start, Step};

@@ -1,16 +1,19 @@
 // The bench: the model beside the side that is held to it, compared after each step.
 
-use crate::case::{room, Case, Content, Start, Step, LENGTHS};
+use crate::case::{room, Case, Content, Start, Step, Use, LENGTHS};
 use crate::event::{events_of, room_needed, Event};
 use crate::expected::Expected;
 use crate::image::{edited_image, image_difference, Image};
 use crate::model;
+use crate::programming::{self, Programming};
+use crate::promise::{self, Promise};
 use crate::protection::sectors_difference;
 use crate::rng::Rng;
 use crate::sfdp::{self, Found};
 use crate::side::{
     record_bytes, Answer, Loan, Side, GUARD, MEMORY_AREA, NO_RECORD, OUTPUT_AREA, SFDP_AREA,
 };
+use crate::writer::{self, Written};
 
 /// The part's own SFDP area as the file that a bench may take it from.
 const OWN_AREA_FILE: &[u8; 208] = include_bytes!("../samples/le25s161.sfdp");
@@ -40,10 +43,15 @@ pub struct Bench<'a> {
 /// The answer to what has none.
 const NO_ANSWER: Answer = Answer { refusal: 0, record: NO_RECORD, offset: 0, written: 0, ticks: 0 };
 
-/// What the output holds before a run.
+/// What a place of the output holds before a run, or before a script is written.
+fn mark(place: usize) -> u8 {
+    (place * 37 + 11) as u8
+}
+
+/// Marks an output.
 fn mark_output(output: &mut [u8]) {
     for (place, byte) in output.iter_mut().enumerate() {
-        *byte = (place * 37 + 11) as u8;
+        *byte = mark(place);
     }
 }
 
@@ -75,6 +83,31 @@ fn room_difference(side: &str, answer: &Answer, script: &[u8], room: usize) -> O
     let needed = room_needed(script) as usize;
     let wrong = (refusal == 7) != (room < needed);
     wrong.then(|| format!("{ROOM_DIFFERENCE} {room} of {needed}: {side} {refusal}"))
+}
+
+/// What is wrong with a script writer's answer or with the output that it was lent, the guard
+/// included, in words: the script there, or a mark behind it that is gone.
+fn writing_difference(
+    side: &str,
+    asked: &Programming,
+    answer: Written,
+    output: &[u8],
+) -> Option<String> {
+    asked.difference(side, answer, output).or_else(|| {
+        let at = (answer.written..output.len()).find(|at| output[*at] != mark(*at))?;
+        Some(format!("{}: {side}output is touched at {at:X}h", programming::DIFFERENCE))
+    })
+}
+
+/// What the text form makes of a programming's line, in words, if it is not the writer's script.
+fn text_difference(script: &[u8], found: Result<Vec<u8>, String>) -> Option<String> {
+    let words = match found {
+        Ok(found) if found == script => return None,
+        Ok(found) if found.len() == script.len() => area_difference("script", script, &found)?,
+        Ok(found) => format!("{} bytes in place of {}", found.len(), script.len()),
+        Err(reason) => reason,
+    };
+    Some(format!("{}: {words}", programming::TEXT_DIFFERENCE))
 }
 
 /// An answer in words.
@@ -184,6 +217,7 @@ impl<'a> Bench<'a> {
             }
             Step::Find(identity) => self.find(*identity),
             Step::OwnArea => self.own_area(),
+            Step::Script(asked, used) => self.use_script(asked, *used),
         }
     }
 
@@ -270,6 +304,58 @@ impl<'a> Bench<'a> {
         as_error(area_difference("own area", &sfdp::CONTENT, &found))?;
         as_error(area_difference("own area, to the file's,", OWN_AREA_FILE, &found))?;
         Ok(NO_ANSWER)
+    }
+
+    /// Asks both script writers for a programming's script, holds each of them to the harness's own
+    /// reckoning, and compares; of the answer only the refusal and the bytes written are given.
+    fn write_script(&mut self, asked: &Programming) -> Result<Answer, String> {
+        self.differs = true;
+        let end = asked.room + GUARD;
+        mark_output(&mut self.output[..end]);
+        mark_output(&mut self.other.output()[..end]);
+        let Programming { memory, address, data, room } = asked;
+        let wanted = writer::write_program(*memory, *address, data, &mut self.output[..*room]);
+        let found = self.other.write_program(asked)?;
+        as_error(writing_difference("the model's ", asked, wanted, &self.output[..end]))?;
+        as_error(writing_difference("", asked, found, &self.other.output()[..end]))?;
+        self.compare_areas(self.length + GUARD, end)?;
+        self.differs = false;
+        Ok(Answer::to_run(found.refusal, 0, found.written as u64, 0))
+    }
+
+    /// Asks for a programming's script, and uses it if it is not refused.
+    fn use_script(&mut self, asked: &Programming, used: Use) -> Result<Answer, String> {
+        let answer = self.write_script(asked)?;
+        let script = self.other.output()[..answer.written as usize].to_vec();
+        match used {
+            _ if answer.refusal != 0 => {}
+            Use::Read => {}
+            Use::HoldText => {
+                as_error(text_difference(&script, self.other.script_of_line(asked)))?;
+            }
+            Use::Run => return self.keep_promise(asked, &script),
+        }
+        Ok(answer)
+    }
+
+    /// Runs a programming's script, in a byte less than its room, if it has any, and in the exact
+    /// room. If the promise is about the chip as it is, both sides are held to it: the run has
+    /// compared their records and cells, so that it is enough to look at one side's.
+    pub fn keep_promise(&mut self, asked: &Programming, script: &[u8]) -> Result<Answer, String> {
+        let (length, room) = (self.length, promise::room(asked));
+        let promised = asked.is_promised(&self.expected.chip, length);
+        let promise = promised.then(|| Promise::new(asked, &self.memory[..length]));
+        let (model, other) = (self.expected.image(), self.other.image());
+        if room > 0 && self.run(length, script, room - 1)?.refusal != 7 {
+            return Err(format!("{}: not refused by 7 in {} bytes", promise::DIFFERENCE, room - 1));
+        }
+        let answer = self.run(length, script, room)?;
+        let Some(promise) = promise else { return Ok(answer) };
+        as_error(promise.answer_difference(&answer))?;
+        as_error(promise.cells_difference(&self.output, &self.memory[..length]))?;
+        as_error(promise.chip_difference("the model's ", &model, &self.expected.image()))?;
+        as_error(promise.chip_difference("", &other, &self.other.image()))?;
+        Ok(answer)
     }
 
     /// The model's answer to one event.

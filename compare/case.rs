@@ -3,6 +3,7 @@
 use crate::event::{room_needed, Event};
 use crate::image::Edit;
 use crate::model::Chip;
+use crate::programming::Programming;
 use crate::side::{GUARD, OUTPUT_AREA};
 
 /// The six memory lengths.
@@ -44,6 +45,19 @@ pub enum Step {
     Find(u8),
     /// The part's own area is asked for.
     OwnArea,
+    /// The script writer is asked for a programming's script, which is used if it is not refused.
+    Script(Programming, Use),
+}
+
+/// What a script that is written is used for.
+#[derive(Clone, Copy, Debug, PartialEq)]
+pub enum Use {
+    /// It is only looked at.
+    Read,
+    /// What the text form makes of the same programming is held to it.
+    HoldText,
+    /// It is run, in a byte less than its room and in the exact room.
+    Run,
 }
 
 /// A start and the steps after it.

@@ -9,6 +9,7 @@ use crate::event::{events_of, kind, Event, LONGEST};
 use crate::expected::{Expected, NOTHING};
 use crate::image::{Edit, FLAGS};
 use crate::model::{self, Chip, Record};
+use crate::programming_coverage::ProgrammingCoverage;
 use crate::protection_coverage::ProtectionCoverage;
 use crate::side::{verdict_of, Answer};
 use crate::states::RULES;
@@ -110,6 +111,7 @@ pub struct Coverage {
     situations: Tally,
     areas: AreaCoverage,
     protection: ProtectionCoverage,
+    programmings: ProgrammingCoverage,
     over_top: [[u64; 2]; 6],
     rules: [u64; RULES.len()],
     flags: [[u64; 3]; FLAGS.len()],
@@ -133,6 +135,7 @@ impl Coverage {
             situations: Tally::new(&SITUATIONS),
             areas: AreaCoverage::new(),
             protection: ProtectionCoverage::new(),
+            programmings: ProgrammingCoverage::new(),
             over_top: [[0; 2]; 6],
             rules: [0; RULES.len()],
             flags: [[0; 3]; FLAGS.len()],
@@ -169,7 +172,7 @@ impl Coverage {
     }
 
     /// Takes note of a step that was answered, from the chip before it, and gives the number of its
-    /// events; what is refused counts as one.
+    /// events; what is refused counts as one, and so does a programming, be its script run or not.
     pub fn note_step(
         &mut self,
         before: &Expected,
@@ -187,6 +190,10 @@ impl Coverage {
             Step::Lend(area) => {
                 self.areas.lend(area);
                 return 0;
+            }
+            Step::Script(asked, used) => {
+                self.programmings.note_script(before, asked, *used, answer.refusal, length);
+                return 1;
             }
             Step::HandOver | Step::OwnArea => return 0,
         };
@@ -470,6 +477,7 @@ impl Coverage {
         faults += self.report_refusals();
         faults += self.areas.report(&ENTRIES);
         faults += self.protection.report(&ENTRIES);
+        faults += self.programmings.report();
         faults += self.report_fates();
         faults + self.report_situations()
     }

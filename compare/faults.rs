@@ -7,12 +7,14 @@ use crate::event::{events_of, kind, room_needed, Event, LONGEST};
 use crate::expected::Expected;
 use crate::image::{with_flags, Image};
 use crate::model::{self, Chip, EventAnswer, Job, JobKind, Record};
+use crate::programming::{self, Programming};
 use crate::protection;
 use crate::sfdp::{self, Found, CONTENT};
 use crate::side::{
     record_bytes, Answer, Loan, Side, GUARD, MEMORY_AREA, NO_RECORD, OUTPUT_AREA, SFDP_AREA,
 };
-use crate::{wrong_reader, wrong_room, wrong_sectors};
+use crate::writer::{self, Written};
+use crate::{text, wrong_reader, wrong_room, wrong_sectors, wrong_writer};
 
 /// The faults that have no file of their own, in words; the first five are errors that look right.
 const FAULTS: [&str; 31] = [
@@ -49,14 +51,22 @@ const FAULTS: [&str; 31] = [
     "the part's own area has zeros for its third header",
 ];
 
-/// The number of the first fault of verdict 9's records, of the room, and of the reader.
+/// The number of the first fault of verdict 9's records, of the room, of the reader, and of the
+/// script writer, and the number of the text form's.
 const SECTORS: usize = FAULTS.len();
 const ROOM: usize = SECTORS + wrong_sectors::FAULTS.len();
 const READER: usize = ROOM + wrong_room::FAULTS.len();
+const WRITER: usize = READER + wrong_reader::FAULTS.len();
+const TEXT: usize = WRITER + wrong_writer::TEXT;
 
-/// All faults, in words, the reader's last.
+/// All faults, in words, the script writer's and the text form's last.
 pub fn all_faults() -> impl Iterator<Item = &'static str> {
-    let files = [&wrong_sectors::FAULTS[..], &wrong_room::FAULTS, &wrong_reader::FAULTS];
+    let files = [
+        &wrong_sectors::FAULTS[..],
+        &wrong_room::FAULTS,
+        &wrong_reader::FAULTS,
+        &wrong_writer::FAULTS,
+    ];
     FAULTS.into_iter().chain(files.into_iter().flatten().copied())
 }
 
@@ -66,6 +76,8 @@ pub fn words_begin(fault: usize) -> &'static str {
     match fault {
         SECTORS..ROOM if wrong_sectors::is_reckoned(fault - SECTORS) => protection::DIFFERENCE,
         ROOM..READER if wrong_room::is_reckoned(fault - ROOM) => ROOM_DIFFERENCE,
+        WRITER..TEXT => programming::DIFFERENCE,
+        TEXT => programming::TEXT_DIFFERENCE,
         _ => "",
     }
 }
@@ -368,7 +380,7 @@ impl Side for WrongCopy {
     fn find(&mut self, area: usize, identity: u8) -> Result<Found, String> {
         let area = &self.sfdp[GUARD..GUARD + area];
         Ok(match self.fault {
-            Some(fault @ READER..) => wrong_reader::find(area, identity, fault - READER),
+            Some(fault @ READER..WRITER) => wrong_reader::find(area, identity, fault - READER),
             _ => sfdp::find(area, identity),
         })
     }
@@ -379,6 +391,24 @@ impl Side for WrongCopy {
             area[0x18..0x20].fill(0);
         }
         Ok(area)
+    }
+
+    fn write_program(&mut self, asked: &Programming) -> Result<Written, String> {
+        let Programming { memory, address, data, room } = asked;
+        Ok(match self.fault {
+            Some(fault @ WRITER..TEXT) => {
+                wrong_writer::write(fault - WRITER, asked, &mut self.output)
+            }
+            _ => writer::write_program(*memory, *address, data, &mut self.output[..*room]),
+        })
+    }
+
+    fn script_of_line(&self, asked: &Programming) -> Result<Vec<u8>, String> {
+        if self.has(TEXT) {
+            Ok(wrong_writer::script(wrong_writer::TEXT, asked))
+        } else {
+            text::script_of_text(&asked.line())
+        }
     }
 
     fn memory(&mut self) -> &mut [u8] {

@@ -3,8 +3,10 @@
 use crate::event::Event;
 use crate::image::Image;
 use crate::model::Chip;
+use crate::programming::Programming;
 use crate::sfdp::{Found, CONTENT};
 use crate::side::{Answer, Loan, RecordBytes, Side, MEMORY_AREA, OUTPUT_AREA, SFDP_AREA};
+use crate::writer::Written;
 use std::ffi::{c_int, c_void};
 use std::fs::File;
 use std::io::{Read, Write};
@@ -22,7 +24,8 @@ extern "C" {
     ) -> *mut c_void;
 }
 
-/// Where the script stands in the shared file; the shim has the same numbers.
+/// Where the script stands in the shared file, or the data that one is written for; the shim has
+/// the same numbers.
 const SCRIPT: usize = MEMORY_AREA;
 /// Bytes of the area for the script.
 pub const SCRIPT_AREA: usize = 3 * Chip::SECTOR;
@@ -234,6 +237,18 @@ impl Side for Library {
         self.call(b'o', [0; 4])?;
         let part = self.part(OWN_AREA, CONTENT.len());
         Ok(std::array::from_fn(|at| part[at]))
+    }
+
+    fn write_program(&mut self, asked: &Programming) -> Result<Written, String> {
+        let data = &asked.data;
+        self.part(SCRIPT, data.len()).copy_from_slice(data);
+        let numbers = [asked.memory, asked.address, data.len(), asked.room];
+        self.call(b'w', numbers.map(|number| number as u64))?;
+        if *self.part(SCRIPT, data.len()) != **data {
+            return Err("the data were written to".to_string());
+        }
+        let [refusal, written] = [0, 1].map(|place| self.number(place));
+        Ok(Written { refusal: refusal as u8, written: written as usize })
     }
 
     fn memory(&mut self) -> &mut [u8] {

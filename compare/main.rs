@@ -4,6 +4,10 @@
 mod model;
 #[path = "../second/sfdp.rs"]
 mod sfdp;
+#[path = "../tools/text.rs"]
+mod text;
+#[path = "../second/writer.rs"]
+mod writer;
 
 mod area_coverage;
 mod area_scenes;
@@ -21,7 +25,11 @@ mod image;
 mod library;
 mod plan;
 mod plan_areas;
+mod plan_programming;
 mod plan_protection;
+mod programming;
+mod programming_coverage;
+mod promise;
 mod protection;
 mod protection_coverage;
 mod random;
@@ -37,8 +45,14 @@ mod words;
 mod wrong_reader;
 mod wrong_room;
 mod wrong_sectors;
+mod wrong_writer;
 
 use bench::Bench;
+use case::{Case, Content, Start};
+use event::kind; // text.rs looks for it here
+use image::Edit;
+use model::Chip;
+use programming::Programming;
 use session::Session;
 use side::Side;
 use std::process::ExitCode;
@@ -81,7 +95,28 @@ fn compare(other: &mut dyn Side, seed: u64, events: u64, planted: bool) -> Resul
     Err(failure.difference)
 }
 
-/// Tests the harness: a true copy of the model must pass, each wrong copy must be found out.
+/// Whether a planted fault was found, by words that begin as those of what has to find it; says so
+/// if not.
+fn is_found(difference: Option<String>, begin: &str) -> bool {
+    let found = difference.is_some_and(|words| words.starts_with(begin));
+    if !found {
+        println!("NOT FOUND, or not by the reckoning that has to find it");
+    }
+    found
+}
+
+/// What the check of the promise says of a wrong script that is run on a true copy with WEN 1.
+fn broken_promise(asked: &Programming, script: &[u8]) -> Option<String> {
+    let start = Start::Lent(Box::new(Chip { wen: true, ..Chip::fresh(0) }), Edit::None);
+    let (length, content, area, steps) = (asked.memory, Content::Blank, Vec::new(), Vec::new());
+    let mut copy = faults::WrongCopy::new(None);
+    let mut bench = Bench::new(&mut copy);
+    let started = bench.start(&Case { length, start, content, area, steps });
+    started.and_then(|()| bench.keep_promise(asked, script)).err()
+}
+
+/// Tests the harness: a true copy of the model must pass, each wrong copy must be found out, and so
+/// must each wrong script that is run on a true one.
 fn self_test(seed: u64) -> bool {
     println!("a true copy");
     let good = compare(&mut faults::WrongCopy::new(None), seed, SELF_TEST, false).is_ok();
@@ -91,11 +126,14 @@ fn self_test(seed: u64) -> bool {
         let mut copy = faults::WrongCopy::new(Some(number));
         let difference = compare(&mut copy, seed, SELF_TEST, true).err();
         planted += 1;
-        if difference.is_some_and(|words| words.starts_with(faults::words_begin(number))) {
-            found += 1;
-        } else {
-            println!("NOT FOUND, or not by the reckoning that has to find it");
-        }
+        found += usize::from(is_found(difference, faults::words_begin(number)));
+    }
+    for (words, asked, script) in wrong_writer::wrong_scripts() {
+        println!("\nfault {planted}: in a script, {words}");
+        let difference = broken_promise(&asked, &script);
+        println!("{}", difference.as_deref().unwrap_or("the promise is kept"));
+        planted += 1;
+        found += usize::from(is_found(difference, promise::DIFFERENCE));
     }
     println!("\n{found} of {planted} planted faults found");
     good && found == planted

@@ -15,6 +15,7 @@ impl Session<'_> {
     pub fn planned(&mut self) -> Outcome {
         self.fresh_states()?;
         self.areas()?;
+        self.script_writer()?;
         self.protection()?;
         self.leftovers()?;
         self.broken_states(LENGTHS[0])?;
@@ -30,6 +31,7 @@ impl Session<'_> {
         for length in &LENGTHS[1..] {
             self.broken_states(*length)?;
         }
+        self.scripts_run()?;
         self.limits(LENGTHS[0])?;
         self.limits(LENGTHS[5])
     }

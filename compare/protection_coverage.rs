@@ -15,7 +15,7 @@ const TARGETS: [&str; 4] = ["a program", "a small sector erase", "a sector erase
 const LEVELS: [u8; 7] = [1, 2, 3, 4, 5, 6, 7];
 
 /// The sectors of the six lengths.
-const SECTORS: [u8; 6] = [1, 2, 4, 8, 16, 32];
+pub const SECTORS: [u8; 6] = [1, 2, 4, 8, 16, 32];
 
 /// Where the sector of a target can be, with the fewest sectors that the part then has.
 const PLACES: [(&str, u8); 5] = [

@@ -25,8 +25,8 @@ impl Session<'_> {
         Ok(())
     }
 
-    /// One random case: a start and scenes, with refusals, hand-overs, other areas and questions to
-    /// the reader between them.
+    /// One random case: a start and scenes, with refusals, hand-overs, other areas, questions to the
+    /// reader and programmings between them.
     fn random_case(&mut self, length: usize) -> Outcome {
         let (seed, status) = (self.rng.next(), self.rng.byte());
         let content = self.rng.pick(&[Content::Blank, Content::Noise(seed), Content::Noise(seed)]);
@@ -44,11 +44,12 @@ impl Session<'_> {
             self.deliver(&events)?;
         }
         for _ in 0..4 + self.rng.below(20) {
-            match self.rng.below(14) {
+            match self.rng.below(15) {
                 0 => self.step(Step::HandOver).map(|_| ())?,
                 1..=3 => self.refusal()?,
                 4 => self.other_area()?,
                 5 => self.questions()?,
+                6 => self.any_programmings()?,
                 _ => self.scene()?,
             }
         }

@@ -88,10 +88,10 @@ impl<'a> Session<'a> {
         answer.map_err(|difference| self.failure(difference))
     }
 
-    /// Holds records to those that are written out in the plan.
+    /// Holds records, or a script, to what is written out in the plan.
     pub fn hold_to(&self, found: &[u8], written_out: &[u8]) -> Outcome {
         if found != written_out {
-            let words = format!("records: {found:02X?}\nin place of {written_out:02X?}");
+            let words = format!("written: {found:02X?}\nin place of {written_out:02X?}");
             return Err(self.failure(words));
         }
         Ok(())

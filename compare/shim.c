@@ -26,6 +26,7 @@ struct event_answer { struct chip chip; u8 refusal, size; u8 bytes[3]; u32 ticks
 struct run_answer { struct chip chip; u8 refusal; u64 offset, written, ticks; };
 struct found { u8 refusal; u64 place, length; };
 struct own_area { u8 bytes[208]; };
+struct written { u8 refusal; u64 written; };
 
 struct chip chip_fresh(u8 status);
 _Bool chip_legal(struct chip c, u64 memory_length);
@@ -37,6 +38,8 @@ struct run_answer chip_run(struct chip c, u8 *mem, u64 mem_len, const u8 *area, 
                            const u8 *script, u64 script_len, u8 *out, u64 out_len);
 struct found sfdp_find(const u8 *area, u64 area_len, u8 identity);
 struct own_area sfdp_own_area(void);
+struct written write_program(u64 mem_len, u64 address, const u8 *data, u64 data_len, u8 *out,
+                             u64 out_len);
 
 // The areas of the shared file; the harness has the same numbers.
 enum { SECTOR = 65536, MEMORY = 0, SCRIPT = 65 * SECTOR, OUTPUT = 68 * SECTOR, DESK = 75 * SECTOR };
@@ -94,6 +97,11 @@ static void own_area_done(struct own_area a) {
     copy(to, a.bytes, sizeof a.bytes, to);
 }
 
+// Puts the script writer's answer on the desk.
+static void write_done(struct written a, u64 *desk) {
+    desk[0] = a.refusal; desk[1] = a.written;
+}
+
 // Serves one request, whose numbers stand on the desk.
 static void serve(u8 request) {
     u64 *desk = (u64 *)(shared + DESK);
@@ -114,6 +122,10 @@ static void serve(u8 request) {
         break;
     case 't': find_done(sfdp_find(area, desk[0], (u8)desk[1]), desk); break;
     case 'o': own_area_done(sfdp_own_area()); break;
+    case 'w':
+        write_done(write_program(desk[0], desk[1], shared + SCRIPT, desk[2], shared + OUTPUT,
+                                 desk[3]), desk);
+        break;
     }
     cross(1);
 }

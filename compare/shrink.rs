@@ -103,6 +103,11 @@ impl Shrinker<'_, '_> {
                 let smaller = smaller_areas(&area).into_iter();
                 smaller.map(Step::Lend).any(|step| self.try_step(number, step))
             }
+            Some(Step::Script(asked, used)) => {
+                let plainer = asked.plainer().into_iter();
+                let mut steps = plainer.map(|asked| Step::Script(asked, used));
+                steps.any(|step| self.try_step(number, step))
+            }
             _ => false,
         }
     }

@@ -3,7 +3,10 @@
 use crate::event::Event;
 use crate::image::Image;
 use crate::model::{Chip, Record};
+use crate::programming::Programming;
 use crate::sfdp::{Found, CONTENT};
+use crate::text;
+use crate::writer::Written;
 
 /// Bytes of memory that both sides hold: 64 sectors, and one more that nothing may touch.
 pub const MEMORY_AREA: usize = 65 * Chip::SECTOR;
@@ -104,6 +107,13 @@ pub trait Side {
     fn find(&mut self, area: usize, identity: u8) -> Result<Found, String>;
     /// The part's own SFDP area.
     fn own_area(&mut self) -> Result<[u8; CONTENT.len()], String>;
+    /// Writes the script of a programming to the output, in the room that it is given there.
+    fn write_program(&mut self, asked: &Programming) -> Result<Written, String>;
+    /// What the text form makes of a programming's line. Its tool is no part of a side, but a copy
+    /// may have a fault in its place.
+    fn script_of_line(&self, asked: &Programming) -> Result<Vec<u8>, String> {
+        text::script_of_text(&asked.line())
+    }
     /// The whole memory area.
     fn memory(&mut self) -> &mut [u8];
     /// The whole SFDP area; what is lent of it stands after the first guard.

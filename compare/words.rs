@@ -1,8 +1,9 @@
 // Cases in words, for the report of a difference.
 
-use crate::case::{room, Case, Start, Step};
+use crate::case::{room, Case, Start, Step, Use};
 use crate::event::{events_of, kind, Event};
 use crate::image::BLANK;
+use crate::programming::Programming;
 use crate::sfdp::CONTENT;
 
 /// One event in words.
@@ -40,18 +41,34 @@ fn event_lines(events: &[Event]) -> Vec<String> {
     alike.into_iter().map(line).collect()
 }
 
-/// How many bytes are shown of an SFDP area.
+/// How many bytes are shown of an SFDP area, or of the data of a programming.
 const SHOWN_BYTES: usize = 48;
+
+/// Bytes in words, or the first ones of many.
+fn byte_words(bytes: &[u8]) -> String {
+    let shown = &bytes[..bytes.len().min(SHOWN_BYTES)];
+    let words: String = shown.iter().map(|byte| format!(" {byte:02X}")).collect();
+    words + if shown.len() < bytes.len() { " and more" } else { "" }
+}
 
 /// An SFDP area in words: its length, and its bytes, or the first ones of many.
 fn area_words(area: &[u8]) -> String {
     if *area == CONTENT {
         return "the part's own SFDP area".to_string();
     }
-    let shown = &area[..area.len().min(SHOWN_BYTES)];
-    let bytes: String = shown.iter().map(|byte| format!(" {byte:02X}")).collect();
-    let more = if shown.len() < area.len() { " and more" } else { "" };
-    format!("an SFDP area of {} bytes{bytes}{more}", area.len())
+    format!("an SFDP area of {} bytes{}", area.len(), byte_words(area))
+}
+
+/// A programming in words, with the use of its script.
+fn programming_words(asked: &Programming, used: Use) -> String {
+    let Programming { memory, address, data, room } = asked;
+    let (count, bytes) = (data.len(), byte_words(data));
+    let used = match used {
+        Use::Read => "written",
+        Use::HoldText => "written, also by text",
+        Use::Run => "written and run",
+    };
+    format!("{count} bytes at {address:X}h of {memory},{bytes}: {used}, room {room}")
 }
 
 /// A step in words, one line an event.
@@ -64,6 +81,7 @@ fn step_words(step: &Step) -> String {
         Step::Lend(area) => format!("{} is lent", area_words(area)),
         Step::Find(identity) => format!("the reader is asked for identity {identity:02X}h"),
         Step::OwnArea => "the part's own SFDP area is asked for".to_string(),
+        Step::Script(asked, used) => programming_words(asked, *used),
         Step::Event { event, lent, length } => {
             let way = if *lent { " (lent record)" } else { "" };
             format!("{}{way}{}", event_words(*event), over(length))

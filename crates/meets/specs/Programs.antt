@@ -136,8 +136,7 @@ script-plays (suc fuel) A [] few ok = script-plays fuel A [] (omega arith) ok
 script-plays (suc fuel) A (b ∷ bs) few ok =
     let p : Piece = piece A (front A b bs) in
     let later = script-plays fuel (A + n A b bs) (rest A b bs) (omega (arith, rest-long A b bs, some A b bs)) (bytes-drop (n A b bs) (b ∷ bs) ok) in
-    rw (cut-off A b bs)
-    (
+    rw (cut-off A b bs) (
       plays-then (piece-plays p (bytes-take (n A b bs) (b ∷ bs) ok)) (later .0),
       omega (arith, room-append (rowOf p) (rowsOf (pieces (A + n A b bs) (rest A b bs))), piece-room p, later .1, front-long A b bs, rest-long A b bs, one-more A b bs),
     )
@@ -345,8 +344,7 @@ module _ (c : Chip) (m area : List ℕ) (A : ℕ) (bs out : List ℕ) (able : Pr
   -- so nothing refuses the run
   done : answer .refusal ≡ 0
   done =
-      meets-1-run .numbers c m area script out .none .1
-      (
+      meets-1-run .numbers c m area script out .none .1 (
         record {
           length-permitted = chip-facts c (length m) (able .ready .quiet .fit .state-legal) .length-permitted;
           area-short = able .ready .quiet .fit .area-short;

@@ -12,6 +12,9 @@ use part::Part;
 // The most bytes that one script programs.
 pub const LONGEST_DATA: usize = 4096;
 
+// The length of the longest script, 4,096 bytes in 17 pieces: an output of that length has room for every script (`longest-is`).
+pub const LONGEST_SCRIPT: usize = 8481;
+
 // The ticks that a page program takes, one a step.
 const PROGRAM_TICKS: u16 = 16;
 
@@ -87,7 +90,7 @@ fn in_page(address: usize, left: usize) -> usize
     room
 }
 
-// Puts the script for bytes that end below 2^24, piece by piece; the answer is its length.
+// Puts the script for bytes that lie on a part, piece by piece; the answer is its length.
 fn put_script(out: &mut [u8], address: usize, bytes: &[u8]) -> usize
     requires { ⌜ (address + length (now bytes) ≤ 2097152) × (scriptLength address (length (now bytes)) ≤ length (now out)) ⌝ }
     ensures { λ r. ⌜ Put (now (out .entry)) 0 (programScript address (now (bytes .entry))) r (now (out .exit)) ⌝ }
@@ -114,7 +117,7 @@ fn piece_count(address: usize, count: usize) -> usize
     (address % Part::PAGE + count - 1) / Part::PAGE + 1
 }
 
-// The length of the script for some bytes from an address on.
+// The length of the script for some bytes from an address on: 17 bytes a piece, and 2 a byte.
 fn script_length(address: usize, count: usize) -> usize
     requires { ⌜ count ≤ longestData ⌝ }
     ensures { λ r. ⌜ r ≡ scriptLength address count ⌝ }
