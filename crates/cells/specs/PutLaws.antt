@@ -6,7 +6,7 @@ use native.Mathlib.Nat.{add-zero, zero-add, add-suc, suc-add}
 use native.Mathlib.Numerals.{add-one}
 use native.Mathlib.Omega.{arith}
 use lib.ListN.{length, getD, set, take, drop, length-append}
-use lib.Seq.{sets, length-sets, sets-eq, take-suc, length-take-le}
+use lib.Seq.{sets, length-sets, sets-eq, take-suc, length-take-le, take-at, drop-at}
 use Rattle.cells.specs.Put.{Put}
 
 -- two rows of stores, the second from where the first ends, are one
@@ -60,6 +60,13 @@ room-behind k n a long fit = omega (arith, a .end, put-length a, long, fit)
 
 pub place-behind : {t u : List ℕ} {p q : ℕ} {xs : List ℕ} (k : ℕ) → Put t p xs q u → length xs ≡ k → p + k < length t → q < length u
 place-behind k a long fit = omega (arith, a .end, put-length a, long, fit)
+
+-- what is put stands between what was before it and what is behind it
+pub put-between : {t u : List ℕ} {p q : ℕ} {xs : List ℕ} → Put t p xs q u → p + length xs ≤ length t → (take q u ≡ take p t ++ xs) × (drop q u ≡ drop q t)
+put-between {t} {u} {p} {q} {xs} a fit =
+    let front : length (take p t ++ xs) ≡ q = omega (arith, length-append (take p t) xs, length-take-le p t (omega arith), a .end) in
+    let apart : u ≡ take p t ++ xs ++ drop q t = a .buffer ∙ sets-eq xs t p fit ∙ ap (λ (n : ℕ). take p t ++ xs ++ drop n t) (sym (a .end)) in
+    (ap (take q) apart ∙ take-at (take p t ++ xs) (drop q t) q front, ap (drop q) apart ∙ drop-at (take p t ++ xs) (drop q t) q front)
 
 -- what is put at the start of a buffer stands there, and the rest is as it was
 pub put-start : {t u : List ℕ} {r : ℕ} {new : List ℕ} → Put t 0 new r u → length new ≤ length t → (r ≡ length new) × (u ≡ new ++ drop r t)

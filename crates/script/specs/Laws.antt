@@ -1,15 +1,16 @@
 -- What is true of scripts and runs: a script event by event, its faults and its room, and a run in two parts.
-use Prim.Native.Nat.{ℕ, zero, suc, _+_, _-_, _<_, _≤_}
+use Prim.Native.Nat.{ℕ, zero, suc, _+_, _<_, _≤_}
 use mathlib.Core.Bool.{Bool, true, false, cond, not}
-use mathlib.Core.List.{List, [], _∷_, _++_, append-assoc, append-nil}
+use mathlib.Core.List.{List, [], _∷_, _++_, append-nil}
 use mathlib.Core.Path.{_≡_, refl, sym, ap, _∙_}
 use native.Mathlib.Nat.{add-zero}
 use native.Mathlib.Omega.{arith}
 use lib.Dec.{eqb, ltb, leb}
-use lib.ListN.{length, getD, set, take, drop, length-set, length-append}
-use lib.Seq.{take-suc-set, drop-set-lt, drop-drop}
+use lib.ListN.{length, getD, take, drop}
 use borrow.Author.Tests.{eq-eqb, ne-eqb, eqb-true, eqb-false, lt-ltb, le-ltb, lt-leb, le-leb, ltb-false}
 use Rattle.cells.specs.Choice.{cond-yes, cond-no, chosen-number}
+use Rattle.cells.specs.Put.{Put}
+use Rattle.cells.specs.PutLaws.{put-between}
 use Rattle.part.specs.Part.{permitted, sectorsIn, Setting, setting}
 use Rattle.part.specs.Area.{longestArea}
 use Rattle.kinds.specs.Kinds.{EXCHANGE, kindRowIn, kindRow, knownIn, knownKind, bodyLength, inRange, roomOf}
@@ -127,53 +128,24 @@ exchange-room s at e h =
 
 -- ---- records
 
--- bytes laid from a place on: what stands before their end, and what stands from there on
-pub record Laid (o : List ℕ) (p : ℕ) (bs o′ : List ℕ) : Type 0 where
-  pub before : take (p + length bs) o′ ≡ take p o ++ bs
-  pub beyond : drop (p + length bs) o′ ≡ drop (p + length bs) o
-  pub long : length o′ ≡ length o
-
-pub laid-none : (o : List ℕ) (p : ℕ) → Laid o p [] o
-laid-none o p = record { before = ap (λ (q : ℕ). take q o) (add-zero p) ∙ sym (append-nil (take p o)); beyond = refl; long = refl }
-
--- one byte more behind them
-pub laid-byte : (o : List ℕ) (p : ℕ) (bs o′ : List ℕ) (a q : ℕ) → Laid o p bs o′ → q ≡ p + length bs → q < length o → Laid o p (bs ++ (a ∷ [])) (set o′ q a)
-laid-byte o p bs o′ a q laid is inside =
-    let next : p + length (bs ++ (a ∷ [])) ≡ suc q = omega (arith, is, length-append bs (a ∷ [])) in
-    let in-front : take q o′ ≡ take p o ++ bs = ap (λ (n : ℕ). take n o′) is ∙ laid .before in
+-- a record is stored when its bytes are put
+pub stored-as : {o o′ : List ℕ} {p p′ : ℕ} {bs : List ℕ} (said : Record) → recordBytes said ≡ bs → Put o p bs p′ o′ → p + length bs ≤ length o → Stored o p said p′ o′
+stored-as {o} {o′} {p} {p′} {bs} said is put fit =
+    let between = put-between put fit in
     record {
-      before =
-          ap (λ (n : ℕ). take n (set o′ q a)) next
-          ∙ take-suc-set o′ q a (omega (arith, laid .long))
-          ∙ ap (λ (front : List ℕ). front ++ (a ∷ [])) in-front
-          ∙ append-assoc (take p o) bs (a ∷ []);
-      beyond =
-          drop-set-lt (p + length (bs ++ (a ∷ []))) o′ q a (omega (arith, next))
-          ∙ further (p + length bs) (p + length (bs ++ (a ∷ []))) (laid .beyond) (omega (arith, is, next));
-      long = length-set o′ q a ∙ laid .long;
-    }
-  where
-    -- what is the same from a place on is the same from a later one on
-    further : (n k : ℕ) → drop n o′ ≡ drop n o → n ≤ k → drop k o′ ≡ drop k o
-    further n k same later =
-        let in-two : k ≡ n + (k - n) = omega arith in
-        ap (λ (x : ℕ). drop x o′) in-two
-        ∙ sym (drop-drop (k - n) n o′)
-        ∙ ap (drop (k - n)) same
-        ∙ drop-drop (k - n) n o
-        ∙ sym (ap (λ (x : ℕ). drop x o) in-two)
-
--- a record is stored when its bytes are laid
-pub stored-as : (o : List ℕ) (p : ℕ) (bs o′ : List ℕ) (said : Record) (p′ : ℕ) → Laid o p bs o′ → recordBytes said ≡ bs → p′ ≡ p + length bs → Stored o p said p′ o′
-stored-as o p bs o′ said p′ laid is end =
-    record {
-      end = end ∙ sym (ap (λ (row : List ℕ). p + length row) is);
-      before = ap (λ (n : ℕ). take n o′) end ∙ laid .before ∙ ap (λ (row : List ℕ). take p o ++ row) (sym is);
-      beyond = ap (λ (n : ℕ). drop n o′) end ∙ laid .beyond ∙ sym (ap (λ (n : ℕ). drop n o) end);
+      end = put .end ∙ sym (ap (λ (row : List ℕ). p + length row) is);
+      before = between .0 ∙ ap (λ (row : List ℕ). take p o ++ row) (sym is);
+      beyond = between .1;
     }
 
+-- no bytes, wherever the place is
 pub stored-none : (o : List ℕ) (p : ℕ) (said : Record) → recordBytes said ≡ [] → Stored o p said p o
-stored-none o p said e = stored-as o p [] o said p (laid-none o p) e (sym (add-zero p))
+stored-none o p said is =
+    record {
+      end = sym (ap (λ (row : List ℕ). p + length row) is ∙ add-zero p);
+      before = sym (ap (λ (row : List ℕ). take p o ++ row) is ∙ append-nil (take p o));
+      beyond = refl;
+    }
 
 -- ---- a run
 

@@ -1,10 +1,11 @@
--- `script::put` meets its contract. Each byte is laid behind those before it (`laid-byte`), and a record whose bytes are laid is stored (`stored-as`).
+-- `script::put` meets its contract. Byte after byte is put, and a record whose bytes are put is stored (`stored-as`).
 use Prim.Native.Nat.{_+_, _≤_}
 use mathlib.Core.Path.{ap, refl}
 use native.Mathlib.Omega.{arith}
 use lib.ListN.{length, length-set}
 use Rattle.chip.specs.Record.{recordBytes}
-use Rattle.script.specs.Laws.{laid-none, laid-byte, stored-none, stored-as}
+use Rattle.cells.specs.PutLaws.{put-byte, put-two, put-then, put-end}
+use Rattle.script.specs.Laws.{stored-none, stored-as}
 use borrow.Author.Needs.{needs}
 use Rattle.script.proofs.put.Statement.{statement}
 use Rattle.script.proofs.put.Tie as tie
@@ -79,7 +80,9 @@ same-length : tie.Need-same-length
 same-length c = search needs
 
 returns-2 : tie.Need-returns-2
-returns-2 c = stored-as _ _ _ _ _ _ (laid-byte _ _ _ _ _ _ (laid-none _ _) (omega arith) (omega (arith, rw (c .enum-told2 .given .1) at (c .before .before .pre)))) (ap recordBytes (c .enum-told2 .given .1)) refl
+returns-2 c =
+    let h : c .before .before .args .at + 1 ≤ length (c .before .before .args .out .now) = omega (arith, rw (c .enum-told2 .given .1) at (c .before .before .pre)) in
+    stored-as _ (ap recordBytes (c .enum-told2 .given .1)) (put-byte _ _ _) h
 
 same-length-2 : tie.Need-same-length-2
 same-length-2 c = search needs
@@ -87,7 +90,7 @@ same-length-2 c = search needs
 returns-3 : tie.Need-returns-3
 returns-3 c =
     let h : c .before .before .before .args .at + 2 ≤ length (c .before .before .before .args .out .now) = omega (arith, rw (c .before .said .given .1) at (c .before .before .before .pre)) in
-    stored-as _ _ _ _ _ _ (laid-byte _ _ _ _ _ _ (laid-byte _ _ _ _ _ _ (laid-none _ _) (omega arith) (omega (arith, h))) refl (omega (arith, h))) (ap recordBytes (c .before .said .given .1)) refl
+    stored-as _ (ap recordBytes (c .before .said .given .1)) (put-two _ _ _ _) h
 
 same-length-3 : tie.Need-same-length-3
 same-length-3 c = search needs
@@ -95,7 +98,7 @@ same-length-3 c = search needs
 returns-4 : tie.Need-returns-4
 returns-4 c =
     let h : c .before .before .before .args .at + 2 ≤ length (c .before .before .before .args .out .now) = omega (arith, rw (c .before .said2 .given .1) at (c .before .before .before .pre)) in
-    stored-as _ _ _ _ _ _ (laid-byte _ _ _ _ _ _ (laid-byte _ _ _ _ _ _ (laid-none _ _) (omega arith) (omega (arith, h))) refl (omega (arith, h))) (ap recordBytes (c .before .said2 .given .1)) refl
+    stored-as _ (ap recordBytes (c .before .said2 .given .1)) (put-two _ _ _ _) h
 
 same-length-4 : tie.Need-same-length-4
 same-length-4 c = search needs
@@ -103,7 +106,7 @@ same-length-4 c = search needs
 returns-5 : tie.Need-returns-5
 returns-5 c =
     let h : c .before .before .before .args .at + 3 ≤ length (c .before .before .before .args .out .now) = omega (arith, rw (c .before .said3 .given .1) at (c .before .before .before .pre)) in
-    stored-as _ _ _ _ _ _ (laid-byte _ _ _ _ _ _ (laid-byte _ _ _ _ _ _ (laid-byte _ _ _ _ _ _ (laid-none _ _) (omega arith) (omega (arith, h))) refl (omega (arith, h))) refl (omega (arith, h))) (ap recordBytes (c .before .said3 .given .1)) refl
+    stored-as _ (ap recordBytes (c .before .said3 .given .1)) (put-end (omega arith) (put-then (put-two _ _ _ _) (put-byte _ _ _))) h
 
 pub put-spec : {M : Type 1} → statement M
 put-spec =
