@@ -1,7 +1,7 @@
 -- The events that program some bytes of one page, over the definitions: a write enable frame, a page program frame and 16 ticks, from a chip at rest to one at rest, and what
 -- becomes of each cell (RULES, The script writer).
 use Prim.Native.Nat.{ℕ, _+_, _*_, _/_, _%_, _^_, _-_, _<_, _≤_}
-use mathlib.Core.Bool.{Bool, true, false, cond, not, _&&_}
+use mathlib.Core.Bool.{true, false, not}
 use mathlib.Core.List.{List, [], _∷_, _++_, append-nil}
 use mathlib.Core.Path.{_≡_, refl, sym, ap, subst, _∙_}
 use mathlib.Core.Logic.{_⊎_, inl, inr, ⊎-elim}
@@ -10,7 +10,7 @@ use native.Mathlib.Decide.{decLt}
 use native.Mathlib.Omega.{arith}
 use lib.Bits.{bitAnd, and-mask, and-le-l}
 use lib.Dec.{eqb}
-use lib.ListN.{length, getD, replicate}
+use lib.ListN.{length, getD}
 use borrow.Author.Tests.{eq-eqb}
 use Rattle.cells.specs.Choice.{cond-no}
 use Rattle.part.specs.Part.{Setting, sectorsIn, settingOf}
@@ -19,23 +19,23 @@ use Rattle.chip.specs.declared.Chip.{Chip}
 use Rattle.chip.specs.declared.Core.{Core}
 use Rattle.chip.specs.declared.JobKind.the-variants.{Program}
 use Rattle.chip.specs.Fields.{withWen, withSuspended, withArmed, withJob}
-use Rattle.chip.specs.Job.{isJob, steps, wholeImage, noJob}
-use Rattle.chip.specs.Chip.{whole, emptyFrame, blankLoad, running}
+use Rattle.chip.specs.Job.{steps, wholeImage, noJob}
+use Rattle.chip.specs.Chip.{whole, emptyFrame, blankLoad}
 use Rattle.legal.specs.Legal.{legal, isBlank}
 use Rattle.frame.specs.Frame.{judge}
 use Rattle.verdict.specs.Verdict.{jobOf, commandVerdict, listed, verdict, recordOf}
 use Rattle.verdict.specs.Effect.{instantly, acted, settled, heldAfter}
-use Rattle.job.specs.Tick.{ticksCore, ticksLoad, ticksMemory, worked, gone}
+use Rattle.job.specs.Tick.{gone}
 use Rattle.job.specs.Laws.{ticks-end, ticksLoad-end, ticksMemory-go, worked-go, length-steps}
-use Rattle.event.specs.Event.{Outcome, outcome, closes, applied}
+use Rattle.event.specs.Event.{closes, applied}
 use Rattle.event.specs.Laws.{deselect-selected}
 use Rattle.script.specs.Script.{Event}
 use Rattle.script.specs.Run.{World, world, after, runs}
 use Rattle.script.specs.Laws.{runs-add}
-use Rattle.demands.specs.Model.{ours, event, sends, address, Fit}
-use Rattle.demands.specs.Demand2.{AllBytes, LoadOf, Quiet, Ready, FreeAt, poweredUp}
+use Rattle.demands.specs.Model.{event, sends, address}
+use Rattle.demands.specs.Demand2.{AllBytes, LoadOf, Ready, FreeAt, poweredUp}
 use Rattle.demands.specs.Programming.{pageSays}
-use Rattle.meets.specs.Opening.{opcodeFrame, opens-opcode, ready-takes, not-suspended}
+use Rattle.meets.specs.Opening.{opcodeFrame, opens-opcode, ready-takes}
 use Rattle.meets.specs.Cut.{legal-runs, runs-from}
 use Rattle.meets.specs.Load.{loadAfter, load-of}
 use Rattle.meets.specs.JobWords.{jobs-in-numbers}

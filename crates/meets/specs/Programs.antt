@@ -1,12 +1,11 @@
 -- Our writer keeps its promise with our run: the script is good, and run on a chip at rest it programs exactly those bytes (RULES, The script writer).
 -- The script is a row of pieces (`Plays`, `ProgramPiece`); piece after piece the chip comes to rest again, with one page more programmed.
-use Prim.Native.Nat.{ℕ, zero, suc, _+_, _*_, _/_, _%_, _^_, _-_, _<_, _≤_, min}
+use Prim.Native.Nat.{ℕ, zero, suc, _+_, _*_, _/_, _%_, _^_, _-_, _<_, _≤_}
 use mathlib.Core.Bool.{true, false}
 use mathlib.Core.List.{List, [], _∷_, _++_}
 use mathlib.Core.Path.{_≡_, refl, sym, ap, subst, _∙_}
 use mathlib.Core.Logic.{_⊎_, inl, inr, ⊎-elim}
 use native.Mathlib.Nat.{add-zero, add-assoc, mod-eq-of-lt}
-use native.Mathlib.Numerals.{add-one}
 use native.Mathlib.Decide.{decLt}
 use native.Mathlib.Omega.{arith}
 use lib.Bits.{bitAnd}
@@ -15,7 +14,7 @@ use lib.ListN.{length, getD, take, drop, length-take, length-drop}
 use lib.Seq.{getD-take, getD-drop, take-at}
 use borrow.Author.Tests.{ne-eqb}
 use Rattle.cells.specs.Choice.{cond-no, cond-either}
-use Rattle.part.specs.Part.{Setting, sectorsIn, settingOf, permitted}
+use Rattle.part.specs.Part.{Setting, sectorsIn, settingOf}
 use Rattle.part.specs.Protection.{isProtected}
 use Rattle.part.specs.Laws.{permitted-length}
 use Rattle.kinds.specs.Kinds.{kindRow, kindRowIn}
@@ -28,7 +27,7 @@ use Rattle.script.specs.Run.{World, world, runs}
 use Rattle.script.specs.Run as Run
 use Rattle.script.specs.declared.Ran.{Ran}
 use Rattle.script.specs.Laws.{runs-add}
-use Rattle.writer.specs.Writer.{Piece, piece, leftInPage, pieces, addressBytes, pieceScript, scriptOf, programScript}
+use Rattle.writer.specs.Writer.{Piece, piece, pieces, addressBytes, pieceScript, scriptOf, programScript}
 use Rattle.writer.specs.declared.Written.{Written}
 use Rattle.writer.specs.Writer as Writer
 use Rattle.writer.specs.Laws.{pieces-none, pieces-more, count-more, longest-is}

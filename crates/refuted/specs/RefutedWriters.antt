@@ -1,8 +1,7 @@
 -- Each wrong writer of `WrongWriters` breaks the promise: it is run on a blank part of one sector, at the end of a page, and the promise says something false of what it leaves.
 use Prim.Native.Nat.{ℕ, zero, suc, _≤_}
-use mathlib.Core.Bool.{true}
 use mathlib.Core.List.{List, [], _∷_}
-use mathlib.Core.Path.{_≡_, refl, ap, _∙_}
+use mathlib.Core.Path.{refl, ap}
 use mathlib.Core.Logic.{inl}
 use native.Mathlib.Omega.{arith}
 use lib.ListN.{length, getD, replicate}
@@ -20,11 +19,11 @@ use Rattle.verdict.specs.Verdict.{jobOf, jobVerdict, commandVerdict, listed, ve
 use Rattle.verdict.specs.Effect.{instantly, acted, settled, heldAfter}
 use Rattle.event.specs.Event.{applied}
 use Rattle.script.specs.Script.{faultAt, walk, eventsFrom, firstBad, room}
-use Rattle.script.specs.Run.{runs, refusal, worldAfter, answerOf, memoryOf}
+use Rattle.script.specs.Run.{runs, refusal, worldAfter, memoryOf}
 use Rattle.writer.specs.Writer.{cut, pieces, exchangesOf, scriptOf}
 use Rattle.demands.specs.Demand1.{ourRun}
 use Rattle.demands.specs.Demand2.{AllBytes, Ready}
-use Rattle.demands.specs.Programming.{Writer, Programmable, Programmed, Programs}
+use Rattle.demands.specs.Programming.{Programmable, Programs}
 use Rattle.refuted.specs.WrongWriters.{overTheEdge, butLast, losesTheLast, tooShort, fifteenTicks, allAt, addressStays, withAllLeft, bytesBeyond, enablesForNone}
 
 -- ---- the moment

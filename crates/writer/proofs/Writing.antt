@@ -1,14 +1,14 @@
 -- The invariant of `put_script`: whoever puts the script for the bytes that are left has put all of it; and one turn of it, which puts a piece.
 use Prim.Native.Nat.{ℕ, _+_, _*_, _-_, _<_, _≤_, min}
-use mathlib.Core.List.{List, [], _++_}
+use mathlib.Core.List.{List, _++_}
 use mathlib.Core.Path.{_≡_, refl, sym, ap, _∙_}
 use native.Mathlib.Nat.{add-zero, add-assoc}
 use native.Mathlib.Omega.{arith}
-use lib.ListN.{length, take, drop, length-append, length-take, length-drop, drop-of-length-le}
+use lib.ListN.{length, take, drop, length-append, length-drop, drop-of-length-le}
 use lib.Seq.{sets, length-sets, drop-drop}
 use Rattle.cells.specs.Put.{Put}
 use Rattle.cells.specs.PutLaws.{put-none, put-then, put-as, put-length}
-use Rattle.writer.specs.Writer.{Piece, piece, leftInPage, pieces, pieceScript, scriptOf, programScript, scriptLength}
+use Rattle.writer.specs.Writer.{piece, leftInPage, pieceScript, scriptOf, programScript, scriptLength}
 use Rattle.writer.specs.Laws.{pieces-none, pieces-more, length-piece, length-script}
 
 pub record Writing (A : ℕ) (bs t₀ t : List ℕ) (p done : ℕ) : Type 0 where

@@ -1,10 +1,8 @@
 -- Worked examples of the writer: scripts byte by byte, and each refusal on both sides (RULES, The script writer).
-use Prim.Native.Nat.{ℕ, _<_, _≤_}
-use mathlib.Core.List.{List, [], _∷_, _++_}
+use mathlib.Core.List.{[], _∷_, _++_}
 use mathlib.Core.Path.{_≡_, refl}
-use lib.ListN.{length, replicate}
 use Rattle.part.specs.Part.{permitted}
-use Rattle.writer.specs.Writer.{Piece, piece, cut, pieces, exchangesOf, scriptOf, programScript, pieceCount, scriptLength, scriptRoom, refusal}
+use Rattle.writer.specs.Writer.{piece, cut, pieces, exchangesOf, scriptOf, programScript, pieceCount, scriptLength, scriptRoom, refusal}
 
 -- Three bytes from 0000FEh on: two in that page, one in the next.
 pub record TwoPieces : Type 0 where

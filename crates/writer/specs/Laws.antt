@@ -1,17 +1,15 @@
 -- What is true of scripts that program: their pieces one by one, their length, and the longest of them.
 use Prim.Native.Nat.{ℕ, zero, suc, _+_, _*_, _-_, _/_, _%_, _<_, _≤_, min}
-use mathlib.Core.Bool.{Bool, true, false, cond, not}
-use mathlib.Core.List.{List, [], _∷_, _++_, append-assoc}
+use mathlib.Core.List.{List, [], _∷_, _++_}
 use mathlib.Core.Path.{_≡_, refl, sym, ap, _∙_}
-use native.Mathlib.Nat.{add-zero, mul-zero}
 use native.Mathlib.Numerals.{add-one}
 use native.Mathlib.Omega.{arith}
 use native.Mathlib.Decide.{decLe}
-use lib.Dec.{eqb, ltb, leb}
+use lib.Dec.{eqb}
 use lib.ListN.{length, getD, take, drop, length-append, length-take, length-drop, drop-of-length-le}
 use lib.Seq.{take-suc, take-all}
-use borrow.Author.Tests.{eq-eqb, ne-eqb, eqb-true, eqb-false}
-use Rattle.cells.specs.Choice.{cond-yes, cond-no}
+use borrow.Author.Tests.{ne-eqb}
+use Rattle.cells.specs.Choice.{cond-no}
 use Rattle.commands.specs.Table.{writeEnable, pageProgram}
 use Rattle.kinds.specs.Kinds.{EXCHANGE, DESELECT}
 use Rattle.writer.specs.Writer.{Piece, piece, leftInPage, cut, pieces, exchangesOf, frameOf, addressBytes, ticksOf, programTicks, pieceScript, scriptOf, programScript, pieceCount, scriptLength}

@@ -2,15 +2,14 @@
 use Prim.Native.Nat.{ℕ, _+_, _<_, _≤_}
 use mathlib.Core.Bool.{true, false}
 use mathlib.Core.List.{List, _++_}
-use mathlib.Core.Path.{_≡_, refl, sym, ap, subst, _∙_}
+use mathlib.Core.Path.{_≡_, refl}
 use mathlib.Core.Logic.{_↔_, Iff·trans}
 use lib.ListN.{length, drop}
 use borrow.Author.Tests.{eq-eqb, ne-eqb}
 use Rattle.cells.specs.Choice.{cond-yes, cond-no, chosen-number, decides-not, decides-less, decides-most, chain-tests, chain-last, flat-three, flat-four, flat-five}
 use Rattle.part.specs.Part.{permitted}
 use Rattle.writer.specs.declared.Written.{Written}
-use Rattle.writer.specs.Writer.{programScript, scriptLength, refusal, answerOf, outputOf}
-use Rattle.writer.specs.Laws.{length-script}
+use Rattle.writer.specs.Writer.{programScript, refusal, answerOf, outputOf}
 
 -- Which number refuses the script for some bytes from address A on, for a memory of n cells and an output of `space` bytes: 1, 20, 21, 22, 23 or none, in that order.
 pub record RefusedWhen (number n A : ℕ) (bs : List ℕ) (space : ℕ) : Type 0 where

@@ -1,6 +1,6 @@
 -- `script::put` meets its contract. Byte after byte is put, and a record whose bytes are put is stored (`stored-as`).
 use Prim.Native.Nat.{_+_, _≤_}
-use mathlib.Core.Path.{ap, refl}
+use mathlib.Core.Path.{ap}
 use native.Mathlib.Omega.{arith}
 use lib.ListN.{length, length-set}
 use Rattle.chip.specs.Record.{recordBytes}

@@ -1,5 +1,6 @@
+-- `writer::put_exchanges` meets its contract. The loop's invariant: the exchanges of the bytes passed are put, two bytes each.
 use Prim.Native.Nat.{_+_, _*_, _-_, _≤_}
-use mathlib.Core.Path.{_≡_, refl, sym, ap, _∙_}
+use mathlib.Core.Path.{_≡_, refl, sym, ap}
 use native.Mathlib.Omega.{arith}
 use lib.ListN.{length, take, length-set}
 use lib.Seq.{take-all}
@@ -10,8 +11,6 @@ use Rattle.writer.specs.Laws.{exchanges-more}
 use borrow.Author.Needs.{needs}
 use Rattle.writer.proofs.put_exchanges.Statement.{statement}
 use Rattle.writer.proofs.put_exchanges.Tie as tie
-use Rattle.writer.proofs.put_exchanges.Reads as reads
-use Rattle.writer.proofs.put_exchanges.Lts as lts
 
 abbrev Inv-loop : tie.InvT-loop
 Inv-loop out₀ at bytes end₀ i₀ out end i = (i ≤ length bytes) × (end ≡ at + 2 * i) × (length out ≡ length out₀) × Put out₀ at (exchangesOf (take i bytes)) end out
@@ -19,52 +18,40 @@ Inv-loop out₀ at bytes end₀ i₀ out end i = (i ≤ length bytes) × (end �
 abbrev μ-loop : tie.MeasureT-loop
 μ-loop out₀ at bytes end₀ i₀ out end i = length bytes - i
 
--- src/lib.rt:31:5
 loop-holds : tie.Need-loop-holds Inv-loop μ-loop
 unfolding exchangesOf
 loop-holds c = (search needs, omega arith, refl, put-none _ _)
 
--- src/lib.rt:32:20
 cast-out : tie.Need-cast-out Inv-loop μ-loop
 cast-out c = search needs
 
--- src/lib.rt:32:9
 slice-write-out : tie.Need-slice-write-out Inv-loop μ-loop
 slice-write-out c = search needs
 
--- src/lib.rt:33:24
 shared-slice-read-out : tie.Need-shared-slice-read-out Inv-loop μ-loop
 shared-slice-read-out c = search needs
 
--- src/lib.rt:33:13
 add-out : tie.Need-add-out Inv-loop μ-loop
 add-out c = search needs
 
--- src/lib.rt:33:9
 slice-write-out-2 : tie.Need-slice-write-out-2 Inv-loop μ-loop
 slice-write-out-2 c = simp length-set (omega arith)
 
--- src/lib.rt:34:9
 add-end : tie.Need-add-end Inv-loop μ-loop
 add-end c = search needs
 
--- src/lib.rt:35:9
 add-i : tie.Need-add-i Inv-loop μ-loop
 add-i c = search needs
 
--- src/lib.rt:31:5
 loop-less : tie.Need-loop-less Inv-loop μ-loop
 loop-less c = search needs
 
--- src/lib.rt:31:5
 loop-again : tie.Need-loop-again Inv-loop μ-loop
 loop-again c = (search needs, omega arith, simp length-set (c .before .before .loop .inv .2), put-as (exchanges-more _ _ (c .before .loop-test .taken)) (put-then (c .before .before .loop .inv .3) (put-two _ _ _ _)))
 
--- src/lib.rt:25:1
 same-length : tie.Need-same-length Inv-loop μ-loop
 same-length c = c .before .loop .inv .2
 
--- src/lib.rt:25:1
 returns : tie.Need-returns Inv-loop μ-loop
 returns c = put-as (ap exchangesOf (sym (take-all _ _ (c .loop-test .left)))) (c .before .loop .inv .3)
 

@@ -1,4 +1,5 @@
-use mathlib.Core.Path.{sym, ap, _∙_, _≡_}
+-- `writer::put_frame` meets its contract. A select, the exchanges of the command and of the bytes, which are those of both, and a deselect, one put behind the other.
+use mathlib.Core.Path.{ap, _∙_, _≡_}
 use mathlib.Core.List.{List, [], _∷_, _++_}
 use Prim.Native.Nat.{ℕ, suc, _+_, _*_, _≤_, _<_}
 use native.Mathlib.Omega.{arith}
@@ -9,37 +10,27 @@ use Rattle.writer.specs.Laws.{length-exchanges, exchanges-append}
 use borrow.Author.Needs.{needs}
 use Rattle.writer.proofs.put_frame.Statement.{statement}
 use Rattle.writer.proofs.put_frame.Tie as tie
-use Rattle.writer.proofs.put_frame.Reads as reads
-use Rattle.writer.proofs.put_frame.Lts as lts
-use Rattle.writer.proofs.put_exchanges.Reads as put-exchanges-reads
 
--- src/lib.rt:45:15
 cast-out : tie.Need-cast-out
 cast-out c = search needs
 
--- src/lib.rt:45:5
 slice-write-out : tie.Need-slice-write-out
 slice-write-out c = search needs
 
--- src/lib.rt:46:38
 add-put-exchanges : tie.Need-add-put-exchanges
 add-put-exchanges c = search needs
 
--- src/lib.rt:46:9
 put-exchanges-requires : tie.Need-put-exchanges-requires
 put-exchanges-requires c κs = simp length-set (omega arith)
 
--- src/lib.rt:47:9
 put-exchanges-requires-2 : tie.Need-put-exchanges-requires-2
 put-exchanges-requires-2 c κs =
     let fit : c .before .before .before .before .before .before .before .before .args .at + suc (2 * length (c .before .before .before .before .before .before .before .before .args .command .now)) + 2 * length (c .before .before .before .before .before .before .before .before .args .bytes .now) ≤ length (c .before .before .before .before .before .before .before .before .args .out .now) = omega (arith, c .before .before .before .before .before .before .before .before .pre) in
     room-behind (suc (2 * length (c .before .before .before .before .before .before .before .before .args .command .now))) (2 * length (c .before .before .before .before .before .before .before .before .args .bytes .now)) (put-then (put-byte (c .before .before .before .before .before .before .before .before .args .out .now) (c .before .before .before .before .before .before .before .before .args .at) SELECT) (c .before .before .before .put-exchanges .ensures)) (ap suc (length-exchanges (c .before .before .before .before .before .before .before .before .args .command .now))) fit
 
--- src/lib.rt:48:16
 cast-out-2 : tie.Need-cast-out-2
 cast-out-2 c = search needs
 
--- src/lib.rt:48:5
 slice-write-out-2 : tie.Need-slice-write-out-2
 slice-write-out-2 c =
     let fit : c .before .before .before .before .before .before .before .before .before .before .before .args .at + suc (2 * length (c .before .before .before .before .before .before .before .before .before .before .before .args .command .now ++ c .before .before .before .before .before .before .before .before .before .before .before .args .bytes .now)) < length (c .before .before .before .before .before .before .before .before .before .before .before .args .out .now) = omega (arith, c .before .before .before .before .before .before .before .before .before .before .before .pre, length-append (c .before .before .before .before .before .before .before .before .before .before .before .args .command .now) (c .before .before .before .before .before .before .before .before .before .before .before .args .bytes .now)) in
@@ -47,18 +38,15 @@ slice-write-out-2 c =
     (put-then (put-byte (c .before .before .before .before .before .before .before .before .before .before .before .args .out .now) (c .before .before .before .before .before .before .before .before .before .before .before .args .at) SELECT) (put-as (exchanges-append (c .before .before .before .before .before .before .before .before .before .before .before .args .command .now) (c .before .before .before .before .before .before .before .before .before .before .before .args .bytes .now)) (put-then (c .before .before .before .before .before .before .put-exchanges .ensures) (c .before .before .put-exchanges2 .ensures))))
     (ap suc (length-exchanges (c .before .before .before .before .before .before .before .before .before .before .before .args .command .now ++ c .before .before .before .before .before .before .before .before .before .before .before .args .bytes .now))) fit
 
--- src/lib.rt:49:5
 add-result : tie.Need-add-result
 add-result c =
     let end : c .before .before .put-exchanges2 .result ≡ c .before .before .before .before .before .before .before .before .before .before .before .args .at + suc (2 * length (c .before .before .before .before .before .before .before .before .before .before .before .args .command .now ++ c .before .before .before .before .before .before .before .before .before .before .before .args .bytes .now)) =
     put-then (put-byte (c .before .before .before .before .before .before .before .before .before .before .before .args .out .now) (c .before .before .before .before .before .before .before .before .before .before .before .args .at) SELECT) (put-as (exchanges-append (c .before .before .before .before .before .before .before .before .before .before .before .args .command .now) (c .before .before .before .before .before .before .before .before .before .before .before .args .bytes .now)) (put-then (c .before .before .before .before .before .before .put-exchanges .ensures) (c .before .before .put-exchanges2 .ensures))) .end ∙ ap (λ (n : ℕ). c .before .before .before .before .before .before .before .before .before .before .before .args .at + suc n) (length-exchanges (c .before .before .before .before .before .before .before .before .before .before .before .args .command .now ++ c .before .before .before .before .before .before .before .before .before .before .before .args .bytes .now)) in
     omega (arith, end, c .before .before .before .before .before .before .before .before .before .before .before .pre, length-append (c .before .before .before .before .before .before .before .before .before .before .before .args .command .now) (c .before .before .before .before .before .before .before .before .before .before .before .args .bytes .now))
 
--- src/lib.rt:41:1
 same-length : tie.Need-same-length
 same-length c = simp length-set (put-length (put-then (put-byte (c .before .before .before .before .before .before .before .before .before .before .before .args .out .now) (c .before .before .before .before .before .before .before .before .before .before .before .args .at) SELECT) (put-then (c .before .before .before .before .before .before .put-exchanges .ensures) (c .before .before .put-exchanges2 .ensures))))
 
--- src/lib.rt:41:1
 returns : tie.Need-returns
 returns c =
     put-as (ap (λ (s : List ℕ). SELECT ∷ (s ++ (DESELECT ∷ []))) (exchanges-append (c .before .before .before .before .before .before .before .before .before .before .before .args .command .now) (c .before .before .before .before .before .before .before .before .before .before .before .args .bytes .now)))

@@ -1,6 +1,6 @@
-use mathlib.Core.Path.{_≡_, sym, ap, _∙_}
-use mathlib.Core.List.{List, [], _∷_, _++_}
-use Prim.Native.Nat.{ℕ, suc, _+_, _*_, _≤_, _<_}
+-- `writer::put_piece` meets its contract. Two frames and the ticks, one put behind the other; the room is counted by `length-frames`.
+use mathlib.Core.List.{[], _∷_}
+use Prim.Native.Nat.{_+_, _*_, _≤_}
 use native.Mathlib.Omega.{arith}
 use lib.ListN.{length}
 use Rattle.commands.specs.Table.{writeEnable}
@@ -9,56 +9,41 @@ use Rattle.writer.specs.Laws.{length-frame, length-frames}
 use borrow.Author.Needs.{needs}
 use Rattle.writer.proofs.put_piece.Statement.{statement}
 use Rattle.writer.proofs.put_piece.Tie as tie
-use Rattle.writer.proofs.put_piece.Reads as reads
-use Rattle.writer.proofs.put_piece.Lts as lts
-use Rattle.writer.proofs.put_frame.Reads as put-frame-reads
-use Rattle.writer.proofs.put_ticks.Reads as put-ticks-reads
 
--- src/lib.rt:68:38
 slice-aggregate-put-frame : tie.Need-slice-aggregate-put-frame
 slice-aggregate-put-frame c = search needs
 
--- src/lib.rt:68:64
 slice-aggregate-put-frame-2 : tie.Need-slice-aggregate-put-frame-2
 slice-aggregate-put-frame-2 c = search needs
 
--- src/lib.rt:68:9
 put-frame-requires : tie.Need-put-frame-requires
 put-frame-requires c κs = search needs
 
--- src/lib.rt:71:9
 cast-t18 : tie.Need-cast-t18
 cast-t18 c = search needs
 
--- src/lib.rt:72:9
 cast-t21 : tie.Need-cast-t21
 cast-t21 c = search needs
 
--- src/lib.rt:73:9
 cast-t23 : tie.Need-cast-t23
 cast-t23 c = search needs
 
--- src/lib.rt:75:41
 slice-aggregate-put-frame-3 : tie.Need-slice-aggregate-put-frame-3
 slice-aggregate-put-frame-3 c = search needs
 
--- src/lib.rt:75:9
 put-frame-requires-2 : tie.Need-put-frame-requires-2
 put-frame-requires-2 c κs =
     let fit : c .before .before .before .before .before .before .before .before .before .before .args .at + 4 + (2 * (4 + length (c .before .before .before .before .before .before .before .before .before .before .args .bytes .now)) + 2) ≤ length (c .before .before .before .before .before .before .before .before .before .before .args .out .now) = omega (arith, c .before .before .before .before .before .before .before .before .before .before .pre) in
     room-behind 4 (2 * (4 + length (c .before .before .before .before .before .before .before .before .before .before .args .bytes .now)) + 2) (c .before .before .before .before .put-frame .ensures) (length-frame (writeEnable ∷ [])) fit
 
--- src/lib.rt:76:5
 put-ticks-requires : tie.Need-put-ticks-requires
 put-ticks-requires c κs =
     let fit : c .before .before .before .before .before .before .before .before .before .before .before .before .before .before .args .at + (14 + 2 * length (c .before .before .before .before .before .before .before .before .before .before .before .before .before .before .args .bytes .now)) + 3 ≤ length (c .before .before .before .before .before .before .before .before .before .before .before .before .before .before .args .out .now) = omega (arith, c .before .before .before .before .before .before .before .before .before .before .before .before .before .before .pre) in
     room-behind (14 + 2 * length (c .before .before .before .before .before .before .before .before .before .before .before .before .before .before .args .bytes .now)) 3 (put-then (c .before .before .before .before .before .before .before .before .put-frame .ensures) (c .before .before .before .put-frame2 .ensures)) (length-frames (c .before .before .before .before .before .before .before .before .before .before .before .before .before .before .args .address) (c .before .before .before .before .before .before .before .before .before .before .before .before .before .before .args .bytes .now)) fit
 
--- src/lib.rt:64:1
 same-length : tie.Need-same-length
 same-length c = put-length (put-then (put-then (c .before .before .before .before .before .before .before .before .before .before .before .put-frame .ensures) (c .before .before .before .before .before .before .put-frame2 .ensures)) (c .before .before .put-ticks .ensures))
 
--- src/lib.rt:64:1
 returns : tie.Need-returns
 returns c = put-then (put-then (c .before .before .before .before .before .before .before .before .before .before .before .put-frame .ensures) (c .before .before .before .before .before .before .put-frame2 .ensures)) (c .before .before .put-ticks .ensures)
 

@@ -1,54 +1,41 @@
-use mathlib.Core.Path.{sym, _∙_}
+-- `writer::put_ticks` meets its contract. Three bytes, put one behind the other.
 use native.Mathlib.Omega.{arith}
 use lib.ListN.{length-set}
 use Rattle.cells.specs.PutLaws.{put-two, put-byte, put-then, put-end}
 use borrow.Author.Needs.{needs}
 use Rattle.writer.proofs.put_ticks.Statement.{statement}
 use Rattle.writer.proofs.put_ticks.Tie as tie
-use Rattle.writer.proofs.put_ticks.Reads as reads
-use Rattle.writer.proofs.put_ticks.Lts as lts
 
--- src/lib.rt:57:15
 cast-out : tie.Need-cast-out
 cast-out c = search needs
 
--- src/lib.rt:57:5
 slice-write-out : tie.Need-slice-write-out
 slice-write-out c = search needs
 
--- src/lib.rt:58:19
 cast-out-2 : tie.Need-cast-out-2
 cast-out-2 c = search needs
 
--- src/lib.rt:58:9
 add-out : tie.Need-add-out
 add-out c = search needs
 
--- src/lib.rt:58:5
 slice-write-out-2 : tie.Need-slice-write-out-2
 slice-write-out-2 c = simp length-set (omega arith)
 
--- src/lib.rt:59:19
 cast-out-3 : tie.Need-cast-out-3
 cast-out-3 c = search needs
 
--- src/lib.rt:59:9
 add-out-2 : tie.Need-add-out-2
 add-out-2 c = search needs
 
--- src/lib.rt:59:5
 slice-write-out-3 : tie.Need-slice-write-out-3
 slice-write-out-3 c = simp length-set (omega arith)
 
--- src/lib.rt:60:5
 add-result : tie.Need-add-result
 add-result c = search needs
 
--- src/lib.rt:53:1
 same-length : tie.Need-same-length
 same-length c = search needs
 
--- src/lib.rt:53:1
 returns : tie.Need-returns
 returns c = put-end (omega arith) (put-then (put-two _ _ _ _) (put-byte _ _ _))
 

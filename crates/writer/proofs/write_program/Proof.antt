@@ -1,3 +1,4 @@
+-- `writer::write_program` meets its contract. Refused, all is as it was; otherwise the script is put at the output's start, for which 23 has made sure of the room.
 use mathlib.Core.Path.{sym, ap, _∙_, _≡_}
 use native.Mathlib.Omega.{arith}
 use Rattle.cells.specs.PutLaws.{put-start, put-length}
@@ -5,23 +6,16 @@ use Rattle.part.specs.Laws.{permitted-length}
 use Rattle.writer.specs.Laws.{length-script}
 use Rattle.writer.specs.Refusals.{refused-when, answer-refused, output-refused, answer-done, output-done}
 use Prim.Native.Nat.{ℕ, _+_, _≤_}
-use mathlib.Core.List.{List, _++_}
+use mathlib.Core.List.{_++_}
 use lib.ListN.{drop, length}
-use Rattle.writer.specs.declared.Written.{Written}
 use Rattle.writer.specs.Writer.{scriptLength, programScript, refusal}
 use borrow.Author.Needs.{needs}
 use Rattle.writer.proofs.write_program.Statement.{statement}
 use Rattle.writer.proofs.write_program.Tie as tie
-use Rattle.writer.proofs.write_program.Reads as reads
-use Rattle.writer.proofs.write_program.Lts as lts
-use Rattle.writer.proofs.put_script.Reads as put-script-reads
-use Rattle.writer.proofs.refuses.Reads as refuses-reads
 
--- src/lib.rt:152:9
 refuses-requires : tie.Need-refuses-requires
 refuses-requires c κs = search needs
 
--- src/lib.rt:154:9
 returns : tie.Need-returns
 returns c =
     let no : refusal (c .before .before .before .before .args .n) (c .before .before .before .before .args .address) (c .before .before .before .before .args .bytes .now) (length (c .before .before .before .before .args .out .now)) ≡ 0 → ⊥ = λ z. c .if1 .taken (c .before .refuses .ensures ∙ z) in (
@@ -29,7 +23,6 @@ returns c =
       sym (output-refused _ _ _ _ no),
     )
 
--- src/lib.rt:159:9
 put-script-requires : tie.Need-put-script-requires
 put-script-requires c κs =
     let ok = refused-when (c .before .before .before .before .before .args .n) (c .before .before .before .before .before .args .address) (c .before .before .before .before .before .args .bytes .now) (length (c .before .before .before .before .before .args .out .now)) .none .0 (sym (c .before .before .refuses .ensures) ∙ c .before .if1 .left) in
@@ -37,11 +30,9 @@ put-script-requires c κs =
     let roomy : scriptLength (c .before .before .before .before .before .args .address) (length (c .before .before .before .before .before .args .bytes .now)) ≤ length (c .before .before .before .before .before .args .out .now) = omega (arith, ok .4, length-script (c .before .before .before .before .before .args .address) (c .before .before .before .before .before .args .bytes .now)) in
     (inside, roomy)
 
--- src/lib.rt:149:1
 same-length : tie.Need-same-length
 same-length c = put-length (c .before .before .put-script .ensures)
 
--- src/lib.rt:149:1
 returns-2 : tie.Need-returns-2
 returns-2 c =
     let ok : refusal (c .before .before .before .before .before .before .before .before .args .n) (c .before .before .before .before .before .before .before .before .args .address) (c .before .before .before .before .before .before .before .before .args .bytes .now) (length (c .before .before .before .before .before .before .before .before .args .out .now)) ≡ 0 = sym (c .before .before .before .before .before .refuses .ensures) ∙ c .before .before .before .before .if1 .left in
