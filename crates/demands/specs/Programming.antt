@@ -6,7 +6,7 @@ use mathlib.Core.Path.{_≡_}
 use mathlib.Core.Logic.{_⊎_}
 use lib.Bits.{bitAnd}
 use lib.Dec.{eqb}
-use lib.ListN.{length, getD, drop, replicate}
+use lib.ListN.{length, getD, take, drop, replicate}
 use Rattle.part.specs.Part.{sectorsIn}
 use Rattle.part.specs.Protection.{isProtected}
 use Rattle.chip.specs.declared.Chip.{Chip}
@@ -28,6 +28,20 @@ pagesTouched A n = cond (eqb n 0) 0 ((A % 256 + n - 1) / 256 + 1)
 -- how many of them lie in the first page
 abbrev pub inFirstPage : ℕ → ℕ → ℕ
 inFirstPage A n = min n (256 - A % 256)
+
+-- ---- the script
+
+-- an exchange for each byte
+unfoldable pub exchanged : List ℕ → List ℕ
+exchanged [] = []
+exchanged (b ∷ bs) = 0x02 ∷ b ∷ exchanged bs
+
+-- for some bytes of one page, the first of them for address A: 06h in a frame; 02h, the address and the bytes in a frame; 16 ticks
+abbrev pub pageScript : ℕ → List ℕ → List ℕ
+pageScript A bs =
+    0x01 ∷ 0x02 ∷ 0x06 ∷ 0x03
+    ∷ 0x01 ∷ 0x02 ∷ 0x02 ∷ 0x02 ∷ A / 65536 % 256 ∷ 0x02 ∷ A / 256 % 256 ∷ 0x02 ∷ A % 256
+    ∷ (exchanged bs ++ (0x03 ∷ 0x05 ∷ 0x00 ∷ 0x10 ∷ []))
 
 -- ---- what the run says
 
@@ -77,8 +91,11 @@ pub record Programmed (c : Chip) (m : List ℕ) (A : ℕ) (bs out : List ℕ) (r
 -- ---- the promise
 
 pub record Programs (W : Writer) (R : Runner) : Type 0 where
-  -- no bytes, no script
+  -- no bytes, no script; otherwise the first page's, and then that for the rest from the next page on
   pub none-for-none : (A : ℕ) → W A [] ≡ []
+  pub page-by-page : (A : ℕ) (bs : List ℕ) → 0 < length bs
+      → let k : ℕ = inFirstPage A (length bs) in
+      W A bs ≡ pageScript A (take k bs) ++ W (A + k) (drop k bs)
   -- nothing of 3 to 6 refuses it: it is short, and each event of it is whole, of a known kind and in its range
   pub short : (A : ℕ) (bs : List ℕ) → length bs ≤ 4096 → length (W A bs) ≤ 8481
   pub sound : (A : ℕ) (bs : List ℕ) → AllBytes bs → AllSound (W A bs) (events (W A bs))

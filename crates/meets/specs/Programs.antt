@@ -2,7 +2,7 @@
 -- The script is a row of pieces (`Plays`, `ProgramPiece`); piece after piece the chip comes to rest again, with one page more programmed.
 use Prim.Native.Nat.{ℕ, zero, suc, _+_, _*_, _/_, _%_, _^_, _-_, _<_, _≤_}
 use mathlib.Core.Bool.{true, false}
-use mathlib.Core.List.{List, [], _∷_, _++_}
+use mathlib.Core.List.{List, [], _∷_, _++_, append-assoc}
 use mathlib.Core.Path.{_≡_, refl, sym, ap, subst, _∙_}
 use mathlib.Core.Logic.{_⊎_, inl, inr, ⊎-elim}
 use native.Mathlib.Nat.{add-zero, add-assoc, mod-eq-of-lt}
@@ -27,15 +27,15 @@ use Rattle.script.specs.Run.{World, world, runs}
 use Rattle.script.specs.Run as Run
 use Rattle.script.specs.declared.Ran.{Ran}
 use Rattle.script.specs.Laws.{runs-add}
-use Rattle.writer.specs.Writer.{Piece, piece, pieces, addressBytes, pieceScript, scriptOf, programScript}
+use Rattle.writer.specs.Writer.{Piece, piece, pieces, exchangesOf, addressBytes, pieceScript, scriptOf, programScript}
 use Rattle.writer.specs.declared.Written.{Written}
 use Rattle.writer.specs.Writer as Writer
 use Rattle.writer.specs.Laws.{pieces-none, pieces-more, count-more, longest-is}
 use Rattle.writer.specs.Refusals as WriterLaws
 use Rattle.demands.specs.Model.{event, sends, address, Fit}
-use Rattle.demands.specs.Demand1.{RunReply, AllSound, roomNeeded, ran, ourRun, runner-is-ours}
+use Rattle.demands.specs.Demand1.{RunReply, Runner, AllSound, roomNeeded, ran, ourRun, runner-is-ours}
 use Rattle.demands.specs.Demand2.{AllBytes, Ready, FreeAt, poweredUp}
-use Rattle.demands.specs.Programming.{pagesTouched, inFirstPage, pageSays, saysFor, says, Programmable, chipAfter, Programmed, Programs}
+use Rattle.demands.specs.Programming.{Writer as ScriptWriter, exchanged, pageScript, pagesTouched, inFirstPage, pageSays, saysFor, says, Programmable, chipAfter, Programmed, Programs}
 use Rattle.meets.specs.Refusals.{room-needed, sound-script}
 use Rattle.meets.specs.Ours.{runs-ours}
 use Rattle.meets.specs.Meets1.{all-good, meets-1-run}
@@ -378,17 +378,51 @@ module _ (c : Chip) (m area : List ℕ) (A : ℕ) (bs out : List ℕ) (able : Pr
         written-is = ap (λ (r : RunReply). r .written) answer-is ∙ ap length (came .said);
       }
 
+-- the script of a piece, byte by byte
+exchanges-as : (bs : List ℕ) → exchangesOf bs ≡ exchanged bs
+unfolding exchangesOf exchanged
+exchanges-as [] = refl
+exchanges-as (b ∷ bs) = ap (λ (s : List ℕ). 0x02 ∷ b ∷ s) (exchanges-as bs)
+
+piece-as : (A : ℕ) (bs : List ℕ) → pieceScript (piece A bs) ≡ pageScript A bs
+unfolding exchangesOf
+piece-as A bs =
+    ap (λ (s : List ℕ). 0x01 ∷ 0x02 ∷ 0x06 ∷ 0x03 ∷ 0x01 ∷ 0x02 ∷ 0x02 ∷ 0x02 ∷ A / 65536 % 256 ∷ 0x02 ∷ A / 256 % 256 ∷ 0x02 ∷ A % 256 ∷ s)
+    (append-assoc (exchangesOf bs) (0x03 ∷ []) (0x05 ∷ 0x00 ∷ 0x10 ∷ []) ∙ ap (λ (s : List ℕ). s ++ (0x03 ∷ 0x05 ∷ 0x00 ∷ 0x10 ∷ [])) (exchanges-as bs))
+
+-- the script of some bytes is that of their first page, and that of the rest
+pages-as : (A : ℕ) (bs : List ℕ) → 0 < length bs
+    → programScript A bs ≡ pageScript A (take (inFirstPage A (length bs)) bs) ++ programScript (A + inFirstPage A (length bs)) (drop (inFirstPage A (length bs)) bs)
+unfolding scriptOf
+pages-as A bs there =
+    let k : ℕ = inFirstPage A (length bs) in
+    ap scriptOf (pieces-more A bs k there refl) ∙ ap (λ (s : List ℕ). s ++ programScript (A + k) (drop k bs)) (piece-as A (take k bs))
+
 -- Our writer keeps the promise with our run.
 pub keeps-promise : Programs programScript ourRun
 unfolding scriptOf
 keeps-promise =
     record {
       none-for-none = λ A. ap scriptOf (pieces-none A);
+      page-by-page = pages-as;
       short = λ A bs few. longest-is A bs few .0;
       sound = λ A bs ok. sound-script (programScript A bs) (script-plays (length bs) A bs (omega arith) ok .0 .clean);
       room = λ A bs ok. let plays = script-plays (length bs) A bs (omega arith) ok in sym (room-needed (events (programScript A bs))) ∙ plays .0 .asks ∙ plays .1;
       programs = programmed;
     }
+
+-- And no other writer does: whatever the runner, one that keeps it writes our scripts.
+pub only-our-writer : (W : ScriptWriter) (R : Runner) → Programs W R → (A : ℕ) (bs : List ℕ) → W A bs ≡ programScript A bs
+only-our-writer W R keeps A bs = go (length bs) A bs (omega arith)
+  where
+    go : (fuel A : ℕ) (bs : List ℕ) → length bs ≤ fuel → W A bs ≡ programScript A bs
+    go zero A [] few = keeps .none-for-none A ∙ sym (keeps-promise .none-for-none A)
+    go zero A (b ∷ bs) few = absurd (omega arith)
+    go (suc fuel) A [] few = go fuel A [] (omega arith)
+    go (suc fuel) A (b ∷ bs) few =
+        keeps .page-by-page A (b ∷ bs) (omega arith)
+        ∙ ap (λ (s : List ℕ). pageScript A (front A b bs) ++ s) (go fuel (A + n A b bs) (rest A b bs) (omega (arith, rest-long A b bs, some A b bs)))
+        ∙ sym (keeps-promise .page-by-page A (b ∷ bs) (omega arith))
 
 -- What `writer::write_program` wrote and `script::run` has run, whatever meets the two contracts: the writer refuses nothing, the bytes that it says it wrote are run, on a memory of the
 -- length that it was told, and the run's own answer, memory and output are those of the promise.
