@@ -27,7 +27,7 @@ use Rattle.script.specs.Run.{World, world, runs}
 use Rattle.script.specs.Run as Run
 use Rattle.script.specs.declared.Ran.{Ran}
 use Rattle.script.specs.Laws.{runs-add}
-use Rattle.writer.specs.Writer.{Piece, piece, pieces, exchangesOf, addressBytes, pieceScript, scriptOf, programScript}
+use Rattle.writer.specs.Writer.{Piece, piece, pieces, exchangesOf, addressBytes, pieceScript, scriptOf, programScript, scriptRoom}
 use Rattle.writer.specs.declared.Written.{Written}
 use Rattle.writer.specs.Writer as Writer
 use Rattle.writer.specs.Laws.{pieces-none, pieces-more, count-more, longest-is}
@@ -430,7 +430,7 @@ pub write-and-run : (c : Chip) (m area : List ℕ) (A : ℕ) (bs space out : Lis
     → (wrote ≡ Writer.answerOf (length m) A bs space) × (space′ ≡ Writer.outputOf (length m) A bs space) → wrote .refusal ≡ 0
     → (r ≡ Run.answerOf c m area (take (wrote .written) space′) out) × (m′ ≡ Run.memoryOf c m area (take (wrote .written) space′) out) × (out′ ≡ Run.outputOf c m area (take (wrote .written) space′) out)
     → Ready c m area → ((j : ℕ) → j < length bs → isProtected (c .core .level) (c .core .tb) (sectorsIn (length m)) ((A + j) / 65536) ≡ false)
-    → AllBytes bs → ((i : ℕ) → getD m i 0 ≤ 255) → 16 * pagesTouched A (length bs) + 2 * length bs ≤ length out
+    → AllBytes bs → ((i : ℕ) → getD m i 0 ≤ 255) → scriptRoom A (length bs) ≤ length out
     → Programmed c m A bs out (ran r m′ out′)
 write-and-run c m area A bs space out wrote space′ r m′ out′ written ok run ready free bytes cells roomy =
     let none : Writer.refusal (length m) A bs (length space) ≡ 0 = sym (WriterLaws.answer-number (length m) A bs space) ∙ ap (λ (w : Written). w .refusal) (sym (written .0)) ∙ ok in

@@ -85,10 +85,6 @@ scriptLength A n = 17 * pieceCount A n + 2 * n
 abbrev pub scriptRoom : ℕ → ℕ → ℕ
 scriptRoom A n = 16 * pieceCount A n + 2 * n
 
--- the length of the longest script: 4,096 bytes in 17 pieces
-abbrev pub longestScript : ℕ
-longestScript = 8481
-
 -- ---- the writer's answer (RULES, The script writer)
 
 -- the most bytes that one script programs
