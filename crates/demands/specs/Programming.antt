@@ -32,16 +32,16 @@ inFirstPage A n = min n (256 - A % 256)
 -- ---- the script
 
 -- an exchange for each byte
-unfoldable pub exchanged : List ℕ → List ℕ
-exchanged [] = []
-exchanged (b ∷ bs) = 0x02 ∷ b ∷ exchanged bs
+unfoldable pub exchangesFor : List ℕ → List ℕ
+exchangesFor [] = []
+exchangesFor (b ∷ bs) = 0x02 ∷ b ∷ exchangesFor bs
 
 -- for some bytes of one page, the first of them for address A: 06h in a frame; 02h, the address and the bytes in a frame; 16 ticks
 abbrev pub pageScript : ℕ → List ℕ → List ℕ
 pageScript A bs =
     0x01 ∷ 0x02 ∷ 0x06 ∷ 0x03
     ∷ 0x01 ∷ 0x02 ∷ 0x02 ∷ 0x02 ∷ A / 65536 % 256 ∷ 0x02 ∷ A / 256 % 256 ∷ 0x02 ∷ A % 256
-    ∷ (exchanged bs ++ (0x03 ∷ 0x05 ∷ 0x00 ∷ 0x10 ∷ []))
+    ∷ (exchangesFor bs ++ (0x03 ∷ 0x05 ∷ 0x00 ∷ 0x10 ∷ []))
 
 -- ---- what the run says
 

@@ -29,7 +29,7 @@ pub mod Unique
 pub mod Cut
 pub mod Plays
 pub mod ProgramPiece
-pub mod Programs
+pub mod Promise
 pub mod Examples
 pub mod SfdpExamples
 pub mod Met

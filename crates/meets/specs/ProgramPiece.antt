@@ -43,12 +43,12 @@ use Rattle.meets.specs.OursFrames.{as-long, address-bytes}
 use Rattle.meets.specs.Meets2Jobs.{begun, framed-as, program-begun}
 use Rattle.meets.specs.Stepwise as Stepwise
 
--- a frame of these bytes as events, and the events of a piece
+-- a frame of these bytes as events, and the events of a piece, by the bytes of its address
 abbrev pub frameEvents : List ℕ → List Event
 frameEvents bs = event 0x01 0 ∷ (sends bs ++ (event 0x03 0 ∷ []))
 
-abbrev pub pieceEvents : ℕ → List ℕ → List Event
-pieceEvents A bs = frameEvents (0x06 ∷ []) ++ frameEvents (0x02 ∷ (address A ++ bs)) ++ (event 0x05 16 ∷ [])
+abbrev pub pieceEvents : List ℕ → List ℕ → List Event
+pieceEvents to bs = frameEvents (0x06 ∷ []) ++ frameEvents (0x02 ∷ (to ++ bs)) ++ (event 0x05 16 ∷ [])
 
 -- ---- the write enable
 
@@ -137,7 +137,7 @@ module _ (c : Chip) (m area : List ℕ) (ready : Ready c m area) where
     rested = λ i. record { level = c .core .level; tb = c .core .tb; srwp = c .core .srwp; wen = false; suspended = false; wp = c .core .wp; deep = ready .quiet .awake i; armed = false; job = noJob }
 
     -- The events of a piece, from a chip at rest to one at rest.
-    pub piece-runs : runs T (pieceEvents A bs) (world c m [] 0) ≡ world (whole (poweredUp (c .core)) emptyFrame blankLoad blankLoad) (steps Program start load 0 16 m) (pageSays (length bs)) 16
+    pub piece-runs : runs T (pieceEvents (address A) bs) (world c m [] 0) ≡ world (whole (poweredUp (c .core)) emptyFrame blankLoad blankLoad) (steps Program start load 0 16 m) (pageSays (length bs)) 16
     piece-runs =
         let frames : List Event = frameEvents (0x06 ∷ []) ++ frameEvents (0x02 ∷ (address A ++ bs)) in
         runs-add T frames (event 0x05 16 ∷ []) (world c m [] 0)

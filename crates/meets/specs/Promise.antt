@@ -35,7 +35,7 @@ use Rattle.writer.specs.Refusals as WriterLaws
 use Rattle.demands.specs.Model.{event, sends, address, Fit}
 use Rattle.demands.specs.Demand1.{RunReply, Runner, AllSound, roomNeeded, ran, ourRun, runner-is-ours}
 use Rattle.demands.specs.Demand2.{AllBytes, Ready, FreeAt, poweredUp}
-use Rattle.demands.specs.Programming.{Writer as ScriptWriter, exchanged, pageScript, pagesTouched, inFirstPage, pageSays, saysFor, says, Programmable, chipAfter, Programmed, Programs}
+use Rattle.demands.specs.Programming.{Writer as ScriptWriter, exchangesFor, pageScript, pagesTouched, inFirstPage, pageSays, saysFor, says, Programmable, chipAfter, Programmed, Programs}
 use Rattle.meets.specs.Refusals.{room-needed, sound-script}
 use Rattle.meets.specs.Ours.{runs-ours}
 use Rattle.meets.specs.Meets1.{all-good, meets-1-run}
@@ -59,16 +59,16 @@ bytes-drop (suc n) (b ∷ bs) ok = bytes-drop n bs (ok .1)
 
 -- ---- the script as a row of events
 
--- the events of a piece, of any address
-abbrev rowOf : Piece → List Event
-rowOf p = frameEvents (0x06 ∷ []) ++ frameEvents (0x02 ∷ (addressBytes (p .address) ++ p .bytes)) ++ (event 0x05 16 ∷ [])
+-- the events of a piece, and of one piece after the other
+abbrev ofPiece : Piece → List Event
+ofPiece p = pieceEvents (addressBytes (p .address)) (p .bytes)
 
-unfoldable rowsOf : List Piece → List Event
-rowsOf [] = []
-rowsOf (p ∷ ps) = rowOf p ++ rowsOf ps
+unfoldable ofPieces : List Piece → List Event
+ofPieces [] = []
+ofPieces (p ∷ ps) = ofPiece p ++ ofPieces ps
 
 -- a piece is played
-piece-plays : (p : Piece) → AllBytes (p .bytes) → Plays (pieceScript p) (rowOf p)
+piece-plays : (p : Piece) → AllBytes (p .bytes) → Plays (pieceScript p) (ofPiece p)
 unfolding AllBytes
 piece-plays p ok =
     plays-then
@@ -85,7 +85,7 @@ frame-room : (bs : List ℕ) → room (frameEvents bs) ≡ 2 * length bs + 3
 unfolding room kindRow kindRowIn
 frame-room bs = omega (arith, room-append (sends bs) (event 0x03 0 ∷ []), sends-room bs)
 
-piece-room : (p : Piece) → room (rowOf p) ≡ 16 + 2 * length (p .bytes)
+piece-room : (p : Piece) → room (ofPiece p) ≡ 16 + 2 * length (p .bytes)
 unfolding room kindRow kindRowIn
 piece-room p =
     let enable : List Event = frameEvents (0x06 ∷ []) in
@@ -127,8 +127,8 @@ module _ (A b : ℕ) (bs : List ℕ) where
 
 -- the whole script is played, with the room that the promise says
 script-plays : (fuel A : ℕ) (bs : List ℕ) → length bs ≤ fuel → AllBytes bs
-    → Plays (programScript A bs) (rowsOf (pieces A bs)) × (room (rowsOf (pieces A bs)) ≡ 16 * pagesTouched A (length bs) + 2 * length bs)
-unfolding scriptOf rowsOf room
+    → Plays (programScript A bs) (ofPieces (pieces A bs)) × (room (ofPieces (pieces A bs)) ≡ 16 * pagesTouched A (length bs) + 2 * length bs)
+unfolding scriptOf ofPieces room
 script-plays zero A [] few ok = rw (pieces-none A) (plays-none, refl)
 script-plays zero A (b ∷ bs) few ok = absurd (omega arith)
 script-plays (suc fuel) A [] few ok = script-plays fuel A [] (omega arith) ok
@@ -137,7 +137,7 @@ script-plays (suc fuel) A (b ∷ bs) few ok =
     let later = script-plays fuel (A + n A b bs) (rest A b bs) (omega (arith, rest-long A b bs, some A b bs)) (bytes-drop (n A b bs) (b ∷ bs) ok) in
     rw (cut-off A b bs) (
       plays-then (piece-plays p (bytes-take (n A b bs) (b ∷ bs) ok)) (later .0),
-      omega (arith, room-append (rowOf p) (rowsOf (pieces (A + n A b bs) (rest A b bs))), piece-room p, later .1, front-long A b bs, rest-long A b bs, one-more A b bs),
+      omega (arith, room-append (ofPiece p) (ofPieces (pieces (A + n A b bs) (rest A b bs))), piece-room p, later .1, front-long A b bs, rest-long A b bs, one-more A b bs),
     )
 
 -- ---- what the run comes to
@@ -152,27 +152,18 @@ record Came (c : Chip) (m : List ℕ) (A : ℕ) (bs : List ℕ) (w : World) : Ty
   said : w .written ≡ says A (length bs)
 
 -- no bytes: nothing happens
-came-none : (c : Chip) (m : List ℕ) (A : ℕ) (T : Setting) → Came c m A [] (runs T (rowsOf (pieces A [])) (world c m [] 0))
-unfolding runs rowsOf saysFor
+came-none : (c : Chip) (m : List ℕ) (A : ℕ) (T : Setting) → Came c m A [] (runs T (ofPieces (pieces A [])) (world c m [] 0))
+unfolding runs ofPieces saysFor
 came-none c m A T =
     rw (pieces-none A)
     (record { cells-and = λ j l. absurd (omega arith); others-same = λ i out. refl; as-long = refl; chip-is = refl; ticks-are = refl; said = refl })
 
 -- an address of 24 bits has its three bytes
-address-is : (A : ℕ) (bs : List ℕ) → A < 2 ^ 24 → rowOf (piece A bs) ≡ pieceEvents A bs
-address-is A bs small = ap (λ (high : ℕ). frameEvents (0x06 ∷ []) ++ frameEvents (0x02 ∷ high ∷ A / 256 % 256 ∷ A % 256 ∷ bs) ++ (event 0x05 16 ∷ [])) (mod-eq-of-lt (omega arith))
+address-is : (A : ℕ) → A < 2 ^ 24 → addressBytes A ≡ address A
+address-is A small = ap (λ (high : ℕ). high ∷ A / 256 % 256 ∷ A % 256 ∷ []) (mod-eq-of-lt (omega arith))
 
 -- some bytes: the first piece, and then the rest from the chip and the memory that it leaves
 module _ (c : Chip) (m area : List ℕ) (A b : ℕ) (bs : List ℕ) (able : Programmable c m area A (b ∷ bs)) where
-  abbrev N : ℕ
-  N = n A b bs
-
-  abbrev head : List ℕ
-  head = front A b bs
-
-  abbrev tail : List ℕ
-  tail = rest A b bs
-
   abbrev T : Setting
   T = settingOf (length m) area
 
@@ -190,21 +181,21 @@ module _ (c : Chip) (m area : List ℕ) (A b : ℕ) (bs : List ℕ) (able : Prog
 
   -- the first piece has a byte, so that it is a frame with data
   abbrev more : List ℕ
-  more = take (N - 1) bs
+  more = take (n A b bs - 1) bs
 
-  head-is : head ≡ b ∷ more
-  head-is =
-      let one : N ≡ suc (N - 1) = omega (arith, some A b bs) in
+  front-is : front A b bs ≡ b ∷ more
+  front-is =
+      let one : n A b bs ≡ suc (n A b bs - 1) = omega (arith, some A b bs) in
       ap (λ (k : ℕ). take k (b ∷ bs)) one
 
-  head-long : length (b ∷ more) ≡ N
-  head-long = ap length (sym head-is) ∙ front-long A b bs
+  data-long : length (b ∷ more) ≡ n A b bs
+  data-long = ap length (sym front-is) ∙ front-long A b bs
 
   bytes : AllBytes (b ∷ more)
-  bytes = subst AllBytes head-is (bytes-take N (b ∷ bs) (able .bytes))
+  bytes = subst AllBytes front-is (bytes-take (n A b bs) (b ∷ bs) (able .bytes))
 
   fits : A % 256 + length (b ∷ more) ≤ 256
-  fits = omega (arith, head-long)
+  fits = omega (arith, data-long)
 
   -- the chip and the memory that it leaves
   abbrev c₁ : Chip
@@ -213,18 +204,18 @@ module _ (c : Chip) (m area : List ℕ) (A b : ℕ) (bs : List ℕ) (able : Prog
   abbrev m₁ : List ℕ
   m₁ = after-piece c m area (able .ready) A b more small bytes free below fits (able .cells)
 
-  first-is : runs T (rowOf (piece A head)) (world c m [] 0) ≡ world c₁ m₁ (pageSays N) 16
+  first-is : runs T (ofPiece (piece A (front A b bs))) (world c m [] 0) ≡ world c₁ m₁ (pageSays (n A b bs)) 16
   first-is =
-      ap (λ (h : List ℕ). runs T (rowOf (piece A h)) (world c m [] 0)) head-is
-      ∙ ap (λ (es : List Event). runs T es (world c m [] 0)) (address-is A (b ∷ more) small)
+      ap (λ (h : List ℕ). runs T (ofPiece (piece A h)) (world c m [] 0)) front-is
+      ∙ ap (λ (to : List ℕ). runs T (pieceEvents to (b ∷ more)) (world c m [] 0)) (address-is A small)
       ∙ piece-runs c m area (able .ready) A b more small bytes free
-      ∙ ap (λ (k : ℕ). world c₁ m₁ (pageSays k) 16) head-long
+      ∙ ap (λ (k : ℕ). world c₁ m₁ (pageSays k) 16) data-long
 
   -- both are fit for the rest
   long : length m₁ ≡ length m
   long = piece-long c m area (able .ready) A b more small bytes free below fits (able .cells)
 
-  rest-able : Programmable c₁ m₁ area (A + N) tail
+  rest-able : Programmable c₁ m₁ area (A + n A b bs) (rest A b bs)
   rest-able =
       record {
         ready =
@@ -235,7 +226,7 @@ module _ (c : Chip) (m area : List ℕ) (A b : ℕ) (bs : List ℕ) (able : Prog
                         record {
                           state-legal =
                               subst (λ (k : ℕ). legal c₁ k ≡ true) (sym long)
-                              (subst (λ (w : World). legal (w .chip) (length m) ≡ true) first-is (legal-runs T (length m) refl (rowOf (piece A head)) (world c m [] 0) refl (fit .state-legal)));
+                              (subst (λ (w : World). legal (w .chip) (length m) ≡ true) first-is (legal-runs T (length m) refl (ofPiece (piece A (front A b bs))) (world c m [] 0) refl (fit .state-legal)));
                           area-short = fit .area-short;
                         };
                     resting = refl;
@@ -247,46 +238,46 @@ module _ (c : Chip) (m area : List ℕ) (A b : ℕ) (bs : List ℕ) (able : Prog
         few = omega (arith, rest-long A b bs, able .few);
         inside = omega (arith, long, rest-long A b bs, able .inside);
         free = λ j l.
-            ap (λ (k : ℕ). isProtected (c .core .level) (c .core .tb) (sectorsIn k) ((A + N + j) / 65536)) long
-            ∙ ap (λ (i : ℕ). isProtected (c .core .level) (c .core .tb) (sectorsIn (length m)) (i / 65536)) (add-assoc A N j)
-            ∙ able .free (N + j) (omega (arith, rest-long A b bs, l));
-        bytes = bytes-drop N (b ∷ bs) (able .bytes);
+            ap (λ (k : ℕ). isProtected (c .core .level) (c .core .tb) (sectorsIn k) ((A + n A b bs + j) / 65536)) long
+            ∙ ap (λ (i : ℕ). isProtected (c .core .level) (c .core .tb) (sectorsIn (length m)) (i / 65536)) (add-assoc A (n A b bs) j)
+            ∙ able .free ((n A b bs) + j) (omega (arith, rest-long A b bs, l));
+        bytes = bytes-drop (n A b bs) (b ∷ bs) (able .bytes);
         cells = piece-bytes c m area (able .ready) A b more small bytes free below fits (able .cells);
       }
 
   -- what comes of the rest is what comes of all
-  module _ (w : World) (came : Came c₁ m₁ (A + N) tail w) where
+  module _ (w : World) (came : Came c₁ m₁ (A + n A b bs) (rest A b bs) w) where
     abbrev joined : World
-    joined = world (w .chip) (w .memory) (pageSays N ++ w .written) (16 + w .ticks)
+    joined = world (w .chip) (w .memory) (pageSays (n A b bs) ++ w .written) (16 + w .ticks)
 
     cell : (j : ℕ) → j < length (b ∷ bs) → getD (w .memory) (A + j) 0 ≡ bitAnd (getD m (A + j) 0) (getD (b ∷ bs) j 0)
-    cell j l = go (decLt j N)
+    cell j l = go (decLt j (n A b bs))
       where
-        go : Dec (j < N) → getD (w .memory) (A + j) 0 ≡ bitAnd (getD m (A + j) 0) (getD (b ∷ bs) j 0)
-        go (yes in-head) =
+        go : Dec (j < n A b bs) → getD (w .memory) (A + j) 0 ≡ bitAnd (getD m (A + j) 0) (getD (b ∷ bs) j 0)
+        go (yes in-front) =
             came .others-same (A + j) (inl (omega arith))
-            ∙ piece-cells c m area (able .ready) A b more small bytes free below fits (able .cells) j (omega (arith, head-long))
-            ∙ ap (λ (h : List ℕ). bitAnd (getD m (A + j) 0) (getD h j 0)) (sym head-is)
-            ∙ ap (bitAnd (getD m (A + j) 0)) (getD-take N (b ∷ bs) j 0 in-head)
-        go (no in-tail) =
-            let there : A + N + (j - N) ≡ A + j = omega arith in
-            let byte : N + (j - N) ≡ j = omega arith in
+            ∙ piece-cells c m area (able .ready) A b more small bytes free below fits (able .cells) j (omega (arith, data-long))
+            ∙ ap (λ (h : List ℕ). bitAnd (getD m (A + j) 0) (getD h j 0)) (sym front-is)
+            ∙ ap (bitAnd (getD m (A + j) 0)) (getD-take (n A b bs) (b ∷ bs) j 0 in-front)
+        go (no in-rest) =
+            let there : A + n A b bs + (j - n A b bs) ≡ A + j = omega arith in
+            let byte : (n A b bs) + (j - n A b bs) ≡ j = omega arith in
             ap (λ (i : ℕ). getD (w .memory) i 0) (sym there)
-            ∙ came .cells-and (j - N) (omega (arith, rest-long A b bs))
-            ∙ ap (λ (i : ℕ). bitAnd (getD m₁ i 0) (getD tail (j - N) 0)) there
-            ∙ ap (λ (old : ℕ). bitAnd old (getD tail (j - N) 0)) (piece-others c m area (able .ready) A b more small bytes free below fits (able .cells) (A + j) (inr (omega (arith, head-long))))
-            ∙ ap (bitAnd (getD m (A + j) 0)) (getD-drop N (b ∷ bs) (j - N) 0 ∙ ap (λ (i : ℕ). getD (b ∷ bs) i 0) byte)
+            ∙ came .cells-and (j - n A b bs) (omega (arith, rest-long A b bs))
+            ∙ ap (λ (i : ℕ). bitAnd (getD m₁ i 0) (getD (rest A b bs) (j - n A b bs) 0)) there
+            ∙ ap (λ (old : ℕ). bitAnd old (getD (rest A b bs) (j - n A b bs) 0)) (piece-others c m area (able .ready) A b more small bytes free below fits (able .cells) (A + j) (inr (omega (arith, data-long))))
+            ∙ ap (bitAnd (getD m (A + j) 0)) (getD-drop (n A b bs) (b ∷ bs) (j - n A b bs) 0 ∙ ap (λ (i : ℕ). getD (b ∷ bs) i 0) byte)
 
     other : (i : ℕ) → (i < A) ⊎ (A + length (b ∷ bs) ≤ i) → getD (w .memory) i 0 ≡ getD m i 0
     other i out =
         came .others-same i (⊎-elim (λ low. inl (omega arith)) (λ high. inr (omega (arith, rest-long A b bs))) out)
-        ∙ piece-others c m area (able .ready) A b more small bytes free below fits (able .cells) i (⊎-elim (λ low. inl low) (λ high. inr (omega (arith, head-long))) out)
+        ∙ piece-others c m area (able .ready) A b more small bytes free below fits (able .cells) i (⊎-elim (λ low. inl low) (λ high. inr (omega (arith, data-long))) out)
 
-    all-said : pageSays N ++ w .written ≡ says A (length (b ∷ bs))
+    all-said : pageSays (n A b bs) ++ w .written ≡ says A (length (b ∷ bs))
     unfolding saysFor
     all-said =
-        let pages : pagesTouched A (length (b ∷ bs)) ≡ suc (pagesTouched (A + N) (length tail)) = omega (arith, one-more A b bs) in
-        ap (λ (s : List ℕ). pageSays N ++ s) (came .said ∙ ap (saysFor (pagesTouched (A + N) (length tail)) (A + N)) (rest-long A b bs))
+        let pages : pagesTouched A (length (b ∷ bs)) ≡ suc (pagesTouched (A + n A b bs) (length (rest A b bs))) = omega (arith, one-more A b bs) in
+        ap (λ (s : List ℕ). pageSays (n A b bs) ++ s) (came .said ∙ ap (saysFor (pagesTouched (A + n A b bs) (length (rest A b bs))) (A + n A b bs)) (rest-long A b bs))
         ∙ sym (ap (λ (k : ℕ). saysFor k A (length (b ∷ bs))) pages)
 
     came-all : Came c m A (b ∷ bs) joined
@@ -295,31 +286,31 @@ module _ (c : Chip) (m area : List ℕ) (A b : ℕ) (bs : List ℕ) (able : Prog
           cells-and = cell;
           others-same = other;
           as-long = came .as-long ∙ long;
-          chip-is = came .chip-is ∙ cond-either (λ (q : Chip). q ≡ c₁) (eqb (length tail) 0) _ _ (λ _. refl) (λ _. refl) ∙ sym (cond-no (eqb (length (b ∷ bs)) 0) _ _ (ne-eqb (length (b ∷ bs)) 0 (λ z. omega arith)));
+          chip-is = came .chip-is ∙ cond-either (λ (q : Chip). q ≡ c₁) (eqb (length (rest A b bs)) 0) _ _ (λ _. refl) (λ _. refl) ∙ sym (cond-no (eqb (length (b ∷ bs)) 0) _ _ (ne-eqb (length (b ∷ bs)) 0 (λ z. omega arith)));
           ticks-are = omega (arith, came .ticks-are, one-more A b bs);
           said = all-said;
         }
 
 -- Over all pieces.
 comes : (fuel : ℕ) (c : Chip) (m area : List ℕ) (A : ℕ) (bs : List ℕ) → length bs ≤ fuel → Programmable c m area A bs
-    → Came c m A bs (runs (settingOf (length m) area) (rowsOf (pieces A bs)) (world c m [] 0))
-unfolding rowsOf
+    → Came c m A bs (runs (settingOf (length m) area) (ofPieces (pieces A bs)) (world c m [] 0))
+unfolding ofPieces
 comes zero c m area A [] few able = came-none c m A (settingOf (length m) area)
 comes zero c m area A (b ∷ bs) few able = absurd (omega arith)
 comes (suc fuel) c m area A [] few able = came-none c m A (settingOf (length m) area)
 comes (suc fuel) c m area A (b ∷ bs) few able =
     let U : Setting = settingOf (length m) area in
-    let left : List Event = rowsOf (pieces (A + N c m area A b bs able) (tail c m area A b bs able)) in
-    let later = comes fuel (c₁ c m area A b bs able) (m₁ c m area A b bs able) area (A + N c m area A b bs able) (tail c m area A b bs able) (omega (arith, rest-long A b bs, some A b bs)) (rest-able c m area A b bs able) in
+    let left : List Event = ofPieces (pieces (A + n A b bs) (rest A b bs)) in
+    let later = comes fuel (c₁ c m area A b bs able) (m₁ c m area A b bs able) area (A + n A b bs) (rest A b bs) (omega (arith, rest-long A b bs, some A b bs)) (rest-able c m area A b bs able) in
     let there : runs (settingOf (length (m₁ c m area A b bs able)) area) left (world (c₁ c m area A b bs able) (m₁ c m area A b bs able) [] 0) ≡ runs U left (world (c₁ c m area A b bs able) (m₁ c m area A b bs able) [] 0) =
     ap (λ (k : ℕ). runs (settingOf k area) left (world (c₁ c m area A b bs able) (m₁ c m area A b bs able) [] 0)) (long c m area A b bs able) in
     subst (Came c m A (b ∷ bs))
     (sym
-    (ap (λ (ps : List Piece). runs U (rowsOf ps) (world c m [] 0)) (cut-off A b bs)
-    ∙ runs-add U (rowOf (piece A (front A b bs))) left (world c m [] 0)
+    (ap (λ (ps : List Piece). runs U (ofPieces ps) (world c m [] 0)) (cut-off A b bs)
+    ∙ runs-add U (ofPiece (piece A (front A b bs))) left (world c m [] 0)
     ∙ ap (runs U left) (first-is c m area A b bs able)
-    ∙ runs-from U left (c₁ c m area A b bs able) (m₁ c m area A b bs able) (pageSays (N c m area A b bs able)) 16))
-    (came-all c m area A b bs able _ (subst (Came (c₁ c m area A b bs able) (m₁ c m area A b bs able) (A + N c m area A b bs able) (tail c m area A b bs able)) there later))
+    ∙ runs-from U left (c₁ c m area A b bs able) (m₁ c m area A b bs able) (pageSays (n A b bs)) 16))
+    (came-all c m area A b bs able _ (subst (Came (c₁ c m area A b bs able) (m₁ c m area A b bs able) (A + n A b bs) (rest A b bs)) there later))
 
 -- ---- the promise
 
@@ -331,7 +322,7 @@ module _ (c : Chip) (m area : List ℕ) (A : ℕ) (bs out : List ℕ) (able : Pr
   answer = ourRun c m area script out
 
   -- the script is played, in its room
-  plays : Plays script (rowsOf (pieces A bs)) × (room (rowsOf (pieces A bs)) ≡ 16 * pagesTouched A (length bs) + 2 * length bs)
+  plays : Plays script (ofPieces (pieces A bs)) × (room (ofPieces (pieces A bs)) ≡ 16 * pagesTouched A (length bs) + 2 * length bs)
   plays = script-plays (length bs) A bs (omega arith) (able .bytes)
 
   sound : AllSound script (events script)
@@ -356,7 +347,7 @@ module _ (c : Chip) (m area : List ℕ) (A : ℕ) (bs out : List ℕ) (able : Pr
 
   -- and it comes to what the pieces come to
   abbrev end : World
-  end = runs (settingOf (length m) area) (rowsOf (pieces A bs)) (world c m [] 0)
+  end = runs (settingOf (length m) area) (ofPieces (pieces A bs)) (world c m [] 0)
 
   answer-is : answer ≡ record { chip = end .chip; memory = end .memory; output = end .written ++ drop (length (end .written)) out; refusal = 0; offset = 0; written = length (end .written); ticks = end .ticks }
   answer-is =
@@ -379,8 +370,8 @@ module _ (c : Chip) (m area : List ℕ) (A : ℕ) (bs out : List ℕ) (able : Pr
       }
 
 -- the script of a piece, byte by byte
-exchanges-as : (bs : List ℕ) → exchangesOf bs ≡ exchanged bs
-unfolding exchangesOf exchanged
+exchanges-as : (bs : List ℕ) → exchangesOf bs ≡ exchangesFor bs
+unfolding exchangesOf exchangesFor
 exchanges-as [] = refl
 exchanges-as (b ∷ bs) = ap (λ (s : List ℕ). 0x02 ∷ b ∷ s) (exchanges-as bs)
 
