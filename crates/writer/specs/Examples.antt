@@ -1,6 +1,7 @@
 -- Worked examples of the writer: scripts byte by byte, and each refusal on both sides (RULES, The script writer).
 use mathlib.Core.List.{[], _∷_, _++_}
 use mathlib.Core.Path.{_≡_, refl}
+use lib.ListN.{replicate}
 use Rattle.part.specs.Part.{permitted}
 use Rattle.writer.specs.Writer.{piece, cut, pieces, exchangesOf, scriptOf, programScript, pieceCount, scriptLength, scriptRoom, refusal}
 
@@ -38,10 +39,11 @@ counted = record { no-bytes = (refl, refl); last-cell = refl; one-page = refl; o
 -- The refusals on each side, on a part of one sector and on the real one.
 pub record RefusalsMet : Type 0 where
   pub one : (refusal 65535 0 [] 0 ≡ 1) × (refusal 65536 0 [] 0 ≡ 0) × (refusal 2097152 0 [] 0 ≡ 0)
+  pub twenty : (refusal 65536 0 (replicate 4097 0) 9000 ≡ 20) × (refusal 65536 0 (replicate 4096 0) 8464 ≡ 0)
   pub twenty-one : (refusal 65536 65536 [] 0 ≡ 21) × (refusal 65536 65535 [] 0 ≡ 0) × (refusal 65536 18446744073709551615 (0x5A ∷ []) 100 ≡ 21)
   pub twenty-two : (refusal 65536 65535 (0x5A ∷ 0x5A ∷ []) 0 ≡ 22) × (refusal 65536 65534 (0x5A ∷ 0x5A ∷ []) 21 ≡ 0)
   pub twenty-three : (refusal 65536 65534 (0x5A ∷ 0x5A ∷ []) 20 ≡ 23) × (refusal 2097152 0xFE (0xA1 ∷ 0xA2 ∷ 0xA3 ∷ []) 39 ≡ 23) × (refusal 2097152 0xFE (0xA1 ∷ 0xA2 ∷ 0xA3 ∷ []) 40 ≡ 0)
 
 pub refusals-met : RefusalsMet
 unfolding refusal permitted pieces cut exchangesOf scriptOf
-refusals-met = record { one = (refl, refl, refl); twenty-one = (refl, refl, refl); twenty-two = (refl, refl); twenty-three = (refl, refl, refl) }
+refusals-met = record { one = (refl, refl, refl); twenty = (refl, refl); twenty-one = (refl, refl, refl); twenty-two = (refl, refl); twenty-three = (refl, refl, refl) }

@@ -135,7 +135,7 @@ count-pieces A bs = sizes (length bs) A bs (omega arith) .0
 pub length-script : (A : ℕ) (bs : List ℕ) → length (programScript A bs) ≡ scriptLength A (length bs)
 length-script A bs = sizes (length bs) A bs (omega arith) .1
 
--- 4,096 bytes make 17 pieces at the most, and 17 they make from every address that is no page's first
+-- 4,096 bytes make 17 pieces at the most
 pub pieces-most : (A n : ℕ) → n ≤ 4096 → pieceCount A n ≤ 17
 pieces-most A zero few = omega arith
 pieces-most A (suc n) few = omega (arith, count-some A (suc n) (omega arith))
