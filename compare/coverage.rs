@@ -8,13 +8,14 @@ use crate::commands::{COMMANDS, EMPTY, UNKNOWN, UNSELECTED};
 use crate::event::{events_of, kind, Event, LONGEST};
 use crate::expected::{Expected, NOTHING};
 use crate::image::{Edit, FLAGS};
+use crate::job_table::{all_steps, JobTable, LONGER, WRITE_STATUS};
 use crate::model::{self, Chip, Record};
 use crate::programming_coverage::ProgrammingCoverage;
 use crate::protection_coverage::ProtectionCoverage;
 use crate::side::{verdict_of, Answer};
 use crate::states::RULES;
-use crate::tally::{mark, print_cells, print_head, print_line, Tally};
-use std::collections::BTreeSet;
+use crate::tally::{print_cells, print_head, print_line, Tally};
+use crate::wait_coverage::WaitCoverage;
 
 /// Why a verdict cannot occur in the rows that do not list it.
 const REASONS: [&str; 13] = [
@@ -41,29 +42,23 @@ const REFUSALS: [u8; 9] = [0, 1, 2, 3, 4, 5, 6, 7, 13];
 const ENTRIES: [(&str, &[u8]); 3] =
     [("event", &[0, 1, 2, 5, 6, 13]), ("event, lent", &[0, 1, 2, 5, 6, 13]), ("run", &REFUSALS)];
 
-/// The kinds of job that the table of fates has as rows.
-const JOBS: [&str; 6] = [
-    "write status",
-    "program",
-    "small sector erase",
-    "sector erase",
-    "chip erase, 1 sector",
-    "chip erase, more",
-];
-
-/// What can become of a job after its k steps.
+/// What can become of a job after its k steps, the one of a wait counted in those of a suspension;
+/// what ends a job in the wait has a table of its own.
 const FATES: [&str; 8] =
     ["ended", "suspended", "resumed", "dropped", "reset", "reset sus", "cut", "cut sus"];
 
 /// How many different k a fate has to be seen at for a job.
-fn wanted(job: usize, fate: usize) -> usize {
-    match job {
+fn wanted(job: usize, fate: &str) -> usize {
+    match (job, fate) {
         // A write status cannot be suspended: B0h is verdict 11 while it runs.
-        0 => usize::from(matches!(fate, 0 | 4 | 6)),
-        1 | 2 => 16,
-        3 | 4 => 256,
-        // Of the 512 to 8,192 k of the larger parts, all are suspended and resumed; the others some.
-        _ => 1,
+        (WRITE_STATUS, "ended" | "reset" | "cut") => 1,
+        (WRITE_STATUS, _) => 0,
+        // No tick suspends at k = 0, since the wait does a step; a lent state may stand there, as
+        // those of the shorter jobs do.
+        (_, "suspended") | (LONGER, "resumed") => all_steps(job) - 1,
+        // Of the 512 to 8,192 k of the larger parts some have the other fates.
+        (LONGER, _) => 1,
+        _ => all_steps(job),
     }
 }
 
@@ -107,7 +102,8 @@ const SITUATIONS: [&str; 32] = [
 pub struct Coverage {
     verdicts: [[u64; 13]; COMMANDS.len()],
     refusals: [[u64; REFUSALS.len()]; 3],
-    fates: Vec<Vec<BTreeSet<u32>>>,
+    fates: JobTable,
+    waits: WaitCoverage,
     situations: Tally,
     areas: AreaCoverage,
     protection: ProtectionCoverage,
@@ -131,7 +127,8 @@ impl Coverage {
         Coverage {
             verdicts: [[0; 13]; COMMANDS.len()],
             refusals: [[0; REFUSALS.len()]; 3],
-            fates: vec![vec![BTreeSet::new(); FATES.len()]; JOBS.len()],
+            fates: JobTable::new(&FATES),
+            waits: WaitCoverage::new(),
             situations: Tally::new(&SITUATIONS),
             areas: AreaCoverage::new(),
             protection: ProtectionCoverage::new(),
@@ -154,7 +151,7 @@ impl Coverage {
     }
 
     /// Takes note of the start of a case.
-    pub fn note_start(&mut self, Case { start, area, .. }: &Case) {
+    pub fn note_start(&mut self, Case { length, start, area, .. }: &Case) {
         self.bad_flag = match start {
             Start::Lent(_, Edit::Flag(flag, _)) => Some(*flag),
             _ => None,
@@ -162,7 +159,10 @@ impl Coverage {
         let no_job = matches!(start, Start::Lent(_, Edit::JobKind(_)));
         self.no_state = no_job || self.bad_flag.is_some();
         self.close_frame();
-        self.frame_lent = matches!(start, Start::Lent(chip, _) if chip.frame.byte_count > 0);
+        if let Start::Lent(chip, _) = start {
+            self.frame_lent = chip.frame.byte_count > 0;
+            self.waits.note_lent(chip, *length);
+        }
         self.areas.lend(area);
     }
 
@@ -238,6 +238,7 @@ impl Coverage {
         }
         self.areas.note_step();
         self.protection.note_step(entry);
+        self.waits.note_step(entry);
         if self.areas.lent.len() > LONGEST_TAKEN {
             let otherwise = self.refusal_without_area(before, step, length);
             self.areas.note_too_long(entry, refusal, otherwise, self.no_state);
@@ -276,6 +277,9 @@ impl Coverage {
         self.saw("run with the exact room", spare == 0 && !script.is_empty());
         self.saw("script of 65,536 bytes done", script.len() == LONGEST);
         self.saw("empty script done", script.is_empty());
+        if !script.is_empty() {
+            self.waits.note_run(before, after);
+        }
     }
 
     /// Takes note of a run that was refused by 7, with the records that its events would yield, but
@@ -313,7 +317,8 @@ impl Coverage {
                     let loose = event.0 == kind::LOOSE_DESELECT;
                     self.note_deselect(before, answer.record, loose, length)
                 }
-                kind::TICK | kind::TICKS => self.note_ticks(before, after, answer.ticks),
+                kind::TICK | kind::TICKS => self.note_ticks(before, *event, after, answer.ticks),
+                kind::WP_LEVEL => self.waits.note_wp(before, after),
                 kind::POWER_CUT => self.close_frame(),
                 _ => {}
             }
@@ -355,6 +360,7 @@ impl Coverage {
         self.frame_bytes = 0;
         self.last_status = None;
         self.areas.close_frame();
+        self.waits.close_frame();
     }
 
     /// Takes note of an exchange.
@@ -362,6 +368,7 @@ impl Coverage {
         self.saw("exchange unselected", !before.selected);
         self.frame_bytes += usize::from(before.selected);
         self.areas.note_exchange(before, record, length);
+        self.waits.note_exchange(before, record, self.last_status);
         let Record::Driven(byte) = record else { return };
         self.saw("lent frame, byte driven", self.frame_lent);
         let frame = &before.frame;
@@ -391,7 +398,8 @@ impl Coverage {
     }
 
     /// Takes note of ticks.
-    fn note_ticks(&mut self, before: &Chip, after: &Chip, ticks: u64) {
+    fn note_ticks(&mut self, before: &Chip, event: Event, after: &Chip, ticks: u64) {
+        self.waits.note_ticks(before, event, after, ticks);
         let inside = before.frame.byte_count > 0;
         self.saw("working tick inside a frame", inside && ticks > 0);
         self.saw("last step inside a frame", inside && ticks > 0 && after.job.is_none());
@@ -411,6 +419,9 @@ impl Coverage {
             let opcode = Some(frame.opcode);
             COMMANDS.iter().position(|command| command.opcode == opcode).unwrap_or(UNKNOWN)
         };
+        if row <= UNKNOWN {
+            self.waits.note_deselect(row, before, verdict);
+        }
         self.saw("lent frame, ended", self.frame_lent);
         self.saw("lent frame, job begun", self.frame_lent && verdict == 2);
         if !self.frame_lent {
@@ -452,23 +463,26 @@ impl Coverage {
         after: &Chip,
         length: usize,
     ) {
+        self.waits.note_job(before, event, record, after, length);
         let Some(job) = &before.job else { return };
-        let row = match Class::of(job) {
-            Class::Chip if length > Chip::SECTOR => 5,
-            class => class as usize - 1,
-        };
-        let suspended = usize::from(before.suspended);
-        let fate = match (event.0, record, before.frame.opcode) {
-            (kind::TICK | kind::TICKS, _, _) if after.job.is_none() => 0,
-            (kind::DESELECT, Record::Verdict(1), 0xB0) => 1,
-            (kind::DESELECT, Record::Verdict(1), 0x30) => 2,
-            (kind::DESELECT, Record::Verdict(2), _) => 3,
-            (kind::DESELECT, Record::Verdict(1), 0x99) => 4 + suspended,
-            (kind::POWER_CUT, _, _) => 6 + suspended,
+        let steps_after = after.job.as_ref().map_or(0, |job| job.steps_done);
+        let (fate, k) = match (event.0, record, before.frame.opcode) {
+            (kind::TICK | kind::TICKS, _, _) if before.waiting && after.suspended => {
+                ("suspended", steps_after)
+            }
+            _ if before.waiting => return,
+            (kind::TICK | kind::TICKS, _, _) if after.job.is_none() => ("ended", job.steps_done),
+            (kind::DESELECT, Record::Verdict(1), 0x30) => ("resumed", job.steps_done),
+            (kind::DESELECT, Record::Verdict(2), _) => ("dropped", job.steps_done),
+            (kind::DESELECT, Record::Verdict(1), 0x99) if before.suspended => 
+                ("reset sus", job.steps_done),
+            (kind::DESELECT, Record::Verdict(1), 0x99) => ("reset", job.steps_done),
+            (kind::POWER_CUT, _, _) if before.suspended => ("cut sus", job.steps_done),
+            (kind::POWER_CUT, _, _) => ("cut", job.steps_done),
             _ => return,
         };
-        self.saw("job begun while suspended after ticks", fate == 3 && job.steps_done > 0);
-        self.fates[row][fate].insert(job.steps_done);
+        self.saw("job begun while suspended after ticks", fate == "dropped" && k > 0);
+        self.fates.saw(fate, job, length, k);
     }
 
     /// Prints the tables and gives the number of cells that are empty, or filled and should not be.
@@ -479,6 +493,7 @@ impl Coverage {
         faults += self.protection.report(&ENTRIES);
         faults += self.programmings.report();
         faults += self.report_fates();
+        faults += self.waits.report();
         faults + self.report_situations()
     }
 
@@ -530,21 +545,7 @@ impl Coverage {
     /// Prints jobs by fates.
     fn report_fates(&self) -> usize {
         println!("\njobs by fate: at how many k, of how many (- cannot occur: B0h then is 11)");
-        let head: String = FATES.iter().map(|fate| format!("{fate:>10}")).collect();
-        println!("{:24}{head}", "");
-        let mut faults = 0;
-        for (job, name) in JOBS.iter().enumerate() {
-            print!("{name:24}");
-            for fate in 0..FATES.len() {
-                let (seen, wanted) = (self.fates[job][fate].len(), wanted(job, fate));
-                let bad = seen < wanted || (wanted == 0 && seen > 0);
-                let cell = if wanted == 0 { "-".to_string() } else { format!("{seen}/{wanted}") };
-                print!("{:>10}", cell + mark(bad));
-                faults += usize::from(bad);
-            }
-            println!();
-        }
-        faults
+        self.fates.report(wanted)
     }
 
     /// Prints the situations.

@@ -131,7 +131,7 @@ impl<'a> Writer<'a> {
         self.put(kind::TICKS, u64::from(count.clamp(1, 65_535)));
     }
 
-    /// Whether a job is running.
+    /// Whether a job is running; in the wait of a suspend it still is.
     pub fn running(&self) -> bool {
         self.chip.job.is_some() && !self.chip.suspended
     }
@@ -160,9 +160,7 @@ impl<'a> Writer<'a> {
             0 => self.put(kind::POWER_CUT, 0),
             1 => self.reset(),
             _ => {
-                if self.chip.suspended {
-                    self.frame(&[0x30]);
-                }
+                self.run_on();
                 let more = self.rng.pick(&[0, 0, 1, 3]);
                 self.ticks(self.steps_left() + more);
             }
@@ -321,16 +319,52 @@ impl<'a> Writer<'a> {
         self.frame(&bytes);
     }
 
+    /// Lets the tick fall that a suspend waits for, if one does, alone or as the first of many.
+    pub fn pass_wait(&mut self) {
+        if self.chip.waiting {
+            let more = self.rng.pick(&[0, 0, 0, 1, 2, 300, 65_534]);
+            self.ticks(1 + more);
+        }
+    }
+
+    /// Suspends the job that runs, which does one step more; if it is the last one, the job ends.
+    pub fn suspend(&mut self) {
+        self.frame(&[0xB0]);
+        self.pass_wait();
+    }
+
+    /// Lets a job that is suspended, or is about to be, run on.
+    pub fn run_on(&mut self) {
+        self.pass_wait();
+        if self.chip.suspended {
+            self.frame(&[0x30]);
+        }
+    }
+
+    /// Lets a job do all the steps that it has left.
+    pub fn finish_job(&mut self) {
+        self.run_on();
+        if self.chip.job.is_some() {
+            self.put(kind::TICKS, u64::from(self.steps_left()));
+        }
+    }
+
+    /// Begins a job of a class and suspends it after some of its steps.
+    pub fn suspend_job(&mut self, class: Class) {
+        self.begin(class);
+        // The wait does a step more, which is not to be the last.
+        let before_wait = self.rng.below(self.steps_left().max(2) as usize - 1);
+        self.ticks(before_wait as u32);
+        self.suspend();
+    }
+
     /// Begins a job that can be suspended, lets it do some steps, and suspends it.
     pub fn suspend_some(&mut self) {
         if self.chip.suspended {
             return self.settle();
         }
         let class = self.rng.pick(&LONG_JOBS);
-        self.begin(class);
-        let done = self.rng.below(self.steps_left().max(1) as usize);
-        self.ticks(done as u32);
-        self.frame(&[0xB0]);
+        self.suspend_job(class);
     }
 
     /// Brings the chip to deep power-down.

@@ -8,7 +8,7 @@ use crate::rng::Rng;
 #[repr(C)]
 #[derive(Clone, Copy, PartialEq, Eq)]
 pub struct Image {
-    pub flags: [u8; 8],
+    pub flags: [u8; 9],
     pub level: u8,
     pub kind: u8,
     pub value: u8,
@@ -25,8 +25,8 @@ pub struct Image {
 }
 
 /// The names of an image's flags, in their order.
-pub const FLAGS: [&str; 8] =
-    ["TB", "SRWP", "WEN", "suspended", "WP high", "deep", "armed", "selected"];
+pub const FLAGS: [&str; 9] =
+    ["TB", "SRWP", "WEN", "suspended", "waiting", "WP high", "deep", "armed", "selected"];
 
 /// A load with nothing in it.
 pub const BLANK: [u8; 256] = [0xFF; 256];
@@ -48,15 +48,15 @@ pub enum Edit {
 }
 
 /// The flags of a chip, in their order.
-pub fn flags_of(chip: &Chip) -> [bool; 8] {
-    let Chip { tb, srwp, wen, suspended, wp_high, deep, armed, selected, .. } = *chip;
-    [tb, srwp, wen, suspended, wp_high, deep, armed, selected]
+pub fn flags_of(chip: &Chip) -> [bool; 9] {
+    let Chip { tb, srwp, wen, suspended, waiting, wp_high, deep, armed, selected, .. } = *chip;
+    [tb, srwp, wen, suspended, waiting, wp_high, deep, armed, selected]
 }
 
 /// A chip with other flags.
-pub fn with_flags(chip: &Chip, flags: [bool; 8]) -> Chip {
-    let [tb, srwp, wen, suspended, wp_high, deep, armed, selected] = flags;
-    Chip { tb, srwp, wen, suspended, wp_high, deep, armed, selected, ..chip.clone() }
+pub fn with_flags(chip: &Chip, flags: [bool; 9]) -> Chip {
+    let [tb, srwp, wen, suspended, waiting, wp_high, deep, armed, selected] = flags;
+    Chip { tb, srwp, wen, suspended, waiting, wp_high, deep, armed, selected, ..chip.clone() }
 }
 
 /// The number, the write status byte and the load of a job's kind.

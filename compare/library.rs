@@ -42,7 +42,7 @@ const SFDP: usize = DESK + Chip::SECTOR;
 /// Length of the shared file.
 const FILE_LENGTH: usize = SFDP + Chip::SECTOR;
 /// Bytes of a chip on the desk.
-const IMAGE_LENGTH: usize = 547;
+const IMAGE_LENGTH: usize = 548;
 
 /// A running library process.
 struct Process {
@@ -174,19 +174,19 @@ fn unpack(bytes: &[u8; IMAGE_LENGTH]) -> Image {
     let part = |at: usize| std::array::from_fn(|i| bytes[at + i]);
     Image {
         flags: std::array::from_fn(|i| bytes[i]),
-        level: bytes[8],
-        kind: bytes[9],
-        value: bytes[10],
-        opcode: bytes[11],
-        slot: bytes[12],
-        count: bytes[13],
-        judgement: bytes[14],
-        start: number(15),
-        done: number(19),
-        address: number(23),
-        place: u64::from(number(27)) | u64::from(number(31)) << 32,
-        load: part(35),
-        held: part(291),
+        level: bytes[9],
+        kind: bytes[10],
+        value: bytes[11],
+        opcode: bytes[12],
+        slot: bytes[13],
+        count: bytes[14],
+        judgement: bytes[15],
+        start: number(16),
+        done: number(20),
+        address: number(24),
+        place: u64::from(number(28)) | u64::from(number(32)) << 32,
+        load: part(36),
+        held: part(292),
     }
 }
 

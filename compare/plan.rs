@@ -17,6 +17,7 @@ impl Session<'_> {
         self.areas()?;
         self.script_writer()?;
         self.protection()?;
+        self.waits()?;
         self.leftovers()?;
         self.broken_states(LENGTHS[0])?;
         self.all_refusals()?;
@@ -152,15 +153,16 @@ impl Session<'_> {
     /// Every fate of every job after every k steps, on the one-sector part.
     fn all_fates(&mut self) -> Outcome {
         for class in LONG_JOBS {
-            for fate in 0..6 {
+            for fate in FATES {
                 self.fate_after_each_step(class, fate)?;
             }
+            self.lent_fates(class)?;
         }
         self.write_status_fates()
     }
 
     /// One fate of a job of a class, after every k steps.
-    fn fate_after_each_step(&mut self, class: Class, fate: u32) -> Outcome {
+    fn fate_after_each_step(&mut self, class: Class, fate: Fate) -> Outcome {
         self.open_fresh(LENGTHS[0], 0)?;
         for k in 0..class.steps(LENGTHS[0]) {
             let events = self.write(|writer| fate_after(writer, class, fate, k));
@@ -169,10 +171,40 @@ impl Session<'_> {
         self.close()
     }
 
+    /// Every fate of jobs that are lent: suspended before their first step, where no event leads,
+    /// since a wait does one; and in the wait of their first, of any and of their last step.
+    fn lent_fates(&mut self, class: Class) -> Outcome {
+        let last = class.steps(LENGTHS[0]) - 1;
+        for fate in FATES {
+            let any = self.rng.below(last as usize) as u32;
+            for (suspended, done) in [(true, 0), (false, 0), (false, any), (false, last)] {
+                self.lent_fate(class, fate, suspended, done)?;
+            }
+        }
+        Ok(())
+    }
+
+    /// One fate of a job that is lent after so many steps, suspended or in the wait.
+    fn lent_fate(&mut self, class: Class, fate: Fate, suspended: bool, done: u32) -> Outcome {
+        let mut chip = states::legal_unselected(&mut self.rng, LENGTHS[0], Some(class));
+        (chip.level, chip.suspended, chip.waiting) = (0, suspended, !suspended);
+        if let Some(job) = &mut chip.job {
+            job.steps_done = done;
+        }
+        let (edit, content) = (self.any_edit(), Content::Noise(self.rng.next()));
+        self.open(LENGTHS[0], Start::Lent(Box::new(chip), edit), content)?;
+        let events = self.write(|writer| {
+            writer.calm = true;
+            fate(writer);
+        });
+        self.deliver(&events)?;
+        self.close()
+    }
+
     /// The fates of a write status: it has one step and cannot be suspended.
     fn write_status_fates(&mut self) -> Outcome {
         self.open_fresh(LENGTHS[0], 0)?;
-        for fate in [0, 2, 4] {
+        for fate in FATES {
             let events = self.write(|writer| fate_after(writer, Class::WriteStatus, fate, 0));
             self.one_by_one(&events)?;
         }
@@ -183,7 +215,7 @@ impl Session<'_> {
     fn some_fates(&mut self, length: usize) -> Outcome {
         self.open_fresh(length, 0)?;
         let total = Class::Chip.steps(length);
-        for fate in 0..6 {
+        for fate in FATES {
             for k in [0, 1, total / 2, total - 1, self.rng.below(total as usize) as u32] {
                 let events = self.write(|writer| fate_after(writer, Class::Chip, fate, k));
                 self.one_run(&events)?;
@@ -192,7 +224,8 @@ impl Session<'_> {
         self.close()
     }
 
-    /// A chip erase that is suspended and resumed before every step, its status read each time.
+    /// A chip erase with a suspend before every step, its status read in each wait and after it,
+    /// and a resume; the last step ends it in the wait.
     fn erase_walk(&mut self, length: usize) -> Outcome {
         self.open_fresh(length, 0)?;
         let events = self.write(|writer| {
@@ -201,7 +234,8 @@ impl Session<'_> {
         });
         self.one_run(&events)?;
         let (suspend, resume, tick) = (frame_of([0xB0]), frame_of([0x30]), vec![(kind::TICK, 0)]);
-        let one_step = [suspend, frame_of([0x05, 0]), resume, tick].concat();
+        let status = frame_of([0x05, 0]);
+        let one_step = [suspend, status.clone(), tick, status, resume].concat();
         while self.bench.expected.chip.job.is_some() {
             self.one_run(&one_step.repeat(64))?;
         }
@@ -284,12 +318,7 @@ impl Session<'_> {
 /// power cut, or by a job that begins, in the place of a suspended one if there is one.
 const ENDS: [fn(&mut Writer); 9] = [
     |_| {},
-    |writer| {
-        if writer.chip.suspended {
-            writer.frame(&[0x30]);
-        }
-        writer.ticks(writer.steps_left());
-    },
+    |writer| writer.finish_job(),
     |writer| writer.reset(),
     |writer| writer.put(kind::POWER_CUT, 0),
     |writer| begin_here(writer, Class::WriteStatus),
@@ -308,29 +337,51 @@ fn begin_here(writer: &mut Writer, class: Class) {
     }
 }
 
-/// Begins a job, lets it do k steps, and then: 0 suspends, resumes and ends it, 1 suspends it and
-/// begins another, 2 resets, 3 suspends and resets, 4 cuts, 5 suspends and cuts.
-fn fate_after(writer: &mut Writer, class: Class, fate: u32, k: u32) {
+/// Something that becomes of a job.
+type Fate = fn(&mut Writer);
+
+/// What may become of a job: it is suspended, and then resumed and ended, dropped for another, reset
+/// or cut; it is reset or cut while it runs, or in the wait, after a look at it. Where the wait does
+/// the last step, the job is gone before what it was suspended for.
+const FATES: [Fate; 8] = [
+    |writer| {
+        writer.suspend();
+        writer.finish_job();
+    },
+    |writer| {
+        writer.suspend();
+        let next = writer.rng.pick(&LONG_JOBS);
+        writer.drop_by(next);
+    },
+    |writer| {
+        writer.suspend();
+        writer.reset();
+    },
+    |writer| {
+        writer.suspend();
+        writer.put(kind::POWER_CUT, 0);
+    },
+    |writer| writer.reset(),
+    |writer| writer.put(kind::POWER_CUT, 0),
+    |writer| {
+        writer.frame(&[0xB0]);
+        writer.look_at_wait();
+        writer.reset();
+    },
+    |writer| {
+        writer.frame(&[0xB0]);
+        writer.look_at_wait();
+        writer.put(kind::POWER_CUT, 0);
+    },
+];
+
+/// Begins a job, lets it do k steps, and lets a fate come over it.
+fn fate_after(writer: &mut Writer, class: Class, fate: Fate, k: u32) {
     writer.calm = true;
     if writer.chip.level > 0 {
         writer.write_status(0);
     }
     writer.begin(class);
     writer.ticks(k);
-    if matches!(fate, 0 | 1 | 3 | 5) && class != Class::WriteStatus {
-        writer.frame(&[0xB0]);
-    }
-    match fate {
-        0 => {
-            writer.frame(&[0x30]);
-            let left = class.steps(writer.length()) - k;
-            writer.put(kind::TICKS, u64::from(left));
-        }
-        1 => {
-            let next = writer.rng.pick(&LONG_JOBS);
-            writer.drop_by(next);
-        }
-        2 | 3 => writer.reset(),
-        _ => writer.put(kind::POWER_CUT, 0),
-    }
+    fate(writer);
 }

@@ -1,13 +1,13 @@
 // The planned cases about protection: what verdict 9 names, and the room that a deselect is given.
 
-use crate::case::{Content, Start, Step, LENGTHS};
+use crate::case::{Content, Start, LENGTHS};
 use crate::class::{Class, LONG_JOBS};
 use crate::event::{frame_of, kind, script_of, Event, LONGEST};
 use crate::generate::Writer;
 use crate::image::Edit;
 use crate::model::Chip;
 use crate::protection::ends;
-use crate::session::{Failure, Outcome, Session};
+use crate::session::{Outcome, Session, EVERY_ENTRY};
 
 /// A case that is written out: the part's sectors, the status byte that it is fresh from (the level
 /// times 4, and 20h for TB), a frame that is sent after a write enable, and the record of its end.
@@ -54,40 +54,13 @@ impl Session<'_> {
         let events = [frame_of([0x06]), frame_of(frame.iter().copied())].concat();
         let floating = vec![0x80; frame.len()];
         let row = [&[0x80, 0x82, 0x01], &floating[..], record].concat();
-        for entry in [Session::said_alone, Session::said_lent, Session::said_in_a_run] {
+        for entry in EVERY_ENTRY {
             self.open_fresh(sectors * Chip::SECTOR, *status)?;
-            let said = entry(self, &events)?;
-            self.hold_to(&said, &row)?;
+            let said = self.said_at(entry, &events)?;
+            self.hold_to(&said.records, &row)?;
             self.close()?;
         }
         Ok(())
-    }
-
-    /// The records of events that are applied alone.
-    fn said_alone(&mut self, events: &[Event]) -> Result<Vec<u8>, Failure> {
-        self.said_one_by_one(events, false)
-    }
-
-    /// The records of events that are applied to a lent chip.
-    fn said_lent(&mut self, events: &[Event]) -> Result<Vec<u8>, Failure> {
-        self.said_one_by_one(events, true)
-    }
-
-    /// The records of events that are applied one by one.
-    fn said_one_by_one(&mut self, events: &[Event], lent: bool) -> Result<Vec<u8>, Failure> {
-        let mut said = Vec::new();
-        for event in events {
-            let answer = self.step(Step::Event { event: *event, lent, length: None })?;
-            said.extend_from_slice(answer.record.written());
-        }
-        Ok(said)
-    }
-
-    /// The records of events that are run in the exact room.
-    fn said_in_a_run(&mut self, events: &[Event]) -> Result<Vec<u8>, Failure> {
-        let script = script_of(events);
-        let answer = self.step(Step::Run { script, spare: 0, length: None })?;
-        Ok(self.bench.written(&answer).to_vec())
     }
 
     /// A level of a part: jobs on its protected sectors are turned away, those beside begin. A large
@@ -186,7 +159,7 @@ fn begin_beside(writer: &mut Writer) {
             writer.enable();
             let class = writer.rng.pick(&LONG_JOBS[..3]);
             send_job(writer, class, sector);
-            writer.frame(&[0xB0]);
+            writer.suspend();
             turn_away(writer);
             writer.reset();
         }

@@ -64,7 +64,7 @@ pub fn due_record(before: &Chip, length: usize, answered: Record) -> RecordBytes
 }
 
 /// The first record of a row of them, as far as the row goes, and what comes after it.
-fn first_record(row: &[u8]) -> Option<(&[u8], &[u8])> {
+pub fn first_record(row: &[u8]) -> Option<(&[u8], &[u8])> {
     let length = match row.first()? {
         0x80 => 1,
         0x83 => 3,

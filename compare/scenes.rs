@@ -39,7 +39,7 @@ impl Writer<'_> {
     fn allow(&mut self, opcode: u8) {
         self.settle();
         match opcode {
-            0xB0 if !self.running() => {
+            0xB0 if !self.running() || self.chip.waiting => {
                 let class = self.rng.pick(&LONG_JOBS);
                 self.begin(class);
             }
@@ -137,8 +137,7 @@ impl Writer<'_> {
         }
         if self.rng.once_in(3) && self.sector(false).is_some() && !self.chip.suspended {
             let class = self.rng.pick(&LONG_JOBS[..3]);
-            self.begin(class);
-            self.frame(&[0xB0]);
+            self.suspend_job(class);
         }
         if !self.chip.suspended {
             self.idle();
@@ -163,10 +162,12 @@ impl Writer<'_> {
         self.frame(&[0x01, status]);
     }
 
-    /// A suspend with nothing to suspend, a resume with nothing suspended, a reset unarmed.
+    /// A suspend with nothing to suspend or while another waits, a resume with nothing suspended, a
+    /// reset unarmed.
     fn reach_pointless(&mut self, opcode: u8) {
         match opcode {
-            0xB0 if self.rng.once_in(2) => self.begin(Class::WriteStatus),
+            0xB0 if self.rng.once_in(3) => self.begin(Class::WriteStatus),
+            0xB0 if self.rng.once_in(2) => self.begin_wait(),
             0x99 => {
                 self.wake();
                 if self.chip.armed {
@@ -180,7 +181,7 @@ impl Writer<'_> {
 }
 
 /// The scenes that a random row of events is made of.
-pub const SCENES: [fn(&mut Writer); 14] = [
+pub const SCENES: [fn(&mut Writer); 16] = [
     |writer| writer.go_on(),
     |writer| writer.any_cell(),
     |writer| writer.any_cell(),
@@ -193,6 +194,8 @@ pub const SCENES: [fn(&mut Writer); 14] = [
     |writer| writer.long_load(),
     |writer| writer.read_while_running(),
     |writer| writer.spoil_while_suspended(),
+    |writer| writer.wait_some(),
+    |writer| writer.wait_some(),
     |writer| writer.watch_status(),
     |writer| writer.pass_time(),
 ];
@@ -330,7 +333,7 @@ impl Writer<'_> {
         self.outlast_job(opcode);
     }
 
-    /// A frame of an opcode, during which the job that runs ends.
+    /// A frame of an opcode, during which the job that runs ends, or is suspended in a wait.
     pub fn outlast_job(&mut self, opcode: u8) {
         let address = self.address_for(opcode);
         let mut bytes = Self::with_address(opcode, address);
@@ -348,15 +351,10 @@ impl Writer<'_> {
 
     /// A spoiled program sent while a program is suspended, and the end of the suspended one.
     fn spoil_while_suspended(&mut self) {
-        self.begin(Class::Program);
-        let done = self.rng.below(16) as u32;
-        self.ticks(done);
-        self.frame(&[0xB0]);
+        self.suspend_job(Class::Program);
         let opcode = self.rng.pick(&[0x02, 0x0A]);
         self.reach_spoiled_here(opcode);
-        self.frame(&[0x30]);
-        let left = self.steps_left();
-        self.ticks(left);
+        self.finish_job();
     }
 
     /// A loose program frame with data, or one too short, on the chip as it is.
@@ -373,7 +371,7 @@ impl Writer<'_> {
     }
 
     /// A status read with ticks between its bytes.
-    fn watch_status(&mut self) {
+    pub fn watch_status(&mut self) {
         self.settle();
         self.select();
         self.send(&[0x05]);

@@ -21,6 +21,23 @@ pub struct Failure {
 /// What came of a step or a case.
 pub type Outcome = Result<(), Failure>;
 
+/// The ways in which events are put to a side: alone, alone on a lent chip, and in a run.
+#[derive(Clone, Copy)]
+pub enum Entry {
+    Alone,
+    Lent,
+    Run,
+}
+
+/// Every entry point of events.
+pub const EVERY_ENTRY: [Entry; 3] = [Entry::Alone, Entry::Lent, Entry::Run];
+
+/// What events are answered: their records, and the number of their working ticks.
+pub struct Said {
+    pub records: Vec<u8>,
+    pub ticks: u64,
+}
+
 /// The bench, the case that is on it, and all that has occurred.
 pub struct Session<'a> {
     pub bench: Bench<'a>,
@@ -150,6 +167,23 @@ impl<'a> Session<'a> {
     pub fn one_run(&mut self, events: &[Event]) -> Outcome {
         let spare = self.rng.pick(&[0, 0, 0, 1, 2, 7, 100]);
         self.run(script_of(events), spare)
+    }
+
+    /// What events are answered at an entry point; a run is given the exact room.
+    pub fn said_at(&mut self, entry: Entry, events: &[Event]) -> Result<Said, Failure> {
+        if let Entry::Run = entry {
+            let script = script_of(events);
+            let answer = self.step(Step::Run { script, spare: 0, length: None })?;
+            return Ok(Said { records: self.bench.written(&answer).to_vec(), ticks: answer.ticks });
+        }
+        let lent = matches!(entry, Entry::Lent);
+        let mut said = Said { records: Vec::new(), ticks: 0 };
+        for event in events {
+            let answer = self.step(Step::Event { event: *event, lent, length: None })?;
+            said.records.extend_from_slice(answer.record.written());
+            said.ticks += answer.ticks;
+        }
+        Ok(said)
     }
 
     /// Delivers events: one by one, as one run, or as runs one after another. Many events, and

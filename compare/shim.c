@@ -14,7 +14,7 @@ u32 alarm(u32 seconds);
 
 // The chip as the library exports it. The flags are bytes, so that any number can be tried.
 struct chip {
-    u8 tb, srwp, wen, suspended, wp, deep, armed, selected;
+    u8 tb, srwp, wen, suspended, waiting, wp, deep, armed, selected;
     u8 level, kind, value;
     u8 opcode, slot, count, judgement;
     u32 start, done, address;
@@ -65,7 +65,7 @@ static u8 *copy(u8 *to, const u8 *from, u64 length, u8 *next) {
 // Writes the chip to the desk as a list of fields, or takes it from there.
 static void cross(int out) {
     u8 *at = shared + DESK + IMAGE;
-    FIELD(tb); FIELD(srwp); FIELD(wen); FIELD(suspended);
+    FIELD(tb); FIELD(srwp); FIELD(wen); FIELD(suspended); FIELD(waiting);
     FIELD(wp); FIELD(deep); FIELD(armed); FIELD(selected);
     FIELD(level); FIELD(kind); FIELD(value);
     FIELD(opcode); FIELD(slot); FIELD(count); FIELD(judgement);

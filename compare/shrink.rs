@@ -250,7 +250,7 @@ fn smaller_events((kind, body): Event) -> Vec<Event> {
 /// Chips with one part of a lent chip made as in a fresh state, or plain.
 fn plainer_chips(chip: &Chip) -> Vec<Chip> {
     let fresh = Chip::fresh(0);
-    let changes: [fn(&mut Chip, &Chip); 11] = [
+    let changes: [fn(&mut Chip, &Chip); 12] = [
         |chip, fresh| chip.frame = fresh.frame.clone(),
         |chip, fresh| chip.frame.load = fresh.frame.load,
         |chip, _| chip.frame.address = 0,
@@ -259,6 +259,7 @@ fn plainer_chips(chip: &Chip) -> Vec<Chip> {
         |chip, _| chip.srwp = false,
         |chip, _| chip.wp_high = true,
         |chip, _| chip.armed = false,
+        |chip, _| chip.waiting = false,
         |chip, _| chip.job = None,
         |chip, _| {
             if let Some(Job { kind: JobKind::Program(load), .. }) = &mut chip.job {

@@ -18,7 +18,7 @@ const ADDRESSES: u32 = 1 << 24;
 /// The rules of legality, one by one. That the load place is below 256 is none of them: the library
 /// has no room for another. The last two are rules of the library alone: the model has no room for
 /// another job or flag.
-pub const RULES: [Rule; 15] = [
+pub const RULES: [Rule; 18] = [
     ("level at most 7", |chip, _| chip.level <= 7),
     ("job inside memory", |chip, length| job(chip, |job| (job.place as usize) < length)),
     ("job aligned to its size", |chip, _| job(chip, |job| job.place % size(job) == 0)),
@@ -30,6 +30,11 @@ pub const RULES: [Rule; 15] = [
         let class = chip.job.as_ref().map(Class::of);
         !chip.suspended || !matches!(class, None | Some(Class::WriteStatus))
     }),
+    ("waiting means a job", |chip, _| !chip.waiting || chip.job.is_some()),
+    ("waiting means no write status", |chip, _| {
+        !chip.waiting || job(chip, |job| Class::of(job) != Class::WriteStatus)
+    }),
+    ("waiting means not suspended", |chip, _| !chip.waiting || !chip.suspended),
     ("deep means no job", |chip, _| !chip.deep || chip.job.is_none()),
     ("deep means not armed", |chip, _| !chip.deep || !chip.armed),
     ("address below 2^24", |chip, _| chip.frame.address < ADDRESSES),
@@ -105,7 +110,10 @@ pub fn legal_unselected(rng: &mut Rng, length: usize, class: Option<Class>) -> C
     if let Some(class) = class {
         chip.job = Some(legal_job(rng, class, length));
         chip.wen = true;
-        chip.suspended = class != Class::WriteStatus && rng.once_in(2);
+        if class != Class::WriteStatus {
+            let ways = [(false, false), (false, true), (true, false)];
+            (chip.suspended, chip.waiting) = rng.pick(&ways);
+        }
     } else if rng.once_in(4) {
         chip.deep = true;
         chip.armed = false;
@@ -231,6 +239,12 @@ fn broken_jobs(rng: &mut Rng, length: usize) -> Vec<Chip> {
         states.extend(outside_jobs(rng, length, *class));
     }
     states.push(spoilt_job(rng, length, Class::WriteStatus, |chip, _| chip.suspended = true));
+    states.push(spoilt_job(rng, length, Class::WriteStatus, |chip, _| chip.waiting = true));
+    for class in LONG_JOBS {
+        states.push(spoilt_job(rng, length, class, |chip, _| {
+            (chip.suspended, chip.waiting) = (true, true);
+        }));
+    }
     states
 }
 
@@ -267,12 +281,16 @@ fn broken_flags(rng: &mut Rng, length: usize) -> Vec<Chip> {
         chip.level = level;
         states.push(chip);
     }
-    let mut chip = legal_unselected(rng, length, None);
-    chip.suspended = true;
-    states.push(chip);
-    let mut chip = legal_unselected(rng, length, None);
-    (chip.deep, chip.armed) = (true, true);
-    states.push(chip);
+    let changes: [fn(&mut Chip); 3] = [
+        |chip| chip.suspended = true,
+        |chip| chip.waiting = true,
+        |chip| (chip.deep, chip.armed) = (true, true),
+    ];
+    for change in changes {
+        let mut chip = legal_unselected(rng, length, None);
+        change(&mut chip);
+        states.push(chip);
+    }
     states
 }
 
@@ -362,13 +380,15 @@ fn filled_empty_frames(rng: &mut Rng, length: usize, selected: bool) -> [Chip; 9
 fn with_free_flag(rng: &mut Rng, length: usize, flag: usize) -> Chip {
     let class = match FLAGS[flag] {
         "WEN" | "deep" => None,
-        "suspended" => Some(rng.pick(&LONG_JOBS)),
+        "suspended" | "waiting" => Some(rng.pick(&LONG_JOBS)),
         _ => any_class(rng),
     };
     let mut chip = legal_unselected(rng, length, class);
     match FLAGS[flag] {
         "deep" => chip.armed = false,
         "armed" => chip.deep = false,
+        "suspended" => chip.waiting = false,
+        "waiting" => chip.suspended = false,
         _ => {}
     }
     if FLAGS[flag] != "selected" && rng.once_in(2) {
@@ -402,7 +422,7 @@ fn broken_images(rng: &mut Rng, length: usize) -> Vec<(Chip, Edit)> {
 /// States with a job that is none of the five.
 fn unknown_jobs(rng: &mut Rng, length: usize) -> [(Chip, Edit); 4] {
     let change = |chip: &mut Chip, job: &mut Job| {
-        chip.suspended = false;
+        (chip.suspended, chip.waiting) = (false, false);
         job.place = u32::MAX;
     };
     let kinds = [6, 7, 128, 255];
@@ -448,9 +468,10 @@ fn broken_rule(chip: &Chip, length: usize) -> usize {
 
 /// The number of the rule that an edit breaks.
 fn rule_of(edit: &Edit) -> usize {
-    match edit {
-        Edit::Flag(..) => 14,
-        Edit::JobKind(_) => 13,
-        _ => 9,
-    }
+    let broken = match edit {
+        Edit::Flag(..) => "flags that are 0 or 1",
+        Edit::JobKind(_) => "a job that is one of the five",
+        _ => "read place inside",
+    };
+    RULES.iter().position(|(name, _)| *name == broken).expect("a rule of the list")
 }

@@ -149,6 +149,8 @@ pub struct Chip {
     pub armed: bool,
     pub selected: bool,
     pub suspended: bool,
+    /// The waiting mark: a suspend is accepted, but the job still has the next tick's step to do.
+    pub waiting: bool,
     pub job: Option<Job>,
     pub frame: Frame,
 }
@@ -334,6 +336,7 @@ impl Chip {
             armed: false,
             selected: false,
             suspended: false,
+            waiting: false,
             job: None,
             frame: Frame::EMPTY,
         };
@@ -362,6 +365,7 @@ impl Chip {
         };
         job_legal
             && (!self.suspended || self.has_program_or_erase())
+            && (!self.waiting || self.runs_program_or_erase())
             && !(self.deep && self.armed)
             && self.frame.legal(memory_length)
             && (self.selected || self.frame == Frame::EMPTY)
@@ -374,7 +378,7 @@ impl Chip {
         self.srwp = status & 0x80 != 0;
     }
 
-    /// Whether a job is running, that is, present and not suspended.
+    /// Whether a job is running, that is, present and not suspended. In the wait it still is.
     fn running(&self) -> bool {
         self.job.is_some() && !self.suspended
     }
@@ -382,6 +386,11 @@ impl Chip {
     /// Whether the job, running or suspended, is a program or erase.
     fn has_program_or_erase(&self) -> bool {
         matches!(&self.job, Some(job) if !matches!(job.kind, JobKind::WriteStatus(_)))
+    }
+
+    /// Whether a program or erase is running, the only job that a suspend can act on.
+    fn runs_program_or_erase(&self) -> bool {
+        self.running() && self.has_program_or_erase()
     }
 
     /// The job that an accepted frame would begin, if its opcode begins one.
@@ -430,11 +439,12 @@ impl Chip {
         }
     }
 
-    /// Drops the job and clears WEN and SUS, as a reset does.
+    /// Drops the job and clears WEN, SUS and the waiting mark, as a reset does.
     fn reset(&mut self) {
         self.job = None;
         self.wen = false;
         self.suspended = false;
+        self.waiting = false;
     }
 
     /// Leaves the chip unselected with the empty frame.
@@ -487,7 +497,7 @@ pub(crate) fn verdict(chip: &Chip, memory_length: usize, loose: bool) -> u8 {
     }
     match chip.job_of_frame(memory_length) {
         Some(job) => judge_job(chip, &job, memory_length),
-        None => judge_at_once(chip),
+        None => judge_without_job(chip),
     }
 }
 
@@ -523,10 +533,11 @@ fn judge_job(chip: &Chip, job: &Job, memory_length: usize) -> u8 {
     }
 }
 
-/// The verdict on a frame of the right length that would be done at once.
-fn judge_at_once(chip: &Chip) -> u8 {
+/// The verdict on a frame of the right length that would begin no job. A suspend that waits already
+/// leaves a second one nothing to act on.
+fn judge_without_job(chip: &Chip) -> u8 {
     let acceptable = match chip.frame.opcode {
-        opcode::SUSPEND => chip.running() && chip.has_program_or_erase(),
+        opcode::SUSPEND => chip.runs_program_or_erase() && !chip.waiting,
         opcode::RESUME => chip.suspended,
         opcode::RESET => chip.armed,
         _ => true,
@@ -550,7 +561,8 @@ fn deselect(chip: &mut Chip, memory_length: usize, loose: bool) -> Record {
     let verdict = verdict(chip, memory_length, loose);
     let record = verdict_record(chip, memory_length, verdict);
     match verdict {
-        1 => do_at_once(chip),
+        1 => do_accepted(chip),
+        // No mark to clear here: in the wait the part is running, and no job begins then.
         2 => {
             chip.job = chip.job_of_frame(memory_length);
             chip.suspended = false;
@@ -564,12 +576,13 @@ fn deselect(chip: &mut Chip, memory_length: usize, loose: bool) -> Record {
     record
 }
 
-/// Does what a frame with verdict 1 asks for, arming aside.
-fn do_at_once(chip: &mut Chip) {
+/// Does what a frame with verdict 1 asks for, arming aside. Of a suspend that is the waiting mark
+/// alone; the job is suspended by the next tick.
+fn do_accepted(chip: &mut Chip) {
     match chip.frame.opcode {
         opcode::WRITE_ENABLE => chip.wen = true,
         opcode::WRITE_DISABLE => chip.wen = false,
-        opcode::SUSPEND => chip.suspended = true,
+        opcode::SUSPEND => chip.waiting = true,
         opcode::RESUME => chip.suspended = false,
         opcode::DEVICE_ID => chip.deep = false,
         opcode::DEEP_POWER_DOWN => chip.deep = true,
@@ -610,7 +623,8 @@ fn exchange(chip: &mut Chip, memory: &[u8], area: &[u8], byte: u8) -> Record {
     Record::Floating
 }
 
-/// Lets ticks pass and gives the number of working ticks among them.
+/// Lets ticks pass, one or more, and gives the number of working ticks among them. In the wait only
+/// the first can work: the others find the job suspended, or ended if that step was its last.
 fn pass_ticks(chip: &mut Chip, memory: &mut [u8], ticks: u64) -> u64 {
     if chip.suspended {
         return 0;
@@ -619,22 +633,33 @@ fn pass_ticks(chip: &mut Chip, memory: &mut [u8], ticks: u64) -> u64 {
         return 0;
     };
     let steps_left = job.total_steps(memory.len()) - job.steps_done;
-    let steps = ticks.min(u64::from(steps_left)) as u32;
+    let most_steps = if chip.waiting { 1 } else { steps_left };
+    let steps = ticks.min(u64::from(most_steps)) as u32;
     job.do_steps(memory, steps);
     job.steps_done += steps;
     if steps == steps_left {
         end_job(chip);
+    } else if chip.waiting {
+        end_wait(chip);
     }
     u64::from(steps)
 }
 
-/// Ends a job after its last step, which for a write status sets the bits.
+/// Ends a job after its last step, which for a write status sets the bits. A suspend that waited
+/// for that step has come too late and is forgotten.
 fn end_job(chip: &mut Chip) {
     if let Some(Job { kind: JobKind::WriteStatus(value), .. }) = chip.job {
         chip.set_status(value);
     }
     chip.job = None;
     chip.wen = false;
+    chip.waiting = false;
+}
+
+/// Suspends a job after the step that its suspend waited for, where steps are left.
+fn end_wait(chip: &mut Chip) {
+    chip.waiting = false;
+    chip.suspended = true;
 }
 
 /// Cuts the power and powers the chip up again.

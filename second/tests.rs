@@ -10,6 +10,9 @@ mod program;
 #[path = "sfdp.rs"]
 mod sfdp;
 
+#[path = "wait_tests.rs"]
+mod wait_tests;
+
 #[path = "writer.rs"]
 mod writer;
 
@@ -92,6 +95,13 @@ impl Bench {
         self.apply(5, count).1
     }
 
+    /// Suspends a job with more than one step left: B0h, and the tick whose step is still done.
+    fn suspend(&mut self) {
+        assert_eq!(self.frame(&[0xB0]), 1);
+        assert_eq!(self.apply(4, 0), (Record::None, 1));
+        assert!(self.chip.suspended);
+    }
+
     /// The status byte as a 05h frame reads it.
     fn status(&mut self) -> u8 {
         let records = self.send(&[0x05, 0]);
@@ -144,6 +154,21 @@ fn addressed(opcode: u8, address: u32, data: &[u8]) -> Vec<u8> {
     bytes.extend(&address.to_be_bytes()[1..]);
     bytes.extend(data);
     bytes
+}
+
+/// Data of that length in which every value comes, neighbours differ and pages differ.
+fn mixed(length: usize) -> Vec<u8> {
+    (0..length).map(|j| (j * 37 + j / 256 * 11 + 5) as u8).collect()
+}
+
+/// A fresh bench of that many sectors whose cells are not blank and differ from page to page.
+fn used_bench(sectors: usize, status: u8) -> Bench {
+    let mut bench = Bench::new(sectors, status);
+    for (page, cells) in bench.memory.chunks_exact_mut(256).enumerate() {
+        let cell = |offset: usize| (offset * 89 + page * 53 + 0x30) as u8 | 0x18;
+        cells.iter_mut().enumerate().for_each(|(offset, byte)| *byte = cell(offset));
+    }
+    bench
 }
 
 /// Small repeatable random numbers.
@@ -200,6 +225,8 @@ fn p3_status_through_a_program() {
     assert_eq!(bench.frame(&addressed(0x02, 0, &[0])), 2);
     assert_eq!(bench.status(), 0x03);
     assert_eq!(bench.frame(&[0xB0]), 1);
+    assert_eq!(bench.status(), 0x03);
+    assert_eq!(bench.apply(4, 0), (Record::None, 1));
     assert_eq!(bench.status(), 0x42);
 }
 
@@ -527,25 +554,28 @@ fn verdict_5_deep() {
     assert_eq!(bench.status(), 0);
 }
 
+/// Every opcode that has a command.
+const OPCODES: [u8; 21] = [
+    0x06, 0x04, 0x05, 0x01, 0x03, 0x0B, 0x20, 0xD7, 0xD8, 0x60, 0xC7, 0x02, 0x0A, 0xB0, 0x30, 0x9F,
+    0xAB, 0x5A, 0xB9, 0x66, 0x99,
+];
+/// The opcodes whose commands are taken while running.
+const RUNNING_YES: [u8; 4] = [0x05, 0xB0, 0x66, 0x99];
+
 #[test]
 fn verdicts_6_and_7_by_the_table() {
-    let running_yes = [0x05, 0xB0, 0x66, 0x99];
     let suspended_yes = [
         0x05, 0x03, 0x0B, 0x20, 0xD7, 0xD8, 0x60, 0xC7, 0x02, 0x0A, 0x30, 0x66, 0x99,
-    ];
-    let all = [
-        0x06, 0x04, 0x05, 0x01, 0x03, 0x0B, 0x20, 0xD7, 0xD8, 0x60, 0xC7, 0x02, 0x0A, 0xB0, 0x30,
-        0x9F, 0xAB, 0x5A, 0xB9, 0x66, 0x99,
     ];
     let mut bench = Bench::new(1, 0);
     bench.frame(&[0x06]);
     bench.frame(&[0x60]);
-    for opcode in all {
+    for opcode in OPCODES {
         let mut one = bench.clone();
-        assert_eq!(one.frame(&[opcode]) == 6, !running_yes.contains(&opcode));
+        assert_eq!(one.frame(&[opcode]) == 6, !RUNNING_YES.contains(&opcode));
     }
-    bench.frame(&[0xB0]);
-    for opcode in all {
+    bench.suspend();
+    for opcode in OPCODES {
         let mut one = bench.clone();
         assert_eq!(one.frame(&[opcode]) == 7, !suspended_yes.contains(&opcode));
     }
@@ -688,8 +718,8 @@ fn verdict_9_changes_nothing_but_the_arming() {
         assert!(bench.chip == before.chip && bench.memory == before.memory);
     }
     assert_eq!(bench.frame(&addressed(0x20, 0, &[])), 2);
-    assert_eq!(bench.ticks(3), 3);
-    bench.frame(&[0xB0]);
+    assert_eq!(bench.ticks(2), 2);
+    bench.suspend();
     let before = bench.clone();
     for bytes in &frames {
         assert_eq!(bench.frame_record(bytes), protected);
@@ -807,7 +837,7 @@ fn verdict_12_only_outside_the_legal_states() {
     let mut bench = Bench::new(1, 0);
     bench.frame(&[0x06]);
     bench.frame(&[0x60]);
-    bench.frame(&[0xB0]);
+    bench.suspend();
     bench.send(&[0x20, 0, 0, 0]);
     let length = bench.memory.len();
     assert_eq!(model::verdict(&bench.chip, length, false), 2);
@@ -864,8 +894,8 @@ fn reset_and_power_cut_drop_the_job() {
         bench.apply(6, 0);
         bench.frame(&[0x06]);
         assert_eq!(bench.frame(&[0xC7]), 2);
-        bench.ticks(3);
-        bench.frame(&[0xB0]);
+        bench.ticks(2);
+        bench.suspend();
         assert_eq!(bench.frame(&[0x66]), 1);
         if cut {
             bench.send(&[0x02, 1, 2, 3, 4]);
@@ -891,13 +921,12 @@ fn suspend_resume_and_a_new_job() {
     bench.memory.fill(0);
     bench.frame(&[0x06]);
     bench.frame(&[0x20, 0, 0, 0]);
-    bench.ticks(2);
-    bench.frame(&[0xB0]);
+    bench.ticks(1);
+    bench.suspend();
     assert_eq!(bench.ticks(500), 0);
     assert_eq!(bench.frame(&[0x30]), 1);
     assert_eq!(bench.status(), 0x03);
-    assert_eq!(bench.ticks(1), 1);
-    bench.frame(&[0xB0]);
+    bench.suspend();
     assert_eq!(bench.frame(&[0x20, 0, 0x20, 0]), 2);
     assert_eq!(bench.status(), 0x03);
     assert_eq!(bench.ticks(500), 16);
@@ -945,8 +974,8 @@ fn error_spoiled_frame_over_a_suspended_load() {
     let mut bench = Bench::new(1, 0);
     bench.frame(&[0x06]);
     bench.frame(&addressed(0x02, 0, &[0x11; 256]));
-    bench.ticks(4);
-    bench.frame(&[0xB0]);
+    bench.ticks(3);
+    bench.suspend();
     bench.send(&addressed(0x02, 0, &[0x22; 256]));
     assert_eq!(bench.end_loose(), 4);
     assert_eq!(bench.frame(&addressed(0x02, 0, &[])), 4);
@@ -1056,6 +1085,10 @@ fn fresh_keeps_its_bits() {
     }
 }
 
+/// A small sector erase and its suspend, which random frames in a row seldom are.
+const ERASE_AND_SUSPEND: [u8; 18] =
+    [1, 2, 0x06, 3, 1, 2, 0x20, 2, 0, 2, 0x30, 2, 0, 3, 1, 2, 0xB0, 3];
+
 /// A random script of mostly sensible frames.
 fn random_script(dice: &mut Dice) -> Vec<u8> {
     let opcodes = [
@@ -1064,10 +1097,16 @@ fn random_script(dice: &mut Dice) -> Vec<u8> {
     ];
     let mut script = Vec::new();
     for _ in 0..60 {
+        if dice.below(20) == 0 {
+            script.extend(ERASE_AND_SUSPEND);
+        }
         script.push(1);
         script.extend([2, opcodes[dice.below(opcodes.len() as u64) as usize]]);
         for _ in 0..[0, 0, 1, 3, 4, dice.below(9)][dice.below(6) as usize] {
             script.extend([2, dice.below(256) as u8]);
+        }
+        if dice.below(8) == 0 {
+            script.push(4);
         }
         match dice.below(12) {
             0 => script.extend([8, 1 + dice.below(7) as u8]),
@@ -1084,20 +1123,39 @@ fn random_script(dice: &mut Dice) -> Vec<u8> {
     script
 }
 
+/// The events of a good script, each a kind and a body.
+fn events_of(script: &[u8]) -> Vec<(u64, u64)> {
+    let mut events = Vec::new();
+    let mut rest = script;
+    while let [kind, after @ ..] = rest {
+        let (body, next) = after.split_at(model::body_length(*kind).unwrap());
+        let value = body.iter().fold(0, |value, byte| value * 256 + u64::from(*byte));
+        events.push((u64::from(*kind), value));
+        rest = next;
+    }
+    events
+}
+
 /// The room of a good script: 2 an exchange, 3 a deselect, clean or loose.
 fn room_of(script: &[u8]) -> usize {
-    let (mut room, mut offset) = (0, 0);
-    while offset < script.len() {
-        room += [0, 0, 2, 3, 0, 0, 0, 0, 3][usize::from(script[offset])];
-        offset += 1 + model::body_length(script[offset]).unwrap();
+    events_of(script).iter().map(|(kind, _)| [0, 0, 2, 3, 0, 0, 0, 0, 3][*kind as usize]).sum()
+}
+
+/// The output bytes of a record.
+fn bytes_of(record: Record) -> Vec<u8> {
+    match record {
+        Record::None => vec![],
+        Record::Floating => vec![0x80],
+        Record::Driven(byte) => vec![0x81, byte],
+        Record::Verdict(verdict) => vec![0x82, verdict],
+        Record::Protected { first, last } => vec![0x83, first, last],
     }
-    room
 }
 
 #[test]
 fn a_run_is_its_events_one_by_one() {
     let mut dice = Dice(1);
-    let mut protected = 0;
+    let (mut protected, mut waits) = (0, 0);
     for _ in 0..300 {
         let sectors = 1 << dice.below(3);
         let script = random_script(&mut dice);
@@ -1112,30 +1170,20 @@ fn a_run_is_its_events_one_by_one() {
         let mut output = vec![0; room];
         let answer = run(&mut whole.chip, &mut whole.memory, &whole.area, &script, &mut output);
         assert_eq!(answer.refusal, 0);
-        let (mut records, mut ticks, mut offset) = (Vec::new(), 0, 0);
-        while offset < script.len() {
-            let length = model::body_length(script[offset]).unwrap();
-            let body = &script[offset + 1..][..length];
-            let body = body.iter().fold(0, |value, byte| value * 256 + u64::from(*byte));
-            let (record, worked) = single.apply(u64::from(script[offset]), body);
+        let (mut records, mut ticks) = (Vec::new(), 0);
+        for (kind, body) in events_of(&script) {
+            let waited = single.chip.waiting;
+            let (record, worked) = single.apply(kind, body);
+            records.extend(bytes_of(record));
             ticks += worked;
-            match record {
-                Record::None => {}
-                Record::Floating => records.push(0x80),
-                Record::Driven(byte) => records.extend([0x81, byte]),
-                Record::Verdict(verdict) => records.extend([0x82, verdict]),
-                Record::Protected { first, last } => {
-                    records.extend([0x83, first, last]);
-                    protected += 1;
-                }
-            }
-            offset += 1 + length;
+            protected += usize::from(matches!(record, Record::Protected { .. }));
+            waits += usize::from(waited && worked == 1);
         }
         assert_eq!(records, output[..answer.written]);
         assert_eq!(ticks, answer.ticks);
         assert!(whole.chip == single.chip && whole.memory == single.memory);
     }
-    assert!(protected > 20, "{protected}");
+    assert!(protected > 20 && waits > 20, "{protected} {waits}");
 }
 
 /// A random legal state, most of them out of reach from a fresh one.
@@ -1144,7 +1192,7 @@ fn random_chip(dice: &mut Dice, memory_length: usize) -> Chip {
         let mut chip = Chip::fresh(dice.below(256) as u8);
         let mut flag = || dice.below(2) == 1;
         (chip.wen, chip.wp_high, chip.deep, chip.armed) = (flag(), flag(), flag(), flag());
-        (chip.selected, chip.suspended) = (flag(), flag());
+        (chip.selected, chip.suspended, chip.waiting) = (flag(), flag(), flag());
         let kind = match dice.below(7) {
             0 => Some(JobKind::Program([dice.below(256) as u8; 256])),
             1 => Some(JobKind::SmallSectorErase),
@@ -1307,11 +1355,13 @@ fn sfdp_judged_at_the_opcode_byte() {
     bench.frame(&[0x06]);
     bench.frame(&[0x60]);
     floats(&mut bench, 6);
-    bench.frame(&[0xB0]);
+    assert_eq!(bench.frame(&[0xB0]), 1);
+    floats(&mut bench, 6);
+    assert_eq!(bench.ticks(1), 1);
     floats(&mut bench, 7);
     bench.frame(&[0x30]);
     bench.send(&[0x5A]);
-    assert_eq!(bench.ticks(256), 256);
+    assert_eq!(bench.ticks(256), 255);
     for _ in 0..8 {
         assert_eq!(bench.apply(2, 0).0, Record::Floating);
     }
@@ -1321,10 +1371,15 @@ fn sfdp_judged_at_the_opcode_byte() {
 
 #[test]
 fn sfdp_frame_unjudged_on_a_busy_state() {
-    let states: [(u8, fn(&mut Chip)); 3] = [
+    let states: [(u8, fn(&mut Chip)); 4] = [
         (5, |chip| chip.deep = true),
         (6, |chip| {
             chip.wen = true;
+            chip.job = Some(Job { kind: JobKind::ChipErase, place: 0, steps_done: 0 });
+        }),
+        (6, |chip| {
+            chip.wen = true;
+            chip.waiting = true;
             chip.job = Some(Job { kind: JobKind::ChipErase, place: 0, steps_done: 0 });
         }),
         (7, |chip| {

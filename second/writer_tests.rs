@@ -3,7 +3,7 @@
 use super::model::{run, Chip, RunAnswer};
 use super::sfdp::CONTENT;
 use super::writer::{script_of, write_program, Written, LONGEST_DATA};
-use super::{protected_walk, refused, room_of, Bench, Dice, REAL, SECTORS};
+use super::{mixed, protected_walk, refused, room_of, used_bench, Bench, Dice, REAL, SECTORS};
 
 /// The lengths of data that the tests go through, on each side of a page and at both ends.
 const DATA_LENGTHS: [usize; 6] = [0, 1, 255, 256, 257, 4_096];
@@ -13,11 +13,6 @@ const AMPLE: usize = 20_000;
 /// The lengths that a memory may have.
 fn memory_lengths() -> [usize; 6] {
     SECTORS.map(|sectors| sectors * Chip::SECTOR)
-}
-
-/// Data of that length in which every value comes, neighbours differ and pages differ.
-fn mixed(length: usize) -> Vec<u8> {
-    (0..length).map(|j| (j * 37 + j / 256 * 11 + 5) as u8).collect()
 }
 
 /// The number of pages that a range touches, each of which takes a piece.
@@ -373,16 +368,6 @@ fn check_cells(before: &[u8], after: &[u8], address: usize, data: &[u8]) {
     for (j, byte) in data.iter().enumerate() {
         assert_eq!(after[address + j], before[address + j] & byte, "{address} {j}");
     }
-}
-
-/// A fresh bench of that many sectors whose cells are not blank and differ from page to page.
-fn used_bench(sectors: usize, status: u8) -> Bench {
-    let mut bench = Bench::new(sectors, status);
-    for (page, cells) in bench.memory.chunks_exact_mut(256).enumerate() {
-        let cell = |offset: usize| (offset * 89 + page * 53 + 0x30) as u8 | 0x18;
-        cells.iter_mut().enumerate().for_each(|(offset, byte)| *byte = cell(offset));
-    }
-    bench
 }
 
 #[test]

@@ -10,7 +10,7 @@ use Rattle.chip.specs.declared.Core.{Core}
 use Rattle.chip.specs.declared.Frame.{Frame}
 use Rattle.chip.specs.Fields.{withLevel, withTb, withSrwp}
 use Rattle.chip.specs.declared.JobKind.the-variants.{Idle, Program}
-use Rattle.chip.specs.Job.{isJob, noJob}
+use Rattle.chip.specs.Job.{isJob, hasCells, noJob}
 
 -- the chip of its four parts: core, frame, the frame's load, the job's load
 abbrev pub whole : Core → Frame → List ℕ → List ℕ → Chip
@@ -43,7 +43,7 @@ withBits byte k = withLevel (bitsIn byte .level) (withTb (bitsIn byte .tb) (with
 
 -- the core at rest, with none of the kept bits: WP is high
 abbrev pub resting : Core
-resting = record { level = 0; tb = false; srwp = false; wen = false; suspended = false; wp = true; deep = false; armed = false; job = noJob }
+resting = record { level = 0; tb = false; srwp = false; wen = false; suspended = false; waiting = false; wp = true; deep = false; armed = false; job = noJob }
 
 -- a fresh state takes the kept bits from any byte
 unfoldable pub fresh : ℕ → Chip
@@ -52,6 +52,10 @@ fresh status = whole (withBits status resting) emptyFrame blankLoad blankLoad
 -- whether a job runs: there is one, and it is not suspended
 abbrev pub running : Core → Bool
 running k = isJob (k .job .kind) && not (k .suspended)
+
+-- whether a program or an erase runs: what a suspend acts on, and what alone waits for its tick (RULES, Jobs)
+abbrev pub suspendable : Core → Bool
+suspendable k = running k && hasCells (k .job .kind)
 
 -- the status byte, from RDY in bit 0 to SRWP in bit 7 (RULES, Status)
 unfoldable pub statusByte : Core → ℕ

@@ -9,39 +9,43 @@ use Rattle.chip.specs.declared.Job.{Job}
 
 abbrev pub withLevel : ℕ → Core → Core
 withLevel level k =
-    record { level = level; tb = k .tb; srwp = k .srwp; wen = k .wen; suspended = k .suspended; wp = k .wp; deep = k .deep; armed = k .armed; job = k .job }
+    record { level = level; tb = k .tb; srwp = k .srwp; wen = k .wen; suspended = k .suspended; waiting = k .waiting; wp = k .wp; deep = k .deep; armed = k .armed; job = k .job }
 
 abbrev pub withTb : Bool → Core → Core
 withTb tb k =
-    record { level = k .level; tb = tb; srwp = k .srwp; wen = k .wen; suspended = k .suspended; wp = k .wp; deep = k .deep; armed = k .armed; job = k .job }
+    record { level = k .level; tb = tb; srwp = k .srwp; wen = k .wen; suspended = k .suspended; waiting = k .waiting; wp = k .wp; deep = k .deep; armed = k .armed; job = k .job }
 
 abbrev pub withSrwp : Bool → Core → Core
 withSrwp srwp k =
-    record { level = k .level; tb = k .tb; srwp = srwp; wen = k .wen; suspended = k .suspended; wp = k .wp; deep = k .deep; armed = k .armed; job = k .job }
+    record { level = k .level; tb = k .tb; srwp = srwp; wen = k .wen; suspended = k .suspended; waiting = k .waiting; wp = k .wp; deep = k .deep; armed = k .armed; job = k .job }
 
 abbrev pub withWen : Bool → Core → Core
 withWen wen k =
-    record { level = k .level; tb = k .tb; srwp = k .srwp; wen = wen; suspended = k .suspended; wp = k .wp; deep = k .deep; armed = k .armed; job = k .job }
+    record { level = k .level; tb = k .tb; srwp = k .srwp; wen = wen; suspended = k .suspended; waiting = k .waiting; wp = k .wp; deep = k .deep; armed = k .armed; job = k .job }
 
 abbrev pub withSuspended : Bool → Core → Core
 withSuspended suspended k =
-    record { level = k .level; tb = k .tb; srwp = k .srwp; wen = k .wen; suspended = suspended; wp = k .wp; deep = k .deep; armed = k .armed; job = k .job }
+    record { level = k .level; tb = k .tb; srwp = k .srwp; wen = k .wen; suspended = suspended; waiting = k .waiting; wp = k .wp; deep = k .deep; armed = k .armed; job = k .job }
+
+abbrev pub withWaiting : Bool → Core → Core
+withWaiting waiting k =
+    record { level = k .level; tb = k .tb; srwp = k .srwp; wen = k .wen; suspended = k .suspended; waiting = waiting; wp = k .wp; deep = k .deep; armed = k .armed; job = k .job }
 
 abbrev pub withWp : Bool → Core → Core
 withWp wp k =
-    record { level = k .level; tb = k .tb; srwp = k .srwp; wen = k .wen; suspended = k .suspended; wp = wp; deep = k .deep; armed = k .armed; job = k .job }
+    record { level = k .level; tb = k .tb; srwp = k .srwp; wen = k .wen; suspended = k .suspended; waiting = k .waiting; wp = wp; deep = k .deep; armed = k .armed; job = k .job }
 
 abbrev pub withDeep : Bool → Core → Core
 withDeep deep k =
-    record { level = k .level; tb = k .tb; srwp = k .srwp; wen = k .wen; suspended = k .suspended; wp = k .wp; deep = deep; armed = k .armed; job = k .job }
+    record { level = k .level; tb = k .tb; srwp = k .srwp; wen = k .wen; suspended = k .suspended; waiting = k .waiting; wp = k .wp; deep = deep; armed = k .armed; job = k .job }
 
 abbrev pub withArmed : Bool → Core → Core
 withArmed armed k =
-    record { level = k .level; tb = k .tb; srwp = k .srwp; wen = k .wen; suspended = k .suspended; wp = k .wp; deep = k .deep; armed = armed; job = k .job }
+    record { level = k .level; tb = k .tb; srwp = k .srwp; wen = k .wen; suspended = k .suspended; waiting = k .waiting; wp = k .wp; deep = k .deep; armed = armed; job = k .job }
 
 abbrev pub withJob : Job → Core → Core
 withJob job k =
-    record { level = k .level; tb = k .tb; srwp = k .srwp; wen = k .wen; suspended = k .suspended; wp = k .wp; deep = k .deep; armed = k .armed; job = job }
+    record { level = k .level; tb = k .tb; srwp = k .srwp; wen = k .wen; suspended = k .suspended; waiting = k .waiting; wp = k .wp; deep = k .deep; armed = k .armed; job = job }
 
 -- ---- the frame
 

@@ -4,7 +4,7 @@ ghost use mathlib.Core.Bool.{cond};
 ghost use Prim.Native.Nat.{_≤_};
 ghost use lib.ListN.{length};
 ghost use Rattle.chip.specs.Job.{isJob, hasCells, total, noJob};
-ghost use Rattle.chip.specs.Chip.{fresh, emptyFrame, withBits, running, statusByte};
+ghost use Rattle.chip.specs.Chip.{fresh, emptyFrame, withBits, running, suspendable, statusByte};
 ghost use Rattle.chip.specs.Record.{recordBytes, longestRecord};
 
 // What a job does; a write status job holds the byte that it will set.
@@ -24,13 +24,14 @@ pub struct Job {
     pub done: u32,
 }
 
-// All of the state but the frame and the two loads.
+// All of the state but the frame and the two loads; `waiting` marks an accepted suspend whose tick has not come.
 pub struct Core {
     pub level: u8,
     pub tb: bool,
     pub srwp: bool,
     pub wen: bool,
     pub suspended: bool,
+    pub waiting: bool,
     pub wp: bool,
     pub deep: bool,
     pub armed: bool,
@@ -80,6 +81,7 @@ impl Chip {
             srwp: false,
             wen: false,
             suspended: false,
+            waiting: false,
             wp: true,
             deep: false,
             armed: false,
@@ -180,6 +182,15 @@ pub fn is_running(core: Core) -> bool
     let job = core.job;
     let kind = job.kind;
     is_job(kind) & !core.suspended
+}
+
+// Whether a program or an erase runs.
+pub fn is_suspendable(core: Core) -> bool
+    ensures { λ r. ⌜ r ≡ suspendable core ⌝ }
+{
+    let job = core.job;
+    let kind = job.kind;
+    is_running(core) & has_cells(kind)
 }
 
 // The number of bytes of a record.

@@ -23,7 +23,7 @@ use Rattle.chip.specs.Chip.{blankLoad, fresh, running, NoLeftovers}
 use Rattle.legal.specs.Legal.{legal, judgementKnown}
 use Rattle.legal.specs.Legality.{chip-facts}
 use Rattle.job.specs.Tick.{ticksCore, ticksLoad, ticksLeft}
-use Rattle.job.specs.Laws.{ticks-rest, ticksLoad-rest, ticks-go, ticksLoad-go, ticks-over, ticksLoad-over, ended-none}
+use Rattle.job.specs.Laws.{Stop, pauses, ends, stop-of, ticks-rest, ticksLoad-rest, ticks-go, ticksLoad-go, ticks-pause, ticksLoad-pause, ticks-end, ticksLoad-end, ended-none}
 use Rattle.job.specs.Legality.{running-job}
 use Rattle.verdict.specs.Verdict.{jobOf, jobAsked, verdict}
 use Rattle.verdict.specs.Effect.{instantly, acted, settled, heldAfter}
@@ -46,15 +46,18 @@ module _ (j : Job) (held : List ℕ) where
   fated {j₁} {j₂} {h₁} {h₂} e d f = subst (λ (q : Job). Fate j held q h₂) (sym e) (subst (λ (l : List ℕ). Fate j held j₁ l) (sym d) f)
 
 ticks-fate : (S n : ℕ) (k : Core) (held : List ℕ) → Fate (k .job) held (ticksCore S n k .job) (ticksLoad S n k held)
-ticks-fate S n k held = go (running k) refl (decLt n (ticksLeft S k))
+ticks-fate S n k held = go (running k) refl (decLt n (ticksLeft S k)) (stop-of S k)
   where
     job-of : Core → Job
     job-of q = q .job
 
-    go : (b : Bool) → running k ≡ b → Dec (n < ticksLeft S k) → Fate (k .job) held (ticksCore S n k .job) (ticksLoad S n k held)
-    go false r d = fated (k .job) held (ap job-of (ticks-rest S n k r)) (ticksLoad-rest S n k held r) stays
-    go true r (yes l) = fated (k .job) held (ap job-of (ticks-go S k r n l)) (ticksLoad-go S k r held n l) (moves _ (running-job k r))
-    go true r (no l) = fated (k .job) held (ap job-of (ticks-over S k r n (omega arith)) ∙ ended-none (k .job .kind) k) (ticksLoad-over S k r n (omega arith) held) gone
+    go : (b : Bool) → running k ≡ b → Dec (n < ticksLeft S k) → Stop S k → Fate (k .job) held (ticksCore S n k .job) (ticksLoad S n k held)
+    go false r d s = fated (k .job) held (ap job-of (ticks-rest S n k r)) (ticksLoad-rest S n k held r) stays
+    go true r (yes l) s = fated (k .job) held (ap job-of (ticks-go S k r n l)) (ticksLoad-go S k r held n l) (moves _ (running-job k r))
+    go true r (no l) (pauses waits more) =
+        fated (k .job) held (ap job-of (ticks-pause S k r n (omega arith) waits more)) (ticksLoad-pause S k r n (omega arith) held waits more) (moves _ (running-job k r))
+    go true r (no l) (ends all) =
+        fated (k .job) held (ap job-of (ticks-end S k r n (omega arith) all) ∙ ended-none (k .job .kind) k) (ticksLoad-end S k r n (omega arith) held all) gone
 
 -- ---- a deselect
 

@@ -57,12 +57,13 @@ module _ (T : Setting) (c : Chip) (m : List ℕ) (some : 1 ≤ T .sectors) (l : 
         job-unfinished = l .core-part .job-unfinished;
         job-enabled = l .core-part .job-enabled;
         suspended-cells = l .core-part .suspended-cells;
+        waiting-runs = l .core-part .waiting-runs;
         deep-idle = l .core-part .deep-idle;
         deep-unarmed = l .core-part .deep-unarmed;
       }
 
   power-legal : LegalCore S (poweredUp (c .core))
-  power-legal = idle-legal S (poweredUp (c .core)) refl (l .core-part .level-small) refl (λ _. refl)
+  power-legal = idle-legal S (poweredUp (c .core)) refl (l .core-part .level-small) refl refl (λ _. refl)
 
   abbrev Stays : Outcome → Type 0
   Stays o = LegalOn S (o .chip)

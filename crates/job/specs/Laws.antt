@@ -1,11 +1,12 @@
 -- What is true of ticks: n of them in closed form, n + m of them in two parts, and what they leave alone.
 use Prim.Native.Nat.{ℕ, zero, suc, _+_, _*_, _<_, _≤_, _-_}
-use mathlib.Core.Bool.{true, false, cond, not, _&&_}
+use mathlib.Core.Bool.{Bool, true, false, cond, not, _&&_}
 use mathlib.Core.List.{List}
 use mathlib.Core.Path.{_≡_, refl, sym, ap, _∙_}
 use native.Mathlib.Nat.{add-zero, add-suc, add-assoc, zero-mul, mul-zero, add-mul}
 use native.Mathlib.Numerals.{add-one}
 use native.Mathlib.Omega.{arith}
+use native.Mathlib.Decide.{decLt}
 use lib.Dec.{ltb}
 use lib.ListN.{length}
 use borrow.Author.Tests.{lt-ltb, le-ltb}
@@ -18,7 +19,7 @@ use Rattle.chip.specs.declared.JobKind.{JobKind}
 use Rattle.chip.specs.declared.JobKind.the-variants.{Idle, WriteStatus, Program, SmallErase, SectorErase, ChipErase}
 use Rattle.chip.specs.Job.{isJob, steps, total, unit, rule, noJob}
 use Rattle.chip.specs.Chip.{running, blankLoad}
-use Rattle.job.specs.Tick.{atStep, advanced, ended, endedAs, tickCore, tickLoad, tickMemory, ticksCore, ticksLoad, ticksMemory, worked, ticksLeft}
+use Rattle.job.specs.Tick.{atStep, advanced, suspends, movedOn, ended, endedAs, tickCore, tickLoad, tickMemory, ticksCore, ticksLoad, ticksMemory, worked, stepsLeft, ticksLeft, TicksAnswer}
 
 -- ---- steps
 
@@ -70,9 +71,12 @@ unfolding tickMemory
 tickMemory-rests k held m h = cond-no (running k) _ _ h
 
 -- a tick that finds a job running does its next step
-pub tick-goes : (S : ℕ) (k : Core) → running k ≡ true → k .job .done + 1 < total (k .job .kind) S → tickCore S k ≡ advanced 1 k
+pub tick-moves : (S : ℕ) (k : Core) → running k ≡ true → k .job .done + 1 < total (k .job .kind) S → tickCore S k ≡ movedOn k
 unfolding tickCore
-tick-goes S k h l = cond-yes (running k) _ _ h ∙ cond-yes (ltb (k .job .done + 1) (total (k .job .kind) S)) _ _ (lt-ltb _ _ l)
+tick-moves S k h l = cond-yes (running k) _ _ h ∙ cond-yes (ltb (k .job .done + 1) (total (k .job .kind) S)) _ _ (lt-ltb _ _ l)
+
+pub tick-goes : (S : ℕ) (k : Core) → running k ≡ true → k .waiting ≡ false → k .job .done + 1 < total (k .job .kind) S → tickCore S k ≡ advanced 1 k
+tick-goes S k h w l = tick-moves S k h l ∙ cond-no (k .waiting) _ _ w
 
 pub tick-ends : (S : ℕ) (k : Core) → running k ≡ true → total (k .job .kind) S ≤ k .job .done + 1 → tickCore S k ≡ ended k
 unfolding tickCore
@@ -169,15 +173,57 @@ ended-none ChipErase k = refl
 pub ended-rests : (kind : JobKind) (k : Core) → running (endedAs kind k) ≡ false
 ended-rests kind k = ap (λ (j : Job). isJob (j .kind) && not (endedAs kind k .suspended)) (ended-none kind k)
 
--- ---- n ticks of a running job: its next n steps, as long as it has more than n left
+-- no step further is as far
+advanced-none : (k : Core) → advanced 0 k ≡ k
+advanced-none k = ap (λ (d : ℕ). atStep d k) (add-zero (k .job .done))
+
+-- a suspended job does not run
+suspends-rests : (k : Core) → running (suspends k) ≡ false
+suspends-rests k = go (isJob (k .job .kind))
+  where
+    go : (b : Bool) → (b && false) ≡ false
+    go true = refl
+    go false = refl
+
+-- ---- n ticks of a running job: its next n steps, as long as more than n of them find it running
+
+-- no more ticks find it running than it has steps left
+pub left-most : (waiting : Bool) (steps : ℕ) → 1 ≤ steps → cond waiting 1 steps ≤ steps
+left-most true steps some = some
+left-most false steps some = omega arith
+
+-- how a job that runs stops: it waited and has steps left after the next; or its steps left are all done
+pub data Stop (S : ℕ) (k : Core) : Type 0 where
+  pauses : k .waiting ≡ true → k .job .done + 1 < total (k .job .kind) S → Stop S k
+  ends : ticksLeft S k ≡ stepsLeft S k → Stop S k
+
+pub waits-one : (S : ℕ) (k : Core) → k .waiting ≡ true → ticksLeft S k ≡ 1
+waits-one S k w = cond-yes (k .waiting) _ _ w
+
+pub stop-of : (S : ℕ) (k : Core) → Stop S k
+stop-of S k = go (k .waiting) refl (decLt (k .job .done + 1) (total (k .job .kind) S))
+  where
+    go : (b : Bool) → k .waiting ≡ b → Dec (k .job .done + 1 < total (k .job .kind) S) → Stop S k
+    go true w (yes more) = pauses w more
+    go true w (no last) = ends (waits-one S k w ∙ omega arith)
+    go false w d = ends (cond-no (k .waiting) _ _ w)
 
 module _ (S : ℕ) (k : Core) (runs : running k ≡ true) where
+  -- a job with more than one tick left does not wait, and has as many steps left
+  runs-on : (n : ℕ) → suc n < ticksLeft S k → (k .waiting ≡ false) × (k .job .done + suc n < total (k .job .kind) S)
+  runs-on n = go (k .waiting) refl
+    where
+      go : (b : Bool) → k .waiting ≡ b → suc n < cond b 1 (stepsLeft S k) → (k .waiting ≡ false) × (k .job .done + suc n < total (k .job .kind) S)
+      go true w l = absurd (omega arith)
+      go false w l = (w, omega arith)
+
   pub ticks-go : (n : ℕ) → n < ticksLeft S k → ticksCore S n k ≡ advanced n k
   unfolding ticksCore
-  ticks-go zero l = ap (λ (d : ℕ). atStep d k) (sym (add-zero (k .job .done)))
+  ticks-go zero l = sym (advanced-none k)
   ticks-go (suc n) l =
+      let on = runs-on n l in
       let e : k .job .done + n + 1 ≡ k .job .done + suc n = omega arith in
-      ap (tickCore S) (ticks-go n (omega arith)) ∙ tick-goes S (advanced n k) runs (omega arith) ∙ ap (λ (d : ℕ). atStep d k) e
+      ap (tickCore S) (ticks-go n (omega arith)) ∙ tick-goes S (advanced n k) runs (on .0) (omega (arith, on .1)) ∙ ap (λ (d : ℕ). atStep d k) e
 
   -- a tick after n of them still finds it running
   pub ticks-running : (n : ℕ) → n < ticksLeft S k → running (ticksCore S n k) ≡ true
@@ -195,7 +241,7 @@ module _ (S : ℕ) (k : Core) (runs : running k ≡ true) where
   ticksLoad-go held zero l = refl
   ticksLoad-go held (suc n) l =
       ap (λ (q : Core). tickLoad S q (ticksLoad S n k held)) (ticks-go n (omega arith))
-      ∙ tickLoad-goes S (advanced n k) _ runs (omega arith)
+      ∙ tickLoad-goes S (advanced n k) _ runs (omega (arith, runs-on n l .1))
       ∙ ticksLoad-go held n (omega arith)
 
   pub ticksMemory-go : (held m : List ℕ) (n : ℕ) → n ≤ ticksLeft S k → ticksMemory S n k held m ≡ steps (k .job .kind) (k .job .start) held (k .job .done) n m
@@ -209,26 +255,43 @@ module _ (S : ℕ) (k : Core) (runs : running k ≡ true) where
       ∙ sym (steps-add (k .job .kind) (k .job .start) held (k .job .done) n 1 m)
       ∙ ap (λ (q : ℕ). steps (k .job .kind) (k .job .start) held (k .job .done) q m) (add-one n)
 
-  -- the last of its ticks ends the job
-  pub ticks-end : ticksCore S (ticksLeft S k) k ≡ ended k
-  ticks-end =
-      let n : ℕ = ticksLeft S k - 1 in
-      let e : ticksLeft S k ≡ n + 1 = omega arith in
-      ap (λ (q : ℕ). ticksCore S q k) e
-      ∙ ticksCore-more S n k
-      ∙ ap (tickCore S) (ticks-go n (omega arith))
-      ∙ tick-ends S (advanced n k) runs (omega arith)
-      ∙ ended-same (k .job .kind) (k .job .done + n) k
+  -- the last of those ticks, which comes after n others
+  last-tick : (n : ℕ) → ticksLeft S k ≡ n + 1 → ticksCore S (ticksLeft S k) k ≡ tickCore S (advanced n k)
+  last-tick n e = ap (λ (q : ℕ). ticksCore S q k) e ∙ ticksCore-more S n k ∙ ap (tickCore S) (ticks-go n (omega arith))
 
-  -- and its load goes with it
-  pub ticksLoad-end : (held : List ℕ) → ticksLoad S (ticksLeft S k) k held ≡ blankLoad
-  ticksLoad-end held =
-      let n : ℕ = ticksLeft S k - 1 in
-      let e : ticksLeft S k ≡ n + 1 = omega arith in
+  last-load : (held : List ℕ) (n : ℕ) → ticksLeft S k ≡ n + 1 → ticksLoad S (ticksLeft S k) k held ≡ tickLoad S (advanced n k) held
+  last-load held n e =
       ap (λ (q : ℕ). ticksLoad S q k held) e
       ∙ ticksLoad-more S n k held
       ∙ ap (λ (q : Core). tickLoad S q (ticksLoad S n k held)) (ticks-go n (omega arith))
-      ∙ tickLoad-ends S (advanced n k) _ runs (omega arith)
+      ∙ ap (tickLoad S (advanced n k)) (ticksLoad-go held n (omega arith))
+
+  -- a job that waited is suspended by it, and keeps its load
+  module _ (waits : k .waiting ≡ true) (more : k .job .done + 1 < total (k .job .kind) S) where
+    pause-core : ticksCore S (ticksLeft S k) k ≡ suspends (advanced 1 k)
+    pause-core = last-tick 0 (waits-one S k waits) ∙ ap (tickCore S) (advanced-none k) ∙ tick-moves S k runs more ∙ cond-yes (k .waiting) _ _ waits
+
+    pause-load : (held : List ℕ) → ticksLoad S (ticksLeft S k) k held ≡ held
+    pause-load held = last-load held 0 (waits-one S k waits) ∙ ap (λ (q : Core). tickLoad S q held) (advanced-none k) ∙ tickLoad-goes S k held runs more
+
+  -- every other job is ended by it, and its load goes with it
+  module _ (all : ticksLeft S k ≡ stepsLeft S k) where
+    abbrev before : ℕ
+    before = ticksLeft S k - 1
+
+    end-core : ticksCore S (ticksLeft S k) k ≡ ended k
+    end-core = last-tick before (omega (arith, all)) ∙ tick-ends S (advanced before k) runs (omega (arith, all)) ∙ ended-same (k .job .kind) (k .job .done + before) k
+
+    end-load : (held : List ℕ) → ticksLoad S (ticksLeft S k) k held ≡ blankLoad
+    end-load held = last-load held before (omega (arith, all)) ∙ tickLoad-ends S (advanced before k) _ runs (omega (arith, all))
+
+  -- either way it runs no more
+  stopped-rests : running (ticksCore S (ticksLeft S k) k) ≡ false
+  stopped-rests = go (stop-of S k)
+    where
+      go : Stop S k → running (ticksCore S (ticksLeft S k) k) ≡ false
+      go (pauses waits more) = ap running (pause-core waits more) ∙ suspends-rests (advanced 1 k)
+      go (ends all) = ap running (end-core all) ∙ ended-rests (k .job .kind) k
 
   -- and later ticks find nothing to do
   module _ (n : ℕ) (enough : ticksLeft S k ≤ n) where
@@ -238,33 +301,98 @@ module _ (S : ℕ) (k : Core) (runs : running k ≡ true) where
     whole : n ≡ ticksLeft S k + rest
     whole = omega arith
 
-    ended-running : running (ticksCore S (ticksLeft S k) k) ≡ false
-    ended-running = ap running ticks-end ∙ ended-rests (k .job .kind) k
+    core-over : ticksCore S n k ≡ ticksCore S (ticksLeft S k) k
+    core-over = ap (λ (q : ℕ). ticksCore S q k) whole ∙ ticks-add S (ticksLeft S k) rest k ∙ ticks-rest S rest _ stopped-rests
 
-    pub ticks-over : ticksCore S n k ≡ ended k
-    ticks-over = ap (λ (q : ℕ). ticksCore S q k) whole ∙ ticks-add S (ticksLeft S k) rest k ∙ ticks-rest S rest _ ended-running ∙ ticks-end
+    load-over : (held : List ℕ) → ticksLoad S n k held ≡ ticksLoad S (ticksLeft S k) k held
+    load-over held = ap (λ (q : ℕ). ticksLoad S q k held) whole ∙ ticksLoad-add S (ticksLeft S k) rest k held ∙ ticksLoad-rest S rest _ _ stopped-rests
 
     pub worked-over : worked S n k ≡ ticksLeft S k
     worked-over =
         ap (λ (q : ℕ). worked S q k) whole
         ∙ worked-add S (ticksLeft S k) rest k
-        ∙ ap (λ (w : ℕ). worked S (ticksLeft S k) k + w) (worked-rest S rest _ ended-running)
+        ∙ ap (λ (w : ℕ). worked S (ticksLeft S k) k + w) (worked-rest S rest _ stopped-rests)
         ∙ add-zero _
         ∙ worked-go (ticksLeft S k) (omega arith)
-
-    pub ticksLoad-over : (held : List ℕ) → ticksLoad S n k held ≡ blankLoad
-    ticksLoad-over held =
-        ap (λ (q : ℕ). ticksLoad S q k held) whole
-        ∙ ticksLoad-add S (ticksLeft S k) rest k held
-        ∙ ticksLoad-rest S rest _ _ ended-running
-        ∙ ticksLoad-end held
 
     pub ticksMemory-over : (held m : List ℕ) → ticksMemory S n k held m ≡ steps (k .job .kind) (k .job .start) held (k .job .done) (ticksLeft S k) m
     ticksMemory-over held m =
         ap (λ (q : ℕ). ticksMemory S q k held m) whole
         ∙ ticksMemory-add S (ticksLeft S k) rest k held m
-        ∙ ticksMemory-rest S rest _ _ _ ended-running
+        ∙ ticksMemory-rest S rest _ _ _ stopped-rests
         ∙ ticksMemory-go held m (ticksLeft S k) (omega arith)
+
+    -- suspended, with its load
+    pub ticks-pause : k .waiting ≡ true → k .job .done + 1 < total (k .job .kind) S → ticksCore S n k ≡ suspends (advanced 1 k)
+    ticks-pause waits more = core-over ∙ pause-core waits more
+
+    pub ticksLoad-pause : (held : List ℕ) → k .waiting ≡ true → k .job .done + 1 < total (k .job .kind) S → ticksLoad S n k held ≡ held
+    ticksLoad-pause held waits more = load-over held ∙ pause-load waits more held
+
+    -- or ended, without one
+    pub ticks-end : ticksLeft S k ≡ stepsLeft S k → ticksCore S n k ≡ ended k
+    ticks-end all = core-over ∙ end-core all
+
+    pub ticksLoad-end : (held : List ℕ) → ticksLeft S k ≡ stepsLeft S k → ticksLoad S n k held ≡ blankLoad
+    ticksLoad-end held all = load-over held ∙ end-load all held
+
+-- ---- the answer to n ticks: none works; fewer than find it running; all of those, and the job is suspended; all of them, and it is ended
+
+pub answer-rests : (S n : ℕ) (k : Core) (held m : List ℕ) → running k ≡ false → TicksAnswer S n k held m k 0 held m
+answer-rests S n k held m rests =
+    record {
+      core = sym (ticks-rest S n k rests);
+      working = sym (worked-rest S n k rests);
+      load = sym (ticksLoad-rest S n k held rests);
+      memory = sym (ticksMemory-rest S n k held m rests);
+    }
+
+module _ (S n : ℕ) (k : Core) (held m : List ℕ) (runs : running k ≡ true) (left : ℕ) (is-left : left ≡ ticksLeft S k) where
+  -- memory with that many steps more
+  abbrev stepped : ℕ → List ℕ
+  stepped d = steps (k .job .kind) (k .job .start) held (k .job .done) d m
+
+  pub answer-goes : n < left → TicksAnswer S n k held m (advanced n k) n held (stepped n)
+  answer-goes l =
+      record {
+        core = sym (ticks-go S k runs n (omega (arith, is-left)));
+        working = sym (worked-go S k runs n (omega (arith, is-left)));
+        load = sym (ticksLoad-go S k runs held n (omega (arith, is-left)));
+        memory = sym (ticksMemory-go S k runs held m n (omega (arith, is-left)));
+      }
+
+  module _ (enough : left ≤ n) where
+    enough-left : ticksLeft S k ≤ n
+    enough-left = omega (arith, is-left)
+
+    memory-over : stepped left ≡ ticksMemory S n k held m
+    memory-over = ap stepped is-left ∙ sym (ticksMemory-over S k runs n enough-left held m)
+
+    pub answer-pauses : left < stepsLeft S k → TicksAnswer S n k held m (suspends (advanced left k)) left held (stepped left)
+    answer-pauses more = go (stop-of S k)
+      where
+        go : Stop S k → TicksAnswer S n k held m (suspends (advanced left k)) left held (stepped left)
+        go (pauses waits after) =
+            record {
+              core = ap (λ (d : ℕ). suspends (advanced d k)) (is-left ∙ waits-one S k waits) ∙ sym (ticks-pause S k runs n enough-left waits after);
+              working = is-left ∙ sym (worked-over S k runs n enough-left);
+              load = sym (ticksLoad-pause S k runs n enough-left held waits after);
+              memory = memory-over;
+            }
+        go (ends all) = absurd (omega (arith, is-left, all))
+
+    pub answer-ends : stepsLeft S k ≤ left → TicksAnswer S n k held m (ended k) left blankLoad (stepped left)
+    answer-ends all-done = go (stop-of S k)
+      where
+        go : Stop S k → TicksAnswer S n k held m (ended k) left blankLoad (stepped left)
+        go (pauses waits after) = absurd (omega (arith, is-left, waits-one S k waits))
+        go (ends all) =
+            record {
+              core = sym (ticks-end S k runs n enough-left all);
+              working = is-left ∙ sym (worked-over S k runs n enough-left);
+              load = sym (ticksLoad-end S k runs n enough-left held all);
+              memory = memory-over;
+            }
 
 -- ---- lengths
 

@@ -1,13 +1,13 @@
 -- A tick, n ticks, and the working ticks among them (RULES, Jobs).
 use Prim.Native.Nat.{ℕ, zero, suc, _+_, max, _-_}
-use mathlib.Core.Bool.{false, cond}
+use mathlib.Core.Bool.{true, false, cond}
 use mathlib.Core.List.{List}
 use mathlib.Core.Path.{_≡_}
 use lib.Dec.{ltb}
 use Rattle.chip.specs.declared.Core.{Core}
 use Rattle.chip.specs.declared.JobKind.{JobKind}
 use Rattle.chip.specs.declared.JobKind.the-variants.{Idle, WriteStatus, Program, SmallErase, SectorErase, ChipErase}
-use Rattle.chip.specs.Fields.{withWen, withJob, withDone}
+use Rattle.chip.specs.Fields.{withWen, withSuspended, withWaiting, withJob, withDone}
 use Rattle.chip.specs.Job.{steps, total, noJob}
 use Rattle.chip.specs.Chip.{withBits, blankLoad, running}
 
@@ -20,9 +20,17 @@ atStep d k = withJob (withDone d (k .job)) k
 abbrev pub advanced : ℕ → Core → Core
 advanced d k = atStep (k .job .done + d) k
 
--- the job gone, and WEN with it
+-- the job suspended: SUS is set, and it waits no longer
+abbrev pub suspends : Core → Core
+suspends k = withSuspended true (withWaiting false k)
+
+-- one step further; a job that waited is suspended after this step
+abbrev pub movedOn : Core → Core
+movedOn k = cond (k .waiting) (suspends (advanced 1 k)) (advanced 1 k)
+
+-- the job gone, and WEN and the waiting mark with it
 abbrev pub gone : Core → Core
-gone k = withWen false (withJob noJob k)
+gone k = withWen false (withWaiting false (withJob noJob k))
 
 -- after the last step the job is gone; that of a write status has set its bits
 abbrev pub endedAs : JobKind → Core → Core
@@ -39,7 +47,7 @@ ended k = endedAs (k .job .kind) k
 -- ---- one tick: a working one finds a job running and does its next step, on a part of S sectors
 
 unfoldable pub tickCore : ℕ → Core → Core
-tickCore S k = cond (running k) (cond (ltb (k .job .done + 1) (total (k .job .kind) S)) (advanced 1 k) (ended k)) k
+tickCore S k = cond (running k) (cond (ltb (k .job .done + 1) (total (k .job .kind) S)) (movedOn k) (ended k)) k
 
 -- the job's load stays as long as the job does
 unfoldable pub tickLoad : ℕ → Core → List ℕ → List ℕ
@@ -67,9 +75,13 @@ unfoldable pub worked : ℕ → ℕ → Core → ℕ
 worked S zero k = 0
 worked S (suc n) k = worked S n k + cond (running (ticksCore S n k)) 1 0
 
--- how many ticks it takes to end a job that runs: its steps left, and at least one
+-- how many steps a job that runs has left, and at least one
+abbrev pub stepsLeft : ℕ → Core → ℕ
+stepsLeft S k = max (total (k .job .kind) S - k .job .done) 1
+
+-- how many ticks find it running: one if it waits to be suspended, otherwise one for each step left
 abbrev pub ticksLeft : ℕ → Core → ℕ
-ticksLeft S k = max (total (k .job .kind) S - k .job .done) 1
+ticksLeft S k = cond (k .waiting) 1 (stepsLeft S k)
 
 -- n ticks together: what they leave, and how many of them worked
 pub record TicksAnswer (S n : ℕ) (k : Core) (held m : List ℕ) (k′ : Core) (w : ℕ) (held′ m′ : List ℕ) : Type 0 where

@@ -1,10 +1,11 @@
 // Ticks: n of them in one go, as far as the job has steps left.
 ghost use mathlib.Core.Path.{_≡_};
+ghost use mathlib.Core.Bool.{cond};
 ghost use Prim.Native.Nat.{_+_, _*_, _≤_, _<_, _^_, max, _-_};
 ghost use Rattle.cells.specs.Cells.{sweep, blanked};
 ghost use Rattle.chip.specs.declared.JobKind.{JobKind};
 ghost use Rattle.chip.specs.Job.{steps, total};
-ghost use Rattle.job.specs.Tick.{advanced, gone, endedAs, TicksAnswer};
+ghost use Rattle.job.specs.Tick.{advanced, suspends, gone, endedAs, TicksAnswer};
 use chip::Core;
 use chip::Job;
 use chip::JobKind;
@@ -46,8 +47,8 @@ fn do_steps(kind: JobKind, start: u32, done: u32, k: u32, held: &[u8; 256], mem:
     }
 }
 
-// How many ticks it takes to end a job that runs: its steps left, and at least one.
-fn ticks_left(kind: JobKind, done: u32, sectors: u8) -> u32
+// How many steps a job that runs has left, and at least one.
+fn steps_left(kind: JobKind, done: u32, sectors: u8) -> u32
     ensures { λ r. ⌜ (r ≡ max (total kind sectors - done) 1) × (total kind sectors ≤ 65280) ⌝ }
 {
     let total = chip::total_of(kind, sectors);
@@ -55,6 +56,16 @@ fn ticks_left(kind: JobKind, done: u32, sectors: u8) -> u32
         return total - done;
     }
     1
+}
+
+// How many ticks find it running: one if it waits to be suspended, otherwise one for each step left.
+fn ticks_left(waiting: bool, steps: u32) -> u32
+    ensures { λ r. ⌜ r ≡ cond waiting 1 steps ⌝ }
+{
+    if waiting {
+        return 1;
+    }
+    steps
 }
 
 // The core with k more steps done.
@@ -74,12 +85,23 @@ fn advance(core: Core, k: u32) -> Core
     next
 }
 
-// The core with its job gone and WEN clear.
+// The core with its job suspended.
+fn suspend(core: Core) -> Core
+    ensures { λ r. ⌜ r ≡ suspends core ⌝ }
+{
+    let mut next = core;
+    next.suspended = true;
+    next.waiting = false;
+    next
+}
+
+// The core with its job gone, WEN and the waiting mark clear.
 fn clear(core: Core) -> Core
     ensures { λ r. ⌜ r ≡ gone core ⌝ }
 {
     let mut next = core;
     next.wen = false;
+    next.waiting = false;
     next.job = chip::no_job();
     next
 }
@@ -99,7 +121,7 @@ fn end(kind: JobKind, core: Core) -> Core
     }
 }
 
-// n ticks: with no job running they do nothing; otherwise they do steps until n are done or the job ends, and its load with it.
+// n ticks: with no job running they do nothing; otherwise they do steps until n are done, a job that waited is suspended, or the job ends, and its load with it.
 pub fn ticks(core: Core, held: &mut [u8; 256], mem: &mut [u8], sectors: u8, n: u32) -> Ticked
     ensures { λ r. ⌜ TicksAnswer sectors n core (now (held .entry)) (now (mem .entry)) (r .core) (r .worked) (now (held .exit)) (now (mem .exit)) ⌝ }
 {
@@ -111,7 +133,8 @@ pub fn ticks(core: Core, held: &mut [u8; 256], mem: &mut [u8], sectors: u8, n: u
     }
     let job = core.job;
     let kind = job.kind;
-    let left = ticks_left(kind, job.done, sectors);
+    let steps = steps_left(kind, job.done, sectors);
+    let left = ticks_left(core.waiting, steps);
     if n < left {
         do_steps(kind, job.start, job.done, n, held, mem);
         return Ticked {
@@ -120,6 +143,12 @@ pub fn ticks(core: Core, held: &mut [u8; 256], mem: &mut [u8], sectors: u8, n: u
         };
     }
     do_steps(kind, job.start, job.done, left, held, mem);
+    if left < steps {
+        return Ticked {
+            core: suspend(advance(core, left)),
+            worked: left,
+        };
+    }
     *held = [255; 256];
     Ticked {
         core: end(kind, core),

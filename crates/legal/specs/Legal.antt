@@ -13,6 +13,7 @@ use Rattle.chip.specs.declared.Job.{Job}
 use Rattle.chip.specs.declared.JobKind.{JobKind}
 use Rattle.chip.specs.declared.JobKind.the-variants.{Idle, WriteStatus, Program, SmallErase, SectorErase, ChipErase}
 use Rattle.chip.specs.Job.{isJob, hasCells, total}
+use Rattle.chip.specs.Chip.{suspendable}
 
 -- ---- the core, on a part of S sectors
 
@@ -41,13 +42,17 @@ jobEnabled k = not (isJob (k .job .kind)) || k .wen
 abbrev pub suspendedHasCells : Core → Bool
 suspendedHasCells k = not (k .suspended) || hasCells (k .job .kind)
 
+-- only a program or an erase that runs waits to be suspended
+abbrev pub waitingRuns : Core → Bool
+waitingRuns k = not (k .waiting) || suspendable k
+
 -- asleep there is neither a job nor an armed reset
 abbrev pub deepRests : Core → Bool
 deepRests k = not (k .deep) || not (isJob (k .job .kind)) && not (k .armed)
 
--- three bits of level, the job's share, and the three above
+-- three bits of level, the job's share, and the four above
 unfoldable pub legalCore : ℕ → Core → Bool
-legalCore S k = leb (k .level) 7 && legalJob S (k .job) && jobEnabled k && suspendedHasCells k && deepRests k
+legalCore S k = leb (k .level) 7 && legalJob S (k .job) && jobEnabled k && suspendedHasCells k && waitingRuns k && deepRests k
 
 -- ---- the frame
 

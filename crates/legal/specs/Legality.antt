@@ -13,8 +13,8 @@ use Rattle.chip.specs.declared.Core.{Core}
 use Rattle.chip.specs.declared.Frame.{Frame}
 use Rattle.chip.specs.declared.Job.{Job}
 use Rattle.chip.specs.Job.{isJob, hasCells, total, noJob}
-use Rattle.chip.specs.Chip.{emptyFrame, blankLoad}
-use Rattle.legal.specs.Legal.{placed, legalJob, jobEnabled, suspendedHasCells, deepRests, legalCore, judgementKnown, readPlaces, legalFrame, isEmpty, isBlank, begun, tidy, legal}
+use Rattle.chip.specs.Chip.{emptyFrame, blankLoad, suspendable}
+use Rattle.legal.specs.Legal.{placed, legalJob, jobEnabled, suspendedHasCells, waitingRuns, deepRests, legalCore, judgementKnown, readPlaces, legalFrame, isEmpty, isBlank, begun, tidy, legal}
 
 -- ---- the core
 
@@ -24,14 +24,17 @@ pub record LegalCore (S : ℕ) (k : Core) : Type 0 where
   pub job-unfinished : isJob (k .job .kind) ≡ true → k .job .done < total (k .job .kind) S
   pub job-enabled : isJob (k .job .kind) ≡ true → k .wen ≡ true
   pub suspended-cells : k .suspended ≡ true → hasCells (k .job .kind) ≡ true
+  pub waiting-runs : k .waiting ≡ true → suspendable k ≡ true
   pub deep-idle : k .deep ≡ true → isJob (k .job .kind) ≡ false
   pub deep-unarmed : k .deep ≡ true → k .armed ≡ false
 
 pub core-facts : (S : ℕ) (k : Core) → legalCore S k ≡ true → LegalCore S k
 unfolding legalCore legalJob
 core-facts S k h =
-    let four = and-four (leb (k .level) 7) (legalJob S (k .job)) (jobEnabled k) (suspendedHasCells k) (and-left _ (deepRests k) h) in
-    let rests = means-holds (k .deep) (not (isJob (k .job .kind)) && not (k .armed)) (and-right (leb (k .level) 7 && legalJob S (k .job) && jobEnabled k && suspendedHasCells k) (deepRests k) h) in
+    let first : Bool = leb (k .level) 7 && legalJob S (k .job) && jobEnabled k && suspendedHasCells k in
+    let five = and-left (first && waitingRuns k) (deepRests k) h in
+    let four = and-four (leb (k .level) 7) (legalJob S (k .job)) (jobEnabled k) (suspendedHasCells k) (and-left first (waitingRuns k) five) in
+    let rests = means-holds (k .deep) (not (isJob (k .job .kind)) && not (k .armed)) (and-right (first && waitingRuns k) (deepRests k) h) in
     let unfinished : Bool = not (isJob (k .job .kind)) || ltb (k .job .done) (total (k .job .kind) S) in
     record {
       level-small = leb-true _ _ (four .0);
@@ -40,6 +43,7 @@ core-facts S k h =
           λ e. ltb-true _ _ (means-holds (isJob (k .job .kind)) _ (and-right (placed S (k .job .kind) (k .job .start)) unfinished (four .1)) e);
       job-enabled = means-holds (isJob (k .job .kind)) (k .wen) (four .2);
       suspended-cells = means-holds (k .suspended) (hasCells (k .job .kind)) (four .3);
+      waiting-runs = means-holds (k .waiting) (suspendable k) (and-right first (waitingRuns k) five);
       deep-idle = λ e. not-true (isJob (k .job .kind)) (and-left (not (isJob (k .job .kind))) (not (k .armed)) (rests e));
       deep-unarmed = λ e. not-true (k .armed) (and-right (not (isJob (k .job .kind))) (not (k .armed)) (rests e));
     }
@@ -47,23 +51,27 @@ core-facts S k h =
 pub core-legal : (S : ℕ) (k : Core) → LegalCore S k → legalCore S k ≡ true
 unfolding legalCore legalJob
 core-legal S k l =
-    and-both (leb (k .level) 7 && legalJob S (k .job) && jobEnabled k && suspendedHasCells k) (deepRests k)
+    let first : Bool = leb (k .level) 7 && legalJob S (k .job) && jobEnabled k && suspendedHasCells k in
+    and-both (first && waitingRuns k) (deepRests k)
+    (and-both first (waitingRuns k)
     (four-and (leb (k .level) 7) (legalJob S (k .job)) (jobEnabled k) (suspendedHasCells k)
     (le-leb _ _ (l .level-small))
     (and-both (placed S (k .job .kind) (k .job .start)) _ (l .job-placed) (means-shown (isJob (k .job .kind)) _ (λ e. lt-ltb _ _ (l .job-unfinished e))))
     (means-shown (isJob (k .job .kind)) (k .wen) (l .job-enabled))
     (means-shown (k .suspended) (hasCells (k .job .kind)) (l .suspended-cells)))
+    (means-shown (k .waiting) (suspendable k) (l .waiting-runs)))
     (means-shown (k .deep) _ (λ e. and-both (not (isJob (k .job .kind))) (not (k .armed)) (ap not (l .deep-idle e)) (ap not (l .deep-unarmed e))))
 
--- with no job a core is legal, if its level is, it is not suspended, and asleep it is not armed
-pub idle-legal : (S : ℕ) (k : Core) → k .job ≡ noJob → k .level ≤ 7 → k .suspended ≡ false → (k .deep ≡ true → k .armed ≡ false) → LegalCore S k
-idle-legal S k none level awake unarmed =
+-- with no job a core is legal, if its level is, it is neither suspended nor waits to be, and asleep it is not armed
+pub idle-legal : (S : ℕ) (k : Core) → k .job ≡ noJob → k .level ≤ 7 → k .suspended ≡ false → k .waiting ≡ false → (k .deep ≡ true → k .armed ≡ false) → LegalCore S k
+idle-legal S k none level awake unmarked unarmed =
     record {
       level-small = level;
       job-placed = ap (λ (j : Job). placed S (j .kind) (j .start)) none;
       job-unfinished = λ e. absurd (false≢true (sym idle ∙ e));
       job-enabled = λ e. absurd (false≢true (sym idle ∙ e));
       suspended-cells = λ e. absurd (false≢true (sym awake ∙ e));
+      waiting-runs = λ e. absurd (false≢true (sym unmarked ∙ e));
       deep-idle = λ _. idle;
       deep-unarmed = unarmed;
     }

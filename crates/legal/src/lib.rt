@@ -51,6 +51,7 @@ fn is_legal_core(sectors: u8, core: Core) -> bool
         & is_legal_job(sectors, job)
         & (!some | core.wen)
         & (!core.suspended | chip::has_cells(kind))
+        & (!core.waiting | chip::is_suspendable(core))
         & (!core.deep | (!some & !core.armed))
 }
 

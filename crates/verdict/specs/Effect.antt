@@ -6,25 +6,26 @@ use lib.Dec.{eqb}
 use Rattle.commands.specs.Table.{isProgram, writeEnable, writeDisable, suspend, resume, wake, deepPowerDown, resetEnable, reset}
 use Rattle.chip.specs.declared.Core.{Core}
 use Rattle.chip.specs.declared.Frame.{Frame}
-use Rattle.chip.specs.Fields.{withWen, withSuspended, withDeep, withArmed, withJob}
+use Rattle.chip.specs.Fields.{withWen, withSuspended, withWaiting, withDeep, withArmed, withJob}
 use Rattle.chip.specs.Job.{noJob}
 use Rattle.chip.specs.Chip.{blankLoad}
 use Rattle.verdict.specs.Verdict.{jobAsked}
 
--- verdict 2: the frame's job begins, on a part of S sectors; a suspended one is dropped for it
+-- verdict 2: the frame's job begins, on a part of S sectors; a suspended one is dropped for it, and the new one waits for nothing
 abbrev pub begins : ℕ → Core → Frame → Core
-begins S k f = withSuspended false (withJob (jobAsked S f) k)
+begins S k f = withSuspended false (withWaiting false (withJob (jobAsked S f) k))
 
--- a reset drops the job and clears WEN and SUS
+-- a reset drops the job and clears WEN, SUS and the waiting mark
 abbrev pub resets : Core → Core
-resets k = withWen false (withSuspended false (withJob noJob k))
+resets k = withWen false (withSuspended false (withWaiting false (withJob noJob k)))
 
--- verdict 1: write enable and disable, suspend and resume, wake and deep power-down, reset; reset enable does nothing but arm
+-- verdict 1: write enable and disable, suspend and resume, wake and deep power-down, reset; reset enable does nothing but arm.
+-- A suspend only marks the job: the next tick does its step, and then it is suspended (`movedOn`)
 unfoldable pub instantly : Core → ℕ → Core
 instantly k opcode =
     cond (eqb opcode writeEnable) (withWen true k)
     (cond (eqb opcode writeDisable) (withWen false k)
-    (cond (eqb opcode suspend) (withSuspended true k)
+    (cond (eqb opcode suspend) (withWaiting true k)
     (cond (eqb opcode resume) (withSuspended false k)
     (cond (eqb opcode wake) (withDeep false k)
     (cond (eqb opcode deepPowerDown) (withDeep true k)

@@ -22,7 +22,7 @@ use Rattle.chip.specs.declared.JobKind.{JobKind}
 use Rattle.chip.specs.declared.JobKind.the-variants.{Idle, WriteStatus, Program, SmallErase, SectorErase, ChipErase}
 use Rattle.chip.specs.declared.Record.{Record}
 use Rattle.chip.specs.declared.Record.the-variants.{Verdict, InTheWay}
-use Rattle.chip.specs.Fields.{withWen, withSuspended, withDeep}
+use Rattle.chip.specs.Fields.{withWen, withSuspended, withWaiting, withDeep}
 use Rattle.chip.specs.Job.{isJob, hasCells}
 use Rattle.chip.specs.Chip.{bitsOf, blankLoad}
 use Rattle.chip.specs.Record.{recordBytes}
@@ -214,7 +214,7 @@ acted-nothing S k f v not-one not-two = cond-no (eqb v 2) _ _ (ne-eqb _ _ not-tw
 pub instantly-each : (k : Core) (opcode : ℕ) (P : Core → Type 0)
     → (opcode ≡ writeEnable → P (withWen true k))
     → (opcode ≡ writeDisable → P (withWen false k))
-    → (opcode ≡ suspend → P (withSuspended true k))
+    → (opcode ≡ suspend → P (withWaiting true k))
     → (opcode ≡ resume → P (withSuspended false k))
     → (opcode ≡ wake → P (withDeep false k))
     → (opcode ≡ deepPowerDown → P (withDeep true k))

@@ -9,14 +9,14 @@ use lib.Dec.{eqb, leb}
 use borrow.Author.Tests.{eq-eqb, ne-eqb, eqb-true, le-leb}
 use Rattle.cells.specs.Choice.{cond-either, cond-yes, cond-no, and-left, and-right, and-both, not-so}
 use Rattle.part.specs.Part.{lengthOf, page, smallSector, sector, reduced, roundedDown}
-use Rattle.commands.specs.Table.{rowOf, rowIn, isProgram, writeDisable, suspend, wake, deepPowerDown, resetEnable}
+use Rattle.commands.specs.Table.{rowOf, rowIn, isProgram, writeDisable, suspend, resume, wake, deepPowerDown, resetEnable}
 use Rattle.chip.specs.declared.Core.{Core}
 use Rattle.chip.specs.declared.Frame.{Frame}
 use Rattle.chip.specs.declared.JobKind.{JobKind}
 use Rattle.chip.specs.declared.JobKind.the-variants.{Idle, WriteStatus, Program, SmallErase, SectorErase, ChipErase}
-use Rattle.chip.specs.Fields.{withWen, withSuspended, withDeep, withArmed}
+use Rattle.chip.specs.Fields.{withWen, withSuspended, withWaiting, withDeep, withArmed}
 use Rattle.chip.specs.Job.{isJob, hasCells, total}
-use Rattle.chip.specs.Chip.{running}
+use Rattle.chip.specs.Chip.{running, suspendable}
 use Rattle.legal.specs.Legal.{placed, alignedTo, judgementKnown}
 use Rattle.legal.specs.Legality.{LegalCore, idle-legal}
 use Rattle.frame.specs.Laws.{Allowed, allowed}
@@ -68,30 +68,32 @@ resting-idle k r s = go (isJob (k .job .kind)) (k .suspended) s r
     go true true p q = absurd (false≢true (sym p))
     go false z p q = refl
 
--- a suspend that has something to act on finds cells
-has : (r h : Bool) → (not (r && h) || false || false) ≡ false → h ≡ true
-has true true e = refl
-has true false e = sym e
-has false h e = absurd (false≢true (sym e))
+-- a suspend that has something to act on finds a program or an erase that runs
+found : (s w : Bool) → (not (s && not w) || false || false) ≡ false → s ≡ true
+found true w e = refl
+found false w e = absurd (false≢true (sym e))
 
 module _ (S : ℕ) (k : Core) (l : LegalCore S k) where
   -- other flags keep a core legal where they agree with the job
-  flags-legal : (wen sus deep a : Bool) → (isJob (k .job .kind) ≡ true → wen ≡ true) → (sus ≡ true → hasCells (k .job .kind) ≡ true)
-      → (deep ≡ true → isJob (k .job .kind) ≡ false) → (deep ≡ true → a ≡ false) → LegalCore S (withArmed a (withWen wen (withSuspended sus (withDeep deep k))))
-  flags-legal wen sus deep a w s d u =
+  flags-legal : (wen sus wait deep a : Bool) → (isJob (k .job .kind) ≡ true → wen ≡ true) → (sus ≡ true → hasCells (k .job .kind) ≡ true)
+      → (wait ≡ true → suspendable (withSuspended sus k) ≡ true)
+      → (deep ≡ true → isJob (k .job .kind) ≡ false) → (deep ≡ true → a ≡ false)
+      → LegalCore S (withArmed a (withWen wen (withSuspended sus (withWaiting wait (withDeep deep k)))))
+  flags-legal wen sus wait deep a w s q d u =
       record {
         level-small = l .level-small;
         job-placed = l .job-placed;
         job-unfinished = l .job-unfinished;
         job-enabled = w;
         suspended-cells = s;
+        waiting-runs = q;
         deep-idle = d;
         deep-unarmed = u;
       }
 
   -- arming or disarming alone: not both asleep and armed
   armed-legal : (a : Bool) → (k .deep ≡ true → a ≡ false) → LegalCore S (withArmed a k)
-  armed-legal a = flags-legal (k .wen) (k .suspended) (k .deep) a (l .job-enabled) (l .suspended-cells) (l .deep-idle)
+  armed-legal a = flags-legal (k .wen) (k .suspended) (k .waiting) (k .deep) a (l .job-enabled) (l .suspended-cells) (l .waiting-runs) (l .deep-idle)
 
   -- a begun job is legal
   begins-legal : (f : Frame) (a : Bool) → 1 ≤ S → Begins S k f → LegalCore S (withArmed a (begins S k f))
@@ -102,6 +104,7 @@ module _ (S : ℕ) (k : Core) (l : LegalCore S k) where
         job-unfinished = begun-unfinished S (jobOf (f .opcode) (f .address)) s;
         job-enabled = λ _. b .enabled;
         suspended-cells = λ h. absurd (false≢true h);
+        waiting-runs = λ h. absurd (false≢true h);
         deep-idle = λ h. absurd (false≢true (sym (awake h) ∙ b .begins-job));
         deep-unarmed = λ h. absurd (false≢true (sym (awake h) ∙ b .begins-job));
       }
@@ -126,24 +129,35 @@ module _ (S : ℕ) (k : Core) (l : LegalCore S k) where
     asleep-unarmed : k .deep ≡ true → a ≡ false
     asleep-unarmed h = unarmed wake (open-to .asleep h) (λ e. omega arith)
 
-    -- write disable and deep power-down find no job, a suspend finds one with cells
+    -- write disable and deep power-down find no job, a suspend finds a program or an erase that runs
     idle-at : (opcode : ℕ) → rowOf opcode .running ≡ false → rowOf opcode .suspended ≡ false → f .opcode ≡ opcode → isJob (k .job .kind) ≡ false
     idle-at opcode r s e = finds-idle opcode (subst (Allowed k) e open-to) r s
 
-    can-suspend : f .opcode ≡ suspend → hasCells (k .job .kind) ≡ true
-    can-suspend e = has (running k) (hasCells (k .job .kind)) (subst (λ (q : ℕ). pointless k q ≡ false) e (acts-now .acts))
+    can-suspend : f .opcode ≡ suspend → suspendable k ≡ true
+    can-suspend e = found (suspendable k) (k .waiting) (subst (λ (q : ℕ). pointless k q ≡ false) e (acts-now .acts))
+
+    -- a resume is turned away while a job runs, so it finds none that waits
+    resume-unmarked : f .opcode ≡ resume → k .waiting ≡ false
+    unfolding rowOf rowIn
+    resume-unmarked e = not-so (k .waiting) (λ w. false≢true (subst (Allowed k) e open-to .while-running (and-left (running k) (hasCells (k .job .kind)) (l .waiting-runs w))))
 
     instantly-legal : LegalCore S (withArmed a (instantly k (f .opcode)))
     unfolding rowOf rowIn
     instantly-legal =
         instantly-each k (f .opcode) (λ (q : Core). LegalCore S (withArmed a q))
-        (λ _. flags-legal true (k .suspended) (k .deep) a (λ _. refl) (l .suspended-cells) (l .deep-idle) asleep-unarmed)
-        (λ e. flags-legal false (k .suspended) (k .deep) a (λ j. absurd (false≢true (sym (idle-at writeDisable refl refl e) ∙ j))) (l .suspended-cells) (l .deep-idle) asleep-unarmed)
-        (λ e. flags-legal (k .wen) true (k .deep) a (l .job-enabled) (λ _. can-suspend e) (l .deep-idle) asleep-unarmed)
-        (λ _. flags-legal (k .wen) false (k .deep) a (l .job-enabled) (λ h. absurd (false≢true h)) (l .deep-idle) asleep-unarmed)
-        (λ _. flags-legal (k .wen) (k .suspended) false a (l .job-enabled) (l .suspended-cells) (λ h. absurd (false≢true h)) (λ h. absurd (false≢true h)))
-        (λ e. flags-legal (k .wen) (k .suspended) true a (l .job-enabled) (l .suspended-cells) (λ _. idle-at deepPowerDown refl refl e) (λ _. unarmed deepPowerDown e (λ q. omega arith)))
-        (λ _. idle-legal S (withArmed a (resets k)) refl (l .level-small) refl asleep-unarmed)
+        (λ _. flags-legal true (k .suspended) (k .waiting) (k .deep) a (λ _. refl) (l .suspended-cells) (l .waiting-runs) (l .deep-idle) asleep-unarmed)
+        (λ e.
+        flags-legal false (k .suspended) (k .waiting) (k .deep) a (λ j. absurd (false≢true (sym (idle-at writeDisable refl refl e) ∙ j)))
+        (l .suspended-cells) (l .waiting-runs) (l .deep-idle) asleep-unarmed)
+        (λ e. flags-legal (k .wen) (k .suspended) true (k .deep) a (l .job-enabled) (l .suspended-cells) (λ _. can-suspend e) (l .deep-idle) asleep-unarmed)
+        (λ e.
+        flags-legal (k .wen) false (k .waiting) (k .deep) a (l .job-enabled) (λ h. absurd (false≢true h)) (λ h. absurd (false≢true (sym (resume-unmarked e) ∙ h)))
+        (l .deep-idle) asleep-unarmed)
+        (λ _. flags-legal (k .wen) (k .suspended) (k .waiting) false a (l .job-enabled) (l .suspended-cells) (l .waiting-runs) (λ h. absurd (false≢true h)) (λ h. absurd (false≢true h)))
+        (λ e.
+        flags-legal (k .wen) (k .suspended) (k .waiting) true a (l .job-enabled) (l .suspended-cells) (l .waiting-runs) (λ _. idle-at deepPowerDown refl refl e)
+        (λ _. unarmed deepPowerDown e (λ q. omega arith)))
+        (λ _. idle-legal S (withArmed a (resets k)) refl (l .level-small) refl refl asleep-unarmed)
         (armed-legal a asleep-unarmed)
 
   -- ---- a verdict

@@ -15,7 +15,7 @@ use Rattle.chip.specs.declared.JobKind.the-variants.{Idle, WriteStatus, Program
 use Rattle.chip.specs.declared.Record.{Record}
 use Rattle.chip.specs.declared.Record.the-variants.{Verdict, InTheWay}
 use Rattle.chip.specs.Job.{isJob, hasCells}
-use Rattle.chip.specs.Chip.{running}
+use Rattle.chip.specs.Chip.{suspendable}
 use Rattle.frame.specs.Frame.{judge}
 
 -- ---- the job that a frame asks for
@@ -57,10 +57,10 @@ targetProtected S k ChipErase start = protectsAny (protectedSectors (k .level) (
 
 -- ---- the list
 
--- 11: nothing for a suspend, a resume or a reset to act on
+-- 11: nothing for a suspend, a resume or a reset to act on; a job that waits to be suspended is nothing for another suspend
 abbrev pub pointless : Core → ℕ → Bool
 pointless k opcode =
-    eqb opcode suspend && not (running k && hasCells (k .job .kind)) || eqb opcode resume && not (k .suspended) || eqb opcode reset && not (k .armed)
+    eqb opcode suspend && not (suspendable k && not (k .waiting)) || eqb opcode resume && not (k .suspended) || eqb opcode reset && not (k .armed)
 
 -- 12 and 8: WEN is missing, in suspension and out of it; 10: the status is locked; 9: the target is protected; 2: the job begins
 unfoldable pub jobVerdict : ℕ → Core → Job → ℕ

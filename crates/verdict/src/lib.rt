@@ -4,7 +4,7 @@ ghost use Prim.Native.Nat.{_%_, _<_};
 ghost use Rattle.part.specs.Part.{roundedDown, reduced};
 ghost use Rattle.part.specs.Protection.{protectedSectors};
 ghost use Rattle.chip.specs.declared.JobKind.{JobKind};
-ghost use Rattle.chip.specs.Fields.{withWen, withSuspended, withDeep};
+ghost use Rattle.chip.specs.Fields.{withWen, withSuspended, withWaiting, withDeep};
 ghost use Rattle.verdict.specs.Verdict.{jobOf, startOf, jobAsked, startProtected, targetProtected, pointless, jobVerdict, commandVerdict, listed, verdict, inTheWay, recordOf};
 ghost use Rattle.verdict.specs.Effect.{begins, resets, instantly, acted, settled, heldAfter};
 use chip::Core;
@@ -101,9 +101,7 @@ fn target_protected(sectors: u8, core: Core, kind: JobKind, start: u32) -> bool
 fn is_pointless(core: Core, opcode: u8) -> bool
     ensures { λ r. ⌜ r ≡ pointless core opcode ⌝ }
 {
-    let job = core.job;
-    let kind = job.kind;
-    let can_suspend = chip::is_running(core) & chip::has_cells(kind);
+    let can_suspend = chip::is_suspendable(core) & !core.waiting;
     ((opcode == Command::SUSPEND) & !can_suspend)
         | ((opcode == Command::RESUME) & !core.suspended)
         | ((opcode == Command::RESET) & !core.armed)
@@ -203,17 +201,19 @@ fn begin(sectors: u8, core: Core, f: Frame) -> Core
 {
     let mut next = core;
     next.suspended = false;
+    next.waiting = false;
     next.job = job_asked(sectors, f);
     next
 }
 
-// The core with its job dropped, WEN and SUS clear.
+// The core with its job dropped, WEN, SUS and the waiting mark clear.
 pub fn reset(core: Core) -> Core
     ensures { λ r. ⌜ r ≡ resets core ⌝ }
 {
     let mut next = core;
     next.wen = false;
     next.suspended = false;
+    next.waiting = false;
     next.job = chip::no_job();
     next
 }
@@ -234,6 +234,14 @@ fn set_suspended(suspended: bool, core: Core) -> Core
     next
 }
 
+fn set_waiting(waiting: bool, core: Core) -> Core
+    ensures { λ r. ⌜ r ≡ withWaiting waiting core ⌝ }
+{
+    let mut next = core;
+    next.waiting = waiting;
+    next
+}
+
 fn set_deep(deep: bool, core: Core) -> Core
     ensures { λ r. ⌜ r ≡ withDeep deep core ⌝ }
 {
@@ -249,7 +257,7 @@ fn act_at_once(core: Core, opcode: u8) -> Core
     match opcode {
         Command::WRITE_ENABLE => set_wen(true, core),
         Command::WRITE_DISABLE => set_wen(false, core),
-        Command::SUSPEND => set_suspended(true, core),
+        Command::SUSPEND => set_waiting(true, core),
         Command::RESUME => set_suspended(false, core),
         Command::WAKE => set_deep(false, core),
         Command::DEEP_POWER_DOWN => set_deep(true, core),

@@ -11,11 +11,11 @@ set-wen-requires c κs = search needs
 set-wen-requires-2 : tie.Need-set-wen-requires-2
 set-wen-requires-2 c κs = search needs
 
+set-waiting-requires : tie.Need-set-waiting-requires
+set-waiting-requires c κs = search needs
+
 set-suspended-requires : tie.Need-set-suspended-requires
 set-suspended-requires c κs = search needs
-
-set-suspended-requires-2 : tie.Need-set-suspended-requires-2
-set-suspended-requires-2 c κs = search needs
 
 set-deep-requires : tie.Need-set-deep-requires
 set-deep-requires c κs = search needs
@@ -36,11 +36,11 @@ returns-2 c = rw (c .before .match .keys2) (c .set-wen2 .ensures)
 
 returns-3 : tie.Need-returns-3
 unfolding instantly
-returns-3 c = rw (c .before .match .keys3) (c .set-suspended .ensures)
+returns-3 c = rw (c .before .match .keys3) (c .set-waiting .ensures)
 
 returns-4 : tie.Need-returns-4
 unfolding instantly
-returns-4 c = rw (c .before .match .keys4) (c .set-suspended2 .ensures)
+returns-4 c = rw (c .before .match .keys4) (c .set-suspended .ensures)
 
 returns-5 : tie.Need-returns-5
 unfolding instantly
@@ -64,8 +64,8 @@ act-at-once-spec =
     (tie.spec
     set-wen-requires
     set-wen-requires-2
+    set-waiting-requires
     set-suspended-requires
-    set-suspended-requires-2
     set-deep-requires
     set-deep-requires-2
     reset-requires

@@ -3,14 +3,11 @@ use borrow.Author.Needs.{needs}
 use Rattle.verdict.proofs.is_pointless.Statement.{statement}
 use Rattle.verdict.proofs.is_pointless.Tie as tie
 
-is-running-requires : tie.Need-is-running-requires
-is-running-requires c κs = search needs
-
-has-cells-requires : tie.Need-has-cells-requires
-has-cells-requires c κs = search needs
+is-suspendable-requires : tie.Need-is-suspendable-requires
+is-suspendable-requires c κs = search needs
 
 returns : tie.Need-returns
-returns c = rw (c .before .before .before .is-running .ensures, c .before .before .has-cells .ensures)
+returns c = rw (c .before .before .before .is-suspendable .ensures)
 
 pub is-pointless-spec : {M : Type 1} → statement M
-is-pointless-spec = tie.close (tie.spec is-running-requires has-cells-requires returns)
+is-pointless-spec = tie.close (tie.spec is-suspendable-requires returns)
