@@ -45,6 +45,9 @@ mod side;
 #[path = "../tools/text.rs"]
 mod text;
 mod timing;
+#[allow(dead_code)]
+#[path = "../compare/wait_scenes.rs"]
+mod wait_scenes;
 #[path = "../second/writer.rs"]
 mod writer;
 

@@ -465,22 +465,20 @@ impl Coverage {
     ) {
         self.waits.note_job(before, event, record, after, length);
         let Some(job) = &before.job else { return };
-        let steps_after = after.job.as_ref().map_or(0, |job| job.steps_done);
-        let (fate, k) = match (event.0, record, before.frame.opcode) {
-            (kind::TICK | kind::TICKS, _, _) if before.waiting && after.suspended => {
-                ("suspended", steps_after)
-            }
+        let waited = before.waiting && after.suspended;
+        let fate = match (event.0, record, before.frame.opcode) {
+            (kind::TICK | kind::TICKS, _, _) if waited => "suspended",
             _ if before.waiting => return,
-            (kind::TICK | kind::TICKS, _, _) if after.job.is_none() => ("ended", job.steps_done),
-            (kind::DESELECT, Record::Verdict(1), 0x30) => ("resumed", job.steps_done),
-            (kind::DESELECT, Record::Verdict(2), _) => ("dropped", job.steps_done),
-            (kind::DESELECT, Record::Verdict(1), 0x99) if before.suspended => 
-                ("reset sus", job.steps_done),
-            (kind::DESELECT, Record::Verdict(1), 0x99) => ("reset", job.steps_done),
-            (kind::POWER_CUT, _, _) if before.suspended => ("cut sus", job.steps_done),
-            (kind::POWER_CUT, _, _) => ("cut", job.steps_done),
+            (kind::TICK | kind::TICKS, _, _) if after.job.is_none() => "ended",
+            (kind::DESELECT, Record::Verdict(1), 0x30) => "resumed",
+            (kind::DESELECT, Record::Verdict(2), _) => "dropped",
+            (kind::DESELECT, Record::Verdict(1), 0x99) if before.suspended => "reset sus",
+            (kind::DESELECT, Record::Verdict(1), 0x99) => "reset",
+            (kind::POWER_CUT, _, _) if before.suspended => "cut sus",
+            (kind::POWER_CUT, _, _) => "cut",
             _ => return,
         };
+        let k = job.steps_done + u32::from(waited);
         self.saw("job begun while suspended after ticks", fate == "dropped" && k > 0);
         self.fates.saw(fate, job, length, k);
     }

@@ -5,7 +5,7 @@ use crate::bench::ROOM_DIFFERENCE;
 use crate::case::LENGTHS;
 use crate::event::{events_of, kind, room_needed, Event, LONGEST};
 use crate::expected::Expected;
-use crate::image::{with_flags, Image};
+use crate::image::{flags_of, with_flags, Image};
 use crate::model::{self, Chip, EventAnswer, Job, JobKind, Record};
 use crate::programming::{self, Programming};
 use crate::protection;
@@ -14,7 +14,7 @@ use crate::side::{
     record_bytes, Answer, Loan, Side, GUARD, MEMORY_AREA, NO_RECORD, OUTPUT_AREA, SFDP_AREA,
 };
 use crate::writer::{self, Written};
-use crate::{text, wrong_reader, wrong_room, wrong_sectors, wrong_writer};
+use crate::{text, wrong_reader, wrong_room, wrong_sectors, wrong_wait, wrong_writer};
 
 /// The faults that have no file of their own, in words; the first five are errors that look right.
 const FAULTS: [&str; 31] = [
@@ -51,9 +51,10 @@ const FAULTS: [&str; 31] = [
     "the part's own area has zeros for its third header",
 ];
 
-/// The number of the first fault of verdict 9's records, of the room, of the reader, and of the
-/// script writer, and the number of the text form's.
-const SECTORS: usize = FAULTS.len();
+/// The number of the first fault of the wait, of verdict 9's records, of the room, of the reader,
+/// and of the script writer, and the number of the text form's.
+const WAIT: usize = FAULTS.len();
+const SECTORS: usize = WAIT + wrong_wait::FAULTS.len();
 const ROOM: usize = SECTORS + wrong_sectors::FAULTS.len();
 const READER: usize = ROOM + wrong_room::FAULTS.len();
 const WRITER: usize = READER + wrong_reader::FAULTS.len();
@@ -62,7 +63,8 @@ const TEXT: usize = WRITER + wrong_writer::TEXT;
 /// All faults, in words, the script writer's and the text form's last.
 pub fn all_faults() -> impl Iterator<Item = &'static str> {
     let files = [
-        &wrong_sectors::FAULTS[..],
+        &wrong_wait::FAULTS[..],
+        &wrong_sectors::FAULTS,
         &wrong_room::FAULTS,
         &wrong_reader::FAULTS,
         &wrong_writer::FAULTS,
@@ -158,8 +160,12 @@ impl WrongCopy {
             self.expected.chip.frame.address = 0;
         }
         let (memory, area) = (&mut self.memory[..loan.memory], &self.sfdp[GUARD..][..area_length]);
-        let answer = self.expected.event(memory, area, (kind, body));
-        let EventAnswer { refusal, mut record, ticks } = answer;
+        let EventAnswer { refusal, mut record, ticks } = match self.fault {
+            Some(fault @ WAIT..SECTORS) => {
+                wrong_wait::event(fault - WAIT, &mut self.expected, memory, area, (kind, body))
+            }
+            _ => self.expected.event(memory, area, (kind, body)),
+        };
         if refusal == 0 {
             self.spoil_state(&before.chip, kind, record);
             self.spoil_leftovers(&before, kind, record);
@@ -167,7 +173,7 @@ impl WrongCopy {
             record = self.spoil_area_read(&before.chip, record, loan);
         } else if refusal == 6 && self.has(10) {
             self.expected.chip.armed = false;
-            self.image.flags[6] = 0; // armed
+            self.image.flags = flags_of(&self.expected.chip).map(u8::from);
         }
         Answer::to_event(refusal, record_bytes(record), ticks)
     }
@@ -326,6 +332,9 @@ impl Side for WrongCopy {
         self.expected = Expected::lent(chip, image);
         if self.has(16) && image.flags.contains(&2) {
             self.expected.chip = lenient_chip(chip, image);
+        }
+        if let Some(fault @ WAIT..SECTORS) = self.fault {
+            wrong_wait::overlook(fault - WAIT, &mut self.expected.chip);
         }
         self.image = *image;
         Ok(())

@@ -49,6 +49,7 @@ mod words;
 mod wrong_reader;
 mod wrong_room;
 mod wrong_sectors;
+mod wrong_wait;
 mod wrong_writer;
 
 use bench::Bench;

@@ -14,10 +14,10 @@ impl Session<'_> {
     /// Does what is planned; what takes long comes last, so that most faults are found early.
     pub fn planned(&mut self) -> Outcome {
         self.fresh_states()?;
+        self.waits()?;
         self.areas()?;
         self.script_writer()?;
         self.protection()?;
-        self.waits()?;
         self.leftovers()?;
         self.broken_states(LENGTHS[0])?;
         self.all_refusals()?;

@@ -232,11 +232,8 @@ const TICKS: [Event; 6] = [
     (kind::TICKS, 65_535),
 ];
 
-/// What comes of a wait while a frame that was begun in it is open: nothing yet, or that the job is
-/// suspended or ended.
-const ENDS: [End; 3] = [End::Open, End::Suspended, End::Ended];
-
-/// What comes of a wait.
+/// What comes of a wait while a frame that was begun in it is open: nothing yet, or its tick, which
+/// suspends the job or ends it.
 #[derive(Clone, Copy, PartialEq)]
 enum End {
     Open,
@@ -276,7 +273,7 @@ impl Session<'_> {
     fn frames_over_waits(&mut self) -> Outcome {
         for command in &COMMANDS[..=UNKNOWN] {
             self.open_fresh(LENGTHS[0], 0)?;
-            for end in ENDS {
+            for end in [End::Open, End::Suspended, End::Ended] {
                 let events = self.write(|writer| frame_over_wait(writer, command.opcode, end));
                 self.deliver(&events)?;
             }

@@ -29,7 +29,7 @@ fn wanted(job: usize, moment: &str) -> usize {
 }
 
 /// What has come of a wait when a frame that was begun in it ends.
-const ENDS: [&str; 3] = ["waiting", "suspended", "ended"];
+const ENDS: [&str; 3] = ["waiting", "sus", "ended"];
 
 /// The number of an end, from the chip before the deselect.
 fn end_of(chip: &Chip) -> usize {
@@ -74,8 +74,8 @@ const SITUATIONS: [&str; 13] = [
     "lent in the wait of a small sector erase, taken",
     "lent in the wait of a sector erase, taken",
     "lent in the wait of a chip erase, taken",
-    "status read over the tick, RDY and then SUS",
-    "status read over the last step, RDY and then none",
+    "status read over the tick, RDY, then SUS",
+    "status read over the last step, RDY, then none",
     "read begun in the wait, floats in suspension",
     "read begun in the wait, floats after the end",
     "B0h spoiled in the wait, 4",
@@ -192,15 +192,15 @@ impl WaitCoverage {
         }
         let was_running = last_status.is_some_and(|last| last & 0x41 == 0x01);
         let floats = matches!(frame.opcode, 0x03 | 0x0B) && record == Record::Floating;
-        let data = floats && usize::from(frame.byte_count) >= 5;
+        let data = floats && frame.byte_count >= 5;
         let tally = &mut self.situations;
         if before.suspended {
             let shown = matches!(record, Record::Driven(byte) if byte & 0x41 == 0x40);
-            tally.saw("status read over the tick, RDY and then SUS", was_running && shown);
+            tally.saw("status read over the tick, RDY, then SUS", was_running && shown);
             tally.saw("read begun in the wait, floats in suspension", data);
         } else {
             let shown = matches!(record, Record::Driven(byte) if byte & 0x41 == 0x00);
-            tally.saw("status read over the last step, RDY and then none", was_running && shown);
+            tally.saw("status read over the last step, RDY, then none", was_running && shown);
             tally.saw("read begun in the wait, floats after the end", data);
         }
     }
@@ -237,7 +237,7 @@ impl WaitCoverage {
     /// Prints the frames that were begun in waits.
     fn report_frames(&self) -> usize {
         println!("\nframes begun in the wait with the verdict that is due, by what it has come to");
-        println!("{:24}{:>8}{:>10}{:>6}", "", ENDS[0], ENDS[1], ENDS[2]);
+        println!("{:24}{:>8}{:>8}{:>8}", "", ENDS[0], ENDS[1], ENDS[2]);
         let mut faults = 0;
         for (command, counts) in COMMANDS.iter().zip(&self.frames) {
             let opcode = command.opcode.map_or("  ".to_string(), |opcode| format!("{opcode:02X}"));

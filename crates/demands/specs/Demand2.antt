@@ -14,7 +14,7 @@ use Rattle.chip.specs.declared.Core.{Core}
 use Rattle.chip.specs.declared.Frame.{Frame}
 use Rattle.chip.specs.declared.JobKind.{JobKind}
 use Rattle.chip.specs.declared.JobKind.the-variants.{WriteStatus, Program, SmallErase, SectorErase, ChipErase}
-use Rattle.chip.specs.Fields.{withWen, withSuspended, withWp, withDeep, withArmed, withJob, withSelected, withAddress, withPlace, withSlot, withCount}
+use Rattle.chip.specs.Fields.{withWen, withSuspended, withWaiting, withWp, withDeep, withArmed, withJob, withSelected, withAddress, withPlace, withSlot, withCount}
 use Rattle.chip.specs.Job.{isJob, hasCells, noJob}
 use Rattle.chip.specs.Chip.{whole, emptyFrame, blankLoad, running, statusByte}
 use Rattle.script.specs.Script.{Event}
@@ -84,6 +84,7 @@ rulesList n k f loose =
     ++ (test 0 (among (0x05 ∷ 0x03 ∷ 0x0B ∷ 0x9F ∷ 0x5A ∷ []) (f .opcode))
     ∷ test 4 (loose || not (fitsRule (rowOf (f .opcode) .rule) (f .count)))
     ∷ test 11 (eqb (f .opcode) 0xB0 && not (running k && hasCells (k .job .kind)))
+    ∷ test 11 (eqb (f .opcode) 0xB0 && k .waiting)
     ∷ test 11 (eqb (f .opcode) 0x30 && not (k .suspended))
     ∷ test 11 (eqb (f .opcode) 0x99 && not (k .armed))
     ∷ test 12 (changesCells (f .opcode) && k .suspended && not (k .wen))
@@ -128,24 +129,25 @@ After M verdict opcode core held =
 abbrev pub AtOnce : Model → ℕ → (Core → Core) → Type 0
 AtOnce M opcode change = After M 1 opcode (λ c m. withArmed false (change (c .core))) (λ c. c .held)
 
--- command by command; reset enable alone arms, and reset drops the job and its load
+-- command by command: a suspend only marks the job, which then waits for its tick; reset enable alone arms, and reset drops the job, its mark and its load
 abbrev pub DoneAtOnce : Model → Type 0
 DoneAtOnce M =
     Rows
     (AtOnce M 0x06 (withWen true)
     ∷ AtOnce M 0x04 (withWen false)
-    ∷ AtOnce M 0xB0 (withSuspended true)
+    ∷ AtOnce M 0xB0 (withWaiting true)
     ∷ AtOnce M 0x30 (withSuspended false)
     ∷ AtOnce M 0xAB (withDeep false)
     ∷ AtOnce M 0xB9 (withDeep true)
     ∷ After M 1 0x66 (λ c m. withArmed true (c .core)) (λ c. c .held)
-    ∷ After M 1 0x99 (λ c m. withArmed false (withWen false (withSuspended false (withJob noJob (c .core))))) (λ c. blankLoad)
+    ∷ After M 1 0x99 (λ c m. withArmed false (withWen false (withSuspended false (withWaiting false (withJob noJob (c .core)))))) (λ c. blankLoad)
     ∷ [])
 
--- verdict 2 of a command: this job at step 0, not suspended and unarmed; every other bit, WEN among them, as it was
+-- verdict 2 of a command: this job at step 0, neither suspended nor waiting, and unarmed; every other bit, WEN among them, as it was
 abbrev pub Begun : Model → ℕ → (Frame → JobKind) → (ℕ → Frame → ℕ) → (Chip → List ℕ) → Type 0
 Begun M opcode kind start load =
-    After M 2 opcode (λ c m. withArmed false (withSuspended false (withJob (record { kind = kind (c .frame); start = start (length m) (c .frame); done = 0 }) (c .core)))) load
+    After M 2 opcode
+    (λ c m. withArmed false (withSuspended false (withWaiting false (withJob (record { kind = kind (c .frame); start = start (length m) (c .frame); done = 0 }) (c .core))))) load
 
 -- the address, on a memory of n cells, rounded down to a size
 abbrev pub rounded : ℕ → ℕ → Frame → ℕ
@@ -354,9 +356,9 @@ pub record JobsFromBytes (M : Model) (c : Chip) (m area : List ℕ) : Type 0 whe
 
 -- ---- the demand
 
--- the core after a power cut: no job, WEN, SUS and arming off, awake; the kept bits and the level of WP as they were
+-- the core after a power cut: no job and no mark, WEN, SUS and arming off, awake; the kept bits and the level of WP as they were
 abbrev pub poweredUp : Core → Core
-poweredUp k = record { level = k .level; tb = k .tb; srwp = k .srwp; wen = false; suspended = false; wp = k .wp; deep = false; armed = false; job = noJob }
+poweredUp k = record { level = k .level; tb = k .tb; srwp = k .srwp; wen = false; suspended = false; waiting = false; wp = k .wp; deep = false; armed = false; job = noJob }
 
 pub record Demand2 (M : Model) : Type 0 where
   -- a select opens a frame; inside one it does nothing

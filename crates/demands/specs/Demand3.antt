@@ -1,17 +1,18 @@
 -- Demand 3, of any model: a job from its start to its end and beyond. Cut up by suspends, resumes and reads it ends with exactly its whole image on the memory that
 -- it began with; before that exactly its first k steps are done, k being the ticks that found it running; a reset or a power cut leaves just those k (RULES, Jobs).
 use Prim.Native.Nat.{ℕ, _+_, _<_, _≤_}
-use mathlib.Core.Bool.{Bool, true, false}
+use mathlib.Core.Bool.{Bool, true, false, _&&_, _||_}
 use mathlib.Core.List.{List, [], _∷_}
 use mathlib.Core.Path.{_≡_}
 use mathlib.Core.Logic.{_↔_, _⊎_}
+use lib.Dec.{ltb}
 use lib.ListN.{length, getD}
 use Rattle.part.specs.Part.{sectorsIn}
 use Rattle.chip.specs.declared.Chip.{Chip}
 use Rattle.chip.specs.declared.Core.{Core}
 use Rattle.chip.specs.declared.JobKind.{JobKind}
 use Rattle.chip.specs.declared.JobKind.the-variants.{Idle, WriteStatus, Program, SmallErase, SectorErase, ChipErase}
-use Rattle.chip.specs.Fields.{withWen, withSuspended, withArmed, withJob}
+use Rattle.chip.specs.Fields.{withWen, withSuspended, withWaiting, withArmed, withJob}
 use Rattle.chip.specs.Job.{isJob, total, span, steps, wholeImage, noJob}
 use Rattle.chip.specs.Chip.{whole, emptyFrame, blankLoad, Bits, bitsIn, bitsOf, running}
 use Rattle.script.specs.Script.{Event}
@@ -21,13 +22,14 @@ use Rattle.demands.specs.Demand2.{Ending, JobsBegun, poweredUp}
 
 -- ---- the start
 
--- a deselect with verdict 2: cells, bits 2 to 5 and 7, WEN and WP as they were (a write status has set no bit yet), SUS 0, unarmed, and a job at its step 0
+-- a deselect with verdict 2: cells, bits 2 to 5 and 7, WEN and WP as they were (a write status has set no bit yet), SUS 0, no mark, unarmed, and a job at its step 0
 pub record Started (c : Chip) (m : List ℕ) (r : Reply) : Type 0 where
   pub cells-same : r .memory ≡ m
   pub bits-same : bitsOf (r .chip .core) ≡ bitsOf (c .core)
   pub wen-same : r .chip .core .wen ≡ c .core .wen
   pub wp-same : r .chip .core .wp ≡ c .core .wp
   pub not-suspended : r .chip .core .suspended ≡ false
+  pub not-waiting : r .chip .core .waiting ≡ false
   pub unarmed : r .chip .core .armed ≡ false
   pub a-job : isJob (r .chip .core .job .kind) ≡ true
   pub at-step-0 : r .chip .core .job .done ≡ 0
@@ -96,12 +98,14 @@ pub data Ticking : ℕ → ℕ → ℕ → Type 0 where
   one-tick : (body : ℕ) → Ticking 0x04 body 1
   many-ticks : (n : ℕ) → 1 ≤ n → n ≤ 65535 → Ticking 0x05 n n
 
--- ticks say nothing, and leave the frame, its load, SUS, the level of WP, sleep and arming as they were
-pub record TicksKeep (c : Chip) (r : Reply) : Type 0 where
+-- ticks say nothing, and leave the frame, its load, the level of WP, sleep and arming as they were; so they leave SUS, but for a job that waited: it is suspended unless
+-- its next step was the last; after them no job waits
+pub record TicksKeep (c : Chip) (m : List ℕ) (r : Reply) : Type 0 where
   pub says-nothing : r .says ≡ []
   pub frame-same : r .chip .frame ≡ c .frame
   pub load-same : r .chip .load ≡ c .load
-  pub suspended-same : r .chip .core .suspended ≡ c .core .suspended
+  pub suspended-is : r .chip .core .suspended ≡ (c .core .suspended || c .core .waiting && ltb (c .core .job .done + 1) (total (c .core .job .kind) (sectorsIn (length m))))
+  pub wait-over : r .chip .core .waiting ≡ false
   pub wp-same : r .chip .core .wp ≡ c .core .wp
   pub deep-same : r .chip .core .deep ≡ c .core .deep
   pub armed-same : r .chip .core .armed ≡ c .core .armed
@@ -118,9 +122,9 @@ pub record Spared (M : Model) (area : List ℕ) (kind : JobKind) (start : ℕ) (
 abbrev pub LeavesSteps : Model → List ℕ → JobKind → ℕ → List ℕ → ℕ → World → List Event → Event → Type 0
 LeavesSteps M area kind start held d w es e = doesBy M area e (runsBy M area es w) .memory ≡ steps kind start held d (workedBy M area es w) (w .memory)
 
--- the core after a reset: no job, WEN, SUS and arming off, and the other bits kept
+-- the core after a reset: no job and no mark, WEN, SUS and arming off, and the other bits kept
 abbrev pub resetCore : Core → Core
-resetCore k = withArmed false (withWen false (withSuspended false (withJob noJob k)))
+resetCore k = withArmed false (withWen false (withSuspended false (withWaiting false (withJob noJob k))))
 
 -- ---- the demand
 
@@ -133,7 +137,7 @@ pub record Demand3 (M : Model) : Type 0 where
   pub counts : (area : List ℕ) (e : Event) (w : World) → Fit (w .chip) (w .memory) area → Good e → doesBy M area e w .ticks ≡ workingTicks w e
   -- Ticks that find no job running do nothing, and all of them leave what is not the job's.
   pub idle-ticks : (c : Chip) (m area : List ℕ) (kind body n : ℕ) → Fit c m area → Ticking kind body n → running (c .core) ≡ false → M c m area kind body ≡ reply c m [] 0
-  pub ticks-keep : (c : Chip) (m area : List ℕ) (kind body n : ℕ) → Fit c m area → Ticking kind body n → TicksKeep c (M c m area kind body)
+  pub ticks-keep : (c : Chip) (m area : List ℕ) (kind body n : ℕ) → Fit c m area → Ticking kind body n → TicksKeep c m (M c m area kind body)
   -- The life, over any events with no reset, power cut or other job begun.
   pub lives : (area : List ℕ) (kind : JobKind) (start : ℕ) (held : List ℕ) (d : ℕ) (w : World) (es : List Event) → Spared M area kind start held d w es
       → Outlook kind start held d (workedBy M area es w) w (runsBy M area es w)

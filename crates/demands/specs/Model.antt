@@ -101,9 +101,10 @@ runsBy M area (e ∷ es) w = runsBy M area es (onwardBy M area e w)
 abbrev pub ticksIn : Event → ℕ
 ticksIn e = cond (eqb (e .kind) 0x04) 1 (cond (eqb (e .kind) 0x05) (e .body) 0)
 
--- how many of n ticks find a job running: none of them if none runs, and no more than the job has steps left, on a part of S sectors (RULES, Jobs)
+-- how many of n ticks find a job running: none of them if none runs; one, if it waits to be suspended; and no more than the job has steps left, on a part of S sectors
+-- (RULES, Jobs)
 abbrev pub finds : ℕ → Core → ℕ → ℕ
-finds S k n = cond (running k) (min n (total (k .job .kind) S - k .job .done)) 0
+finds S k n = cond (running k) (min n (cond (k .waiting) 1 (total (k .job .kind) S - k .job .done))) 0
 
 -- the ticks of an event that find the world's job running
 abbrev pub workingTicks : World → Event → ℕ

@@ -55,6 +55,7 @@ pub record LegalState (c : Chip) (n : ℕ) : Type 0 where
   pub job-fits : JobFits n (c .core .job .kind) (c .core .job .start) (c .core .job .done)
   pub job-enabled : isJob (c .core .job .kind) ≡ true → c .core .wen ≡ true
   pub suspended-cells : c .core .suspended ≡ true → hasCells (c .core .job .kind) ≡ true
+  pub waiting-runs : c .core .waiting ≡ true → (hasCells (c .core .job .kind) ≡ true) × (c .core .suspended ≡ false)
   pub deep-idle : c .core .deep ≡ true → isJob (c .core .job .kind) ≡ false
   pub deep-unarmed : c .core .deep ≡ true → c .core .armed ≡ false
   pub address-small : c .frame .address < 2 ^ 24
@@ -66,7 +67,7 @@ pub record LegalState (c : Chip) (n : ℕ) : Type 0 where
 
 -- ---- a fresh state
 
--- what a fresh state of a status byte is: bits 2 to 5 and 7 of the byte and no others; WP high, awake, unselected, unarmed, no job
+-- what a fresh state of a status byte is: bits 2 to 5 and 7 of the byte and no others; WP high, awake, unselected, unarmed, no job, so no mark
 pub record FreshState (byte : ℕ) (c : Chip) : Type 0 where
   pub level-is : c .core .level ≡ byte / 4 % 8
   pub status-is : statusByte (c .core) ≡ byte / 4 % 16 * 4 + byte / 128 % 2 * 128
@@ -74,6 +75,7 @@ pub record FreshState (byte : ℕ) (c : Chip) : Type 0 where
   pub awake : c .core .deep ≡ false
   pub unarmed : c .core .armed ≡ false
   pub no-job : c .core .job ≡ noJob
+  pub not-waiting : c .core .waiting ≡ false
   pub frame-empty : c .frame ≡ emptyFrame
   pub load-blank : c .load ≡ blankLoad
   pub held-blank : c .held ≡ blankLoad

@@ -18,8 +18,8 @@ use Rattle.chip.specs.declared.Job.{Job}
 use Rattle.chip.specs.declared.JobKind.{JobKind}
 use Rattle.chip.specs.declared.JobKind.the-variants.{Idle, WriteStatus, Program, SmallErase, SectorErase, ChipErase}
 use Rattle.chip.specs.Job.{isJob, steps, total, unit, rule, noJob}
-use Rattle.chip.specs.Chip.{running, blankLoad}
-use Rattle.job.specs.Tick.{atStep, advanced, suspends, movedOn, ended, endedAs, tickCore, tickLoad, tickMemory, ticksCore, ticksLoad, ticksMemory, worked, stepsLeft, ticksLeft, TicksAnswer}
+use Rattle.chip.specs.Chip.{withBits, running, blankLoad}
+use Rattle.job.specs.Tick.{atStep, advanced, suspends, movedOn, gone, ended, endedAs, tickCore, tickLoad, tickMemory, ticksCore, ticksLoad, ticksMemory, worked, stepsLeft, ticksLeft, TicksAnswer}
 
 -- ---- steps
 
@@ -152,6 +152,15 @@ worked-add S n (suc m) k =
 
 -- ---- a job's end
 
+-- what holds of a core whose job is gone, with its bits or those of a write status, holds of what a job's end leaves
+pub ended-each : (kind : JobKind) (k : Core) (P : Core → Type 0) → P (gone k) → ((value : ℕ) → P (withBits value (gone k))) → P (endedAs kind k)
+ended-each Idle k P plain status = plain
+ended-each (WriteStatus value) k P plain status = status value
+ended-each Program k P plain status = plain
+ended-each SmallErase k P plain status = plain
+ended-each SectorErase k P plain status = plain
+ended-each ChipErase k P plain status = plain
+
 -- what a job's end leaves does not depend on its steps done
 pub ended-same : (kind : JobKind) (d : ℕ) (k : Core) → endedAs kind (atStep d k) ≡ endedAs kind k
 ended-same Idle d k = refl
@@ -163,12 +172,7 @@ ended-same ChipErase d k = refl
 
 -- after it there is no job, so none runs
 pub ended-none : (kind : JobKind) (k : Core) → endedAs kind k .job ≡ noJob
-ended-none Idle k = refl
-ended-none (WriteStatus value) k = refl
-ended-none Program k = refl
-ended-none SmallErase k = refl
-ended-none SectorErase k = refl
-ended-none ChipErase k = refl
+ended-none kind k = ended-each kind k (λ (q : Core). q .job ≡ noJob) refl (λ _. refl)
 
 pub ended-rests : (kind : JobKind) (k : Core) → running (endedAs kind k) ≡ false
 ended-rests kind k = ap (λ (j : Job). isJob (j .kind) && not (endedAs kind k .suspended)) (ended-none kind k)
@@ -191,6 +195,10 @@ suspends-rests k = go (isJob (k .job .kind))
 pub left-most : (waiting : Bool) (steps : ℕ) → 1 ≤ steps → cond waiting 1 steps ≤ steps
 left-most true steps some = some
 left-most false steps some = omega arith
+
+-- and at least one does
+pub left-some : (S : ℕ) (k : Core) → 1 ≤ ticksLeft S k
+left-some S k = cond-either (λ (left : ℕ). 1 ≤ left) (k .waiting) 1 (stepsLeft S k) (λ _. omega arith) (λ _. omega arith)
 
 -- how a job that runs stops: it waited and has steps left after the next; or its steps left are all done
 pub data Stop (S : ℕ) (k : Core) : Type 0 where

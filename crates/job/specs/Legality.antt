@@ -8,12 +8,11 @@ use borrow.Author.Tests.{not-true}
 use Rattle.cells.specs.Choice.{cond-either, and-left, and-right}
 use Rattle.chip.specs.declared.Core.{Core}
 use Rattle.chip.specs.declared.JobKind.{JobKind}
-use Rattle.chip.specs.declared.JobKind.the-variants.{Idle, WriteStatus, Program, SmallErase, SectorErase, ChipErase}
 use Rattle.chip.specs.Job.{isJob, hasCells, total}
 use Rattle.chip.specs.Chip.{withBits, running}
 use Rattle.legal.specs.Legality.{LegalCore, idle-legal}
 use Rattle.job.specs.Tick.{advanced, suspends, movedOn, gone, endedAs, tickCore, ticksCore}
-use Rattle.job.specs.Laws.{tick-rests, tick-moves, tick-ends}
+use Rattle.job.specs.Laws.{tick-rests, tick-moves, tick-ends, ended-each}
 
 -- a running job is a job, and not suspended
 pub running-job : (k : Core) → running k ≡ true → isJob (k .job .kind) ≡ true
@@ -59,12 +58,7 @@ module _ (S : ℕ) (k : Core) (l : LegalCore S k) where
     gone-legal = idle-legal S (gone k) refl (l .level-small) awake refl (l .deep-unarmed)
 
     ended-legal : (kind : JobKind) → LegalCore S (endedAs kind k)
-    ended-legal Idle = gone-legal
-    ended-legal (WriteStatus value) = idle-legal S (withBits value (gone k)) refl (omega arith) awake refl (l .deep-unarmed)
-    ended-legal Program = gone-legal
-    ended-legal SmallErase = gone-legal
-    ended-legal SectorErase = gone-legal
-    ended-legal ChipErase = gone-legal
+    ended-legal kind = ended-each kind k (λ (q : Core). LegalCore S q) gone-legal (λ value. idle-legal S (withBits value (gone k)) refl (omega arith) awake refl (l .deep-unarmed))
 
   pub tick-legal : LegalCore S (tickCore S k)
   tick-legal = go (running k) refl

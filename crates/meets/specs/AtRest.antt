@@ -15,7 +15,7 @@ use Rattle.chip.specs.declared.Chip.{Chip}
 use Rattle.chip.specs.declared.Core.{Core}
 use Rattle.chip.specs.declared.JobKind.{JobKind}
 use Rattle.chip.specs.declared.JobKind.the-variants.{Idle, WriteStatus, Program, SmallErase, SectorErase, ChipErase}
-use Rattle.chip.specs.Fields.{withSuspended, withJob}
+use Rattle.chip.specs.Fields.{withSuspended, withWaiting, withJob}
 use Rattle.chip.specs.Job.{isJob, noJob}
 use Rattle.chip.specs.Chip.{whole, emptyFrame, blankLoad, statusByte, NoLeftovers}
 use Rattle.legal.specs.Legal.{isBlank, legal}
@@ -28,7 +28,7 @@ use Rattle.event.specs.Event.{applied}
 use Rattle.script.specs.Script.{faultAt, walk, eventsFrom, events}
 use Rattle.script.specs.Run.{World, world, runs}
 use Rattle.demands.specs.Demand2.{StatusByte}
-use Rattle.meets.specs.Opening.{frame-empty, load-blank, not-suspended}
+use Rattle.meets.specs.Opening.{frame-empty, load-blank, not-suspended, not-waiting}
 use Rattle.meets.specs.Examples.{frame}
 use Rattle.meets.specs.Meets2Reads.{status-bits}
 
@@ -48,7 +48,7 @@ pub record Rest : Type 0 where
 
 -- its core, its chip, and the world of that chip with this memory
 abbrev pub coreOf : Rest → Core
-coreOf r = record { level = r .level; tb = r .tb; srwp = r .srwp; wen = r .wen; suspended = false; wp = r .wp; deep = r .deep; armed = r .armed; job = noJob }
+coreOf r = record { level = r .level; tb = r .tb; srwp = r .srwp; wen = r .wen; suspended = false; waiting = false; wp = r .wp; deep = r .deep; armed = r .armed; job = noJob }
 
 abbrev pub chipOf : Rest → Chip
 chipOf r = whole (coreOf r) emptyFrame blankLoad blankLoad
@@ -80,7 +80,7 @@ locking = frame (0xAB ∷ []) ++ (frame (0x06 ∷ []) ++ (frame (0x01 ∷ 0x80 �
 module _ (T : Setting) (m : List ℕ) where
   abbrev says : ℕ → Bool → Bool → Bool → Bool → Bool → Bool → List ℕ → List ℕ
   says level tb srwp wen wp deep armed s =
-      runs T (events s) (world (whole (record { level = level; tb = tb; srwp = srwp; wen = wen; suspended = false; wp = wp; deep = deep; armed = armed; job = noJob }) emptyFrame blankLoad blankLoad) m [] 0) .written
+      runs T (events s) (world (whole (record { level = level; tb = tb; srwp = srwp; wen = wen; suspended = false; waiting = false; wp = wp; deep = deep; armed = armed; job = noJob }) emptyFrame blankLoad blankLoad) m [] 0) .written
 
   -- the second byte of a status read floats asleep, and is driven awake
   shows-deep : (level : ℕ) (tb srwp wen wp deep armed : Bool) → getD (says level tb srwp wen wp deep armed reading) 1 0 ≡ cond deep 0x80 0x81
@@ -91,7 +91,7 @@ module _ (T : Setting) (m : List ℕ) where
   -- after a wake it is driven, with the status byte
   shows-status : (level : ℕ) (tb srwp wen wp deep armed : Bool)
       → getD (says level tb srwp wen wp deep armed waking) 5 0
-      ≡ statusByte (record { level = level; tb = tb; srwp = srwp; wen = wen; suspended = false; wp = wp; deep = false; armed = false; job = noJob })
+      ≡ statusByte (record { level = level; tb = tb; srwp = srwp; wen = wen; suspended = false; waiting = false; wp = wp; deep = false; armed = false; job = noJob })
   unfolding runs eventsFrom walk faultAt knownKind knownIn kindRow kindRowIn applied exchanged taken judge rowOf rowIn isProgram verdict recordOf listed isRead commandVerdict jobVerdict jobOf fitsRule settled acted heldAfter instantly ticksCore tickCore worked
   shows-status level tb srwp wen wp true armed = refl
   shows-status level tb srwp wen wp false armed = refl
@@ -130,7 +130,7 @@ module _ (T : Setting) (m : List ℕ) (r r′ : Rest) (same : (s : List ℕ) →
 
   -- the status bytes of the two, awake and unarmed
   abbrev awake : Rest → Core
-  awake q = record { level = q .level; tb = q .tb; srwp = q .srwp; wen = q .wen; suspended = false; wp = q .wp; deep = false; armed = false; job = noJob }
+  awake q = record { level = q .level; tb = q .tb; srwp = q .srwp; wen = q .wen; suspended = false; waiting = false; wp = q .wp; deep = false; armed = false; job = noJob }
 
   status-same : statusByte (awake r) ≡ statusByte (awake r′)
   status-same =
@@ -183,7 +183,7 @@ module _ (T : Setting) (m : List ℕ) (r r′ : Rest) (same : (s : List ℕ) →
       let wen-same : r .wen ≡ r′ .wen = tells 1 0 (r .wen) (r′ .wen) (λ z. omega arith) (bit (λ n. n / 2 % 2) (bits .wen) (bits′ .wen)) in
       let level-same : r .level ≡ r′ .level = bit (λ n. n / 4 % 8) (bits .bp) (bits′ .bp) in
       λ i.
-      whole (record { level = level-same i; tb = tb-same i; srwp = srwp-same i; wen = wen-same i; suspended = false; wp = wp-same i; deep = deep-same i; armed = armed-same i; job = noJob }) emptyFrame blankLoad blankLoad
+      whole (record { level = level-same i; tb = tb-same i; srwp = srwp-same i; wen = wen-same i; suspended = false; waiting = false; wp = wp-same i; deep = deep-same i; armed = armed-same i; job = noJob }) emptyFrame blankLoad blankLoad
 
 -- ---- any legal chip at rest
 
@@ -233,11 +233,11 @@ module _ (c : Chip) (n : ℕ) (rests : Rests c n) where
         asleep-unarmed = k .deep-unarmed;
       }
 
-  -- its core has no job and is not suspended
+  -- its core has no job, is not suspended and does not wait to be
   rest-core : c .core ≡ coreOf restOf
   rest-core =
       let job-gone : c .core .job ≡ noJob = rests .no-leftovers .job-none (idle-kind (c .core .job .kind) (rests .no-job)) in
-      λ i. withSuspended (not-suspended c n (rests .state-legal) (rests .no-job) i) (withJob (job-gone i) (c .core))
+      λ i. withSuspended (not-suspended c n (rests .state-legal) (rests .no-job) i) (withWaiting (not-waiting c n (rests .state-legal) (rests .no-job) i) (withJob (job-gone i) (c .core)))
 
   -- both its loads are blank
   rest-load : c .load ≡ blankLoad

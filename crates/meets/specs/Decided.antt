@@ -388,7 +388,8 @@ module _ (M N : Model) (p : Meets M) (q : Meets N) (c : Chip) (m area : List ℕ
                 tb = s .bits i .tb;
                 srwp = s .bits i .srwp;
                 wen = s .wens i;
-                suspended = (a .suspended-same ∙ sym (b .suspended-same)) i;
+                suspended = (a .suspended-is ∙ sym (b .suspended-is)) i;
+                waiting = (a .wait-over ∙ sym (b .wait-over)) i;
                 wp = (a .wp-same ∙ sym (b .wp-same)) i;
                 deep = (a .deep-same ∙ sym (b .deep-same)) i;
                 armed = (a .armed-same ∙ sym (b .armed-same)) i;

@@ -16,7 +16,7 @@ use Rattle.chip.specs.declared.Core.{Core}
 use Rattle.chip.specs.declared.Frame.{Frame}
 use Rattle.chip.specs.declared.JobKind.{JobKind}
 use Rattle.chip.specs.declared.JobKind.the-variants.{Program, SmallErase, SectorErase}
-use Rattle.chip.specs.Fields.{withSuspended, withArmed, withJob, withSelected, withWp}
+use Rattle.chip.specs.Fields.{withSuspended, withWaiting, withArmed, withJob, withSelected, withWp}
 use Rattle.chip.specs.Chip.{whole, emptyFrame, blankLoad}
 use Rattle.legal.specs.Legal.{isEmpty}
 use Rattle.legal.specs.Legality.{LegalChip, chip-facts, unbegun-empty}
@@ -180,14 +180,16 @@ begun : (opcode : ℕ)
     → After ours 2 opcode
     (λ c m.
     withArmed (eqb opcode 0x66 && false)
-    (withSuspended false (withJob (record { kind = jobOf opcode (c .frame .address); start = startOf (sectorsIn (length m)) (jobOf opcode (c .frame .address)) (c .frame .address); done = 0 }) (c .core))))
+    (withSuspended false
+    (withWaiting false
+    (withJob (record { kind = jobOf opcode (c .frame .address); start = startOf (sectorsIn (length m)) (jobOf opcode (c .frame .address)) (c .frame .address); done = 0 }) (c .core)))))
     (λ c. cond (isProgram opcode) (c .load) blankLoad)
 unfolding acted heldAfter
 begun opcode c m area kind body loose e is-opcode said =
     let A : ℕ = c .frame .address in
     let S : ℕ = sectorsIn (length m) in (
       core-after c m area kind body loose e 2 said (λ z. omega arith)
-          ∙ ap (λ (o : ℕ). withArmed (eqb o 0x66 && false) (withSuspended false (withJob (record { kind = jobOf o A; start = startOf S (jobOf o A) A; done = 0 }) (c .core)))) is-opcode,
+          ∙ ap (λ (o : ℕ). withArmed (eqb o 0x66 && false) (withSuspended false (withWaiting false (withJob (record { kind = jobOf o A; start = startOf S (jobOf o A) A; done = 0 }) (c .core))))) is-opcode,
       held-after c m area kind body loose e 2 said ∙ ap (λ (o : ℕ). cond (isProgram o) (c .load) blankLoad) is-opcode,
     )
 
@@ -204,14 +206,14 @@ down-65536 x = omega arith
 -- a place counted on the part is one counted on the memory
 on-memory : (opcode : ℕ) (kind : JobKind) (size : ℕ) (load : Chip → List ℕ) → ((x : ℕ) → roundedDown size x ≡ x / size * size)
     → After ours 2 opcode
-    (λ c m. withArmed false (withSuspended false (withJob (record { kind = kind; start = roundedDown size (c .frame .address % lengthOf (sectorsIn (length m))); done = 0 }) (c .core)))) load
+    (λ c m. withArmed false (withSuspended false (withWaiting false (withJob (record { kind = kind; start = roundedDown size (c .frame .address % lengthOf (sectorsIn (length m))); done = 0 }) (c .core))))) load
     → Begun ours opcode (λ f. kind) (rounded size) load
 on-memory opcode kind size load down row c m area kind′ body loose e is-opcode said =
     let told-so = row c m area kind′ body loose e is-opcode said in
     let whole-sectors : lengthOf (sectorsIn (length m)) ≡ length m = permitted-whole (length m) (chip-facts c (length m) (e .fit .state-legal) .length-permitted) in
     let there : roundedDown size (c .frame .address % lengthOf (sectorsIn (length m))) ≡ rounded size (length m) (c .frame) =
     down (c .frame .address % lengthOf (sectorsIn (length m))) ∙ ap (λ (n : ℕ). rounded size n (c .frame)) whole-sectors in (
-      told-so .0 ∙ ap (λ (start : ℕ). withArmed false (withSuspended false (withJob (record { kind = kind; start = start; done = 0 }) (c .core)))) there,
+      told-so .0 ∙ ap (λ (start : ℕ). withArmed false (withSuspended false (withWaiting false (withJob (record { kind = kind; start = start; done = 0 }) (c .core))))) there,
       told-so .1,
     )
 

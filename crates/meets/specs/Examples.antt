@@ -18,7 +18,7 @@ use Rattle.part.specs.Protection.{protectedCount, protectedSectors, isProtected
 use Rattle.chip.specs.declared.Core.{Core}
 use Rattle.chip.specs.declared.Frame.{Frame}
 use Rattle.chip.specs.declared.JobKind.{JobKind}
-use Rattle.chip.specs.Job.{steps}
+use Rattle.chip.specs.Job.{steps, noJob}
 use Rattle.chip.specs.Fields.{withWen, withJob}
 use Rattle.chip.specs.Chip.{whole, fresh, resting, emptyFrame, statusByte}
 use Rattle.job.specs.Tick.{tickCore, ticksCore, worked}
@@ -81,7 +81,7 @@ p2 : P2
 unfolding runs eventsFrom walk faultAt knownKind knownIn kindRow kindRowIn applied exchanged taken judge fresh rowOf rowIn isProgram
 p2 m = refl
 
--- P3: the status byte once WEN is set, once a program runs, and once it is suspended (RULES, Status)
+-- P3: the status byte once WEN is set, once a program runs, while a suspend waits for its tick, and once the program is suspended (RULES, Status)
 abbrev pub statusAfter : List ℕ → List ℕ → ℕ
 statusAfter s m = statusByte (played 1 0x00 s m .chip .core)
 
@@ -91,7 +91,10 @@ programs = frame (0x06 ∷ []) ++ frame (0x02 ∷ 0 ∷ 0 ∷ 0 ∷ 0x0F ∷ [])
 abbrev pub P3 : Type 0
 P3 =
     (m : List ℕ)
-    → (statusAfter (frame (0x06 ∷ [])) m ≡ 0x02) × (statusAfter programs m ≡ 0x03) × (statusAfter (programs ++ frame (0xB0 ∷ [])) m ≡ 0x42)
+    → (statusAfter (frame (0x06 ∷ [])) m ≡ 0x02)
+    × (statusAfter programs m ≡ 0x03)
+    × (statusAfter (programs ++ frame (0xB0 ∷ [])) m ≡ 0x03)
+    × (statusAfter (programs ++ (frame (0xB0 ∷ []) ++ (TICK ∷ []))) m ≡ 0x42)
 
 -- P4: a write status of FFh takes five bits, and clears WEN (RULES, Status)
 abbrev pub P4 : Type 0
@@ -265,20 +268,6 @@ p5 m h c =
 
 -- ---- P3, on any memory: the program of P5, then the frame that suspends it
 
-abbrev suspending : List Event
-suspending = eventsFrom (programs ++ frame (0xB0 ∷ [])) (length programs)
-
-in-two : events (programs ++ frame (0xB0 ∷ [])) ≡ events programs ++ suspending
-unfolding eventsFrom walk faultAt knownKind knownIn kindRow kindRowIn
-in-two = refl
-
-suspends : (k : Core) (f : Frame) (load held m written : List ℕ) (ticks : ℕ) → k ≡ begunCore Program → f ≡ emptyFrame
-    → statusByte (runs one suspending (world (whole k f load held) m written ticks) .chip .core) ≡ 0x42
-unfolding runs eventsFrom walk faultAt knownKind knownIn kindRow kindRowIn applied exchanged taken judge fresh rowOf rowIn isProgram verdict recordOf listed isRead commandVerdict jobVerdict jobOf fitsRule settled acted heldAfter instantly statusByte
-suspends k f load held m written ticks p q =
-    subst (λ (x : Core). statusByte (runs one suspending (world (whole x f load held) m written ticks) .chip .core) ≡ 0x42) (sym p)
-    (subst (λ (y : Frame). statusByte (runs one suspending (world (whole (begunCore Program) y load held) m written ticks) .chip .core) ≡ 0x42) (sym q) refl)
-
 programming-frame : (m : List ℕ) → programming m .chip .frame ≡ emptyFrame
 unfolding runs eventsFrom walk faultAt knownKind knownIn kindRow kindRowIn applied exchanged taken judge fresh rowOf rowIn isProgram verdict recordOf listed isRead commandVerdict jobVerdict jobOf fitsRule settled acted heldAfter instantly protectedSectors protectedCount
 programming-frame m = refl
@@ -291,15 +280,52 @@ enabled-status : (m : List ℕ) → statusAfter (frame (0x06 ∷ [])) m ≡ 0x02
 unfolding runs eventsFrom walk faultAt knownKind knownIn kindRow kindRowIn applied exchanged taken judge fresh rowOf rowIn isProgram verdict recordOf listed isRead commandVerdict jobVerdict jobOf fitsRule settled acted heldAfter instantly statusByte
 enabled-status m = refl
 
+-- what comes after the program has begun: its events, and that they come after those that began it
+abbrev afterwards : List ℕ → List Event
+afterwards tail = eventsFrom (programs ++ tail) (length programs)
+
+abbrev InTwo : List ℕ → Type 0
+InTwo tail = events (programs ++ tail) ≡ events programs ++ afterwards tail
+
+-- so its core is what they make of the begun program, whatever the loads and the memory are
+then-core : {A : Type 0} (g : Core → A) (tail : List ℕ) (x : A) → InTwo tail
+    → ((load held m written : List ℕ) (ticks : ℕ) → g (runs one (afterwards tail) (world (whole (begunCore Program) emptyFrame load held) m written ticks) .chip .core) ≡ x)
+    → (m : List ℕ) → g (played 1 0x00 (programs ++ tail) m .chip .core) ≡ x
+then-core g tail x in-two shows m =
+    let w : World = programming m in
+    ap (λ (es : List Event). g (runs one es (world (fresh 0x00) m [] 0) .chip .core)) in-two
+    ∙ ap (λ (x : World). g (x .chip .core)) (runs-add one (events programs) (afterwards tail) (world (fresh 0x00) m [] 0))
+    ∙ (λ i. g (runs one (afterwards tail) (world (whole (programming-core m i) (programming-frame m i) (w .chip .load) (w .chip .held)) (w .memory) (w .written) (w .ticks)) .chip .core))
+    ∙ shows (w .chip .load) (w .chip .held) (w .memory) (w .written) (w .ticks)
+
 p3 : P3
-p3 m =
-    let w : World = programming m in (
-      enabled-status m,
-      ap statusByte (programming-core m) ∙ begun-status,
-      ap (λ (es : List Event). statusByte (runs one es (world (fresh 0x00) m [] 0) .chip .core)) in-two
-          ∙ ap (λ (x : World). statusByte (x .chip .core)) (runs-add one (events programs) suspending (world (fresh 0x00) m [] 0))
-          ∙ suspends (w .chip .core) (w .chip .frame) (w .chip .load) (w .chip .held) (w .memory) (w .written) (w .ticks) (programming-core m) (programming-frame m),
-    )
+unfolding runs eventsFrom walk faultAt knownKind knownIn kindRow kindRowIn applied exchanged taken judge fresh rowOf rowIn isProgram verdict recordOf listed isRead commandVerdict jobVerdict jobOf fitsRule settled acted heldAfter instantly statusByte ticksCore tickCore
+p3 m = (
+  enabled-status m,
+  ap statusByte (programming-core m) ∙ begun-status,
+  then-core statusByte (frame (0xB0 ∷ [])) 0x03 refl (λ load held m written ticks. refl) m,
+  then-core statusByte (frame (0xB0 ∷ []) ++ (TICK ∷ [])) 0x42 refl (λ load held m written ticks. refl) m,
+)
+
+-- ---- a suspend takes one more tick (RULES, Jobs)
+
+-- a begun program, that many ticks, B0h, and one tick more
+abbrev pub suspendedAfter : ℕ → List ℕ → Core
+suspendedAfter n m = played 1 0x00 (programs ++ (TICKS ∷ 0 ∷ n ∷ (frame (0xB0 ∷ []) ++ (TICK ∷ [])))) m .chip .core
+
+-- With 3 steps done the tick does the fourth, and the program is suspended. With 15 done it does the last: the program has ended, WEN is 0, and nothing is suspended.
+pub suspend-takes-a-tick : (m : List ℕ)
+    → (suspendedAfter 3 m .job ≡ record { kind = Program; start = 0; done = 4 })
+    × (statusByte (suspendedAfter 3 m) ≡ 0x42)
+    × (suspendedAfter 15 m .job ≡ noJob)
+    × (statusByte (suspendedAfter 15 m) ≡ 0x00)
+unfolding runs eventsFrom walk faultAt knownKind knownIn kindRow kindRowIn applied exchanged taken judge fresh rowOf rowIn isProgram verdict recordOf listed isRead commandVerdict jobVerdict jobOf fitsRule settled acted heldAfter instantly statusByte ticksCore tickCore
+suspend-takes-a-tick m = (
+  then-core (λ k. k .job) (TICKS ∷ 0 ∷ 3 ∷ (frame (0xB0 ∷ []) ++ (TICK ∷ []))) _ refl (λ load held m written ticks. refl) m,
+  then-core statusByte (TICKS ∷ 0 ∷ 3 ∷ (frame (0xB0 ∷ []) ++ (TICK ∷ []))) _ refl (λ load held m written ticks. refl) m,
+  then-core (λ k. k .job) (TICKS ∷ 0 ∷ 15 ∷ (frame (0xB0 ∷ []) ++ (TICK ∷ []))) _ refl (λ load held m written ticks. refl) m,
+  then-core statusByte (TICKS ∷ 0 ∷ 15 ∷ (frame (0xB0 ∷ []) ++ (TICK ∷ []))) _ refl (λ load held m written ticks. refl) m,
+)
 
 -- ---- all of them under one claim
 

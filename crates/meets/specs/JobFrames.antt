@@ -17,7 +17,7 @@ use Rattle.chip.specs.declared.Job.{Job}
 use Rattle.chip.specs.declared.JobKind.{JobKind}
 use Rattle.chip.specs.declared.JobKind.the-variants.{WriteStatus, Program, SmallErase, SectorErase, ChipErase}
 use Rattle.chip.specs.declared.Record.the-variants.{Floating}
-use Rattle.chip.specs.Fields.{withSuspended, withArmed, withJob}
+use Rattle.chip.specs.Fields.{withSuspended, withWaiting, withArmed, withJob}
 use Rattle.chip.specs.Job.{isJob, hasCells}
 use Rattle.chip.specs.Chip.{whole}
 use Rattle.frame.specs.Frame.{judge, loading, Exchange, exchange, taken}
@@ -179,10 +179,10 @@ module _ (S : ℕ) (k : Core) (f : Frame) (opcode A rule n : ℕ) (kind : JobKin
       ∙ cond-yes (isJob kind) _ _ (command .a-job)
       ∙ job-begins enabled unlocked free
 
-  -- It leaves that job, not suspended and unarmed, and all else as it was.
-  pub settled-begun : 1 ≤ n → settled S k f 2 ≡ withArmed false (withSuspended false (withJob job k))
+  -- It leaves that job, neither suspended nor waiting, and unarmed, and all else as it was.
+  pub settled-begun : 1 ≤ n → settled S k f 2 ≡ withArmed false (withSuspended false (withWaiting false (withJob job k)))
   unfolding settled acted
   settled-begun some =
       cond-no (eqb (f .count) 0) _ _ (ne-eqb (f .count) 0 (λ z. omega (arith, z, some, at .so-many)))
-      ∙ ap (λ (armed : Bool). withArmed armed (withSuspended false (withJob (jobAsked S f) k))) (never (eqb (f .opcode) resetEnable))
-      ∙ ap (λ (j : Job). withArmed false (withSuspended false (withJob j k))) asks-job
+      ∙ ap (λ (armed : Bool). withArmed armed (withSuspended false (withWaiting false (withJob (jobAsked S f) k)))) (never (eqb (f .opcode) resetEnable))
+      ∙ ap (λ (j : Job). withArmed false (withSuspended false (withWaiting false (withJob j k)))) asks-job

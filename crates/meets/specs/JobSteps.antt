@@ -22,8 +22,9 @@ use Rattle.chip.specs.declared.JobKind.the-variants.{Idle, WriteStatus, Program
 use Rattle.chip.specs.Fields.{withDone}
 use Rattle.chip.specs.Job.{isJob, total, steps, noJob}
 use Rattle.chip.specs.Chip.{Bits, bitsOf, running, blankLoad}
-use Rattle.job.specs.Tick.{ticksLeft, ticksCore, worked, endedAs, advanced}
-use Rattle.job.specs.Laws.{steps-none, steps-add, ticks-rest, ticksLoad-rest, ticksMemory-rest, worked-rest, ticks-go, ticksLoad-go, ticksMemory-go, worked-go, ended-none, ticks-over, ticksLoad-over, ticksMemory-over, worked-over}
+use Rattle.job.specs.Tick.{stepsLeft, ticksLeft, ticksCore, worked, endedAs, suspends, advanced}
+use Rattle.job.specs.Laws.{Stop, pauses, ends, stop-of, waits-one, left-most}
+use Rattle.job.specs.Laws.{steps-none, steps-add, ticks-rest, ticksLoad-rest, ticksMemory-rest, worked-rest, ticks-go, ticksLoad-go, ticksMemory-go, worked-go, ended-none, ticksMemory-over, worked-over, ticks-pause, ticksLoad-pause, ticks-end, ticksLoad-end}
 use Rattle.verdict.specs.Verdict.{verdict}
 use Rattle.verdict.specs.Laws.{settled-same, held-stays}
 use Rattle.event.specs.Event.{Outcome, closes, deselect, tick, applied}
@@ -170,61 +171,83 @@ module _ (T : Setting) (kind : JobKind) (start : ℕ) (held : List ℕ) (bits : 
       ),
     )
 
-    -- ticks: none of them works, or as many as the job has steps left
+    -- ---- ticks: none of them works, or as many as find the job running
 
     -- a job as the core has it, and as it is known
     job-as : {A : Type 0} (g : Job → A) → g (c .core .job) ≡ g (record { kind = kind; start = start; done = i })
     job-as g = ap g (at .job-is)
 
-    left-is : ticksLeft S (c .core) ≡ total kind S - i
+    left-is : stepsLeft S (c .core) ≡ total kind S - i
     left-is = job-as (λ (j : Job). max (total (j .kind) S - j .done) 1) ∙ omega arith
+
+    -- no more ticks find the job running than it has steps left
+    left-within : ticksLeft S (c .core) ≤ total kind S - i
+    left-within = omega (arith, left-is, left-most (c .core .waiting) (stepsLeft S (c .core)) (omega arith))
 
     steps-as : (n : ℕ) → steps (c .core .job .kind) (c .core .job .start) (c .held) (c .core .job .done) n m ≡ laid step i n m
     steps-as n = job-as (λ (j : Job). steps (j .kind) (j .start) (c .held) (j .done) n m) ∙ ap (λ (p : List ℕ). steps kind start p i n m) (at .held-is) ∙ sym (laid-steps kind start held i n m)
 
-    ticks-some-go : (n : ℕ) → running (c .core) ≡ true → n < total kind S - i → Goes i m (tick T c m n)
-    ticks-some-go n r l =
-        let less : n < ticksLeft S (c .core) = omega (arith, left-is) in
-        let most : n ≤ ticksLeft S (c .core) = omega (arith, left-is) in
-        let w : worked S n (c .core) ≡ n = worked-go S (c .core) r n most in
+    -- where the core has moved on by d steps, with the load and the bits that it had
+    moved-on : (d : ℕ) (o : Outcome) → o .chip .core .job ≡ advanced d (c .core) .job → o .chip .held ≡ c .held → bitsOf (o .chip .core) ≡ bitsOf (c .core) → At (i + d) (o .chip)
+    moved-on d o job load kept =
+        record { job-is = job ∙ job-as (λ (j : Job). withDone (j .done + d) j); held-is = load ∙ at .held-is; bits-are = kept ∙ at .bits-are }
+
+    -- some ticks, all of which found it running, and all that did
+    ticks-some-go : (n : ℕ) → running (c .core) ≡ true → n < ticksLeft S (c .core) → Goes i m (tick T c m n)
+    ticks-some-go n r less =
+        let w : worked S n (c .core) ≡ n = worked-go S (c .core) r n (omega arith) in
         let core-is : ticksCore S n (c .core) ≡ advanced n (c .core) = ticks-go S (c .core) r n less in (
-          ticksMemory-go S (c .core) r (c .held) m n most ∙ steps-as n ∙ ap (λ (q : ℕ). laid step i q m) (sym w),
+          ticksMemory-go S (c .core) r (c .held) m n (omega arith) ∙ steps-as n ∙ ap (λ (q : ℕ). laid step i q m) (sym w),
           inl (
-            omega (arith, w),
-            record {
-              job-is =
-                  ap (λ (q : Core). q .job) core-is
-                  ∙ job-as (λ (j : Job). withDone (j .done + n) j)
-                  ∙ ap (λ (q : ℕ). withDone (i + q) (record { kind = kind; start = start; done = i })) (sym w);
-              held-is = ticksLoad-go S (c .core) r (c .held) n less ∙ at .held-is;
-              bits-are = ap bitsOf core-is ∙ at .bits-are;
-            },
+            omega (arith, w, left-within),
+            subst (λ (q : ℕ). At (i + q) (tick T c m n .chip)) (sym w) (moved-on n (tick T c m n) (ap (λ (q : Core). q .job) core-is) (ticksLoad-go S (c .core) r (c .held) n less) (ap bitsOf core-is)),
           ),
         )
 
-    ticks-all-go : (n : ℕ) → running (c .core) ≡ true → total kind S - i ≤ n → Goes i m (tick T c m n)
-    ticks-all-go n r l =
-        let enough : ticksLeft S (c .core) ≤ n = omega (arith, left-is) in
-        let w : worked S n (c .core) ≡ ticksLeft S (c .core) = worked-over S (c .core) r n enough in
-        let core-is : ticksCore S n (c .core) ≡ endedAs kind (c .core) = ticks-over S (c .core) r n enough ∙ job-as (λ (j : Job). endedAs (j .kind) (c .core)) in (
-          ticksMemory-over S (c .core) r n enough (c .held) m ∙ steps-as (ticksLeft S (c .core)) ∙ ap (λ (q : ℕ). laid step i q m) (sym w),
-          inr (
-            omega (arith, w, left-is),
-            record {
-              job-none = ap (λ (q : Core). q .job) core-is ∙ ended-none kind (c .core);
-              load-blank = ticksLoad-over S (c .core) r n enough (c .held);
-              bits-are = ap bitsOf core-is ∙ ended-bits kind (c .core) ∙ ap (bitsAfter kind) (at .bits-are);
-            },
-          ),
-        )
+    module _ (n : ℕ) (r : running (c .core) ≡ true) (enough : ticksLeft S (c .core) ≤ n) where
+      all-worked : worked S n (c .core) ≡ ticksLeft S (c .core)
+      all-worked = worked-over S (c .core) r n enough
+
+      all-laid : tick T c m n .memory ≡ laid step i (worked S n (c .core)) m
+      all-laid = ticksMemory-over S (c .core) r n enough (c .held) m ∙ steps-as (ticksLeft S (c .core)) ∙ ap (λ (q : ℕ). laid step i q m) (sym all-worked)
+
+      -- it waited, has steps left, and is suspended at the next
+      ticks-pause-go : c .core .waiting ≡ true → c .core .job .done + 1 < total (c .core .job .kind) S → Goes i m (tick T c m n)
+      ticks-pause-go waits more =
+          let w : worked S n (c .core) ≡ 1 = all-worked ∙ waits-one S (c .core) waits in
+          let core-is : ticksCore S n (c .core) ≡ suspends (advanced 1 (c .core)) = ticks-pause S (c .core) r n enough waits more in
+          let left-one : i + 1 < total kind S = subst (λ (j : Job). j .done + 1 < total (j .kind) S) (at .job-is) more in (
+            all-laid,
+            inl (
+              omega (arith, w, left-one),
+              subst (λ (q : ℕ). At (i + q) (tick T c m n .chip)) (sym w)
+                  (moved-on 1 (tick T c m n) (ap (λ (q : Core). q .job) core-is) (ticksLoad-pause S (c .core) r n enough (c .held) waits more) (ap bitsOf core-is)),
+            ),
+          )
+
+      -- all its steps are done
+      ticks-all-go : ticksLeft S (c .core) ≡ stepsLeft S (c .core) → Goes i m (tick T c m n)
+      ticks-all-go all =
+          let core-is : ticksCore S n (c .core) ≡ endedAs kind (c .core) = ticks-end S (c .core) r n enough all ∙ job-as (λ (j : Job). endedAs (j .kind) (c .core)) in (
+            all-laid,
+            inr (
+              omega (arith, all-worked, all, left-is),
+              record {
+                job-none = ap (λ (q : Core). q .job) core-is ∙ ended-none kind (c .core);
+                load-blank = ticksLoad-end S (c .core) r n enough (c .held) all;
+                bits-are = ap bitsOf core-is ∙ ended-bits kind (c .core) ∙ ap (bitsAfter kind) (at .bits-are);
+              },
+            ),
+          )
 
     tick-goes : (n : ℕ) → Goes i m (tick T c m n)
-    tick-goes n = go (running (c .core)) refl (decLt n (total kind S - i))
+    tick-goes n = go (running (c .core)) refl (decLt n (ticksLeft S (c .core))) (stop-of S (c .core))
       where
-        go : (b : Bool) → running (c .core) ≡ b → Dec (n < total kind S - i) → Goes i m (tick T c m n)
-        go false r d = unchanged-goes _ (ticks-unchanged T c m n r)
-        go true r (yes l) = ticks-some-go n r l
-        go true r (no l) = ticks-all-go n r (omega arith)
+        go : (b : Bool) → running (c .core) ≡ b → Dec (n < ticksLeft S (c .core)) → Stop S (c .core) → Goes i m (tick T c m n)
+        go false r d s = unchanged-goes _ (ticks-unchanged T c m n r)
+        go true r (yes less) s = ticks-some-go n r less
+        go true r (no done) (pauses waits more) = ticks-pause-go n r (omega arith) waits more
+        go true r (no done) (ends all) = ticks-all-go n r (omega arith) all
 
     -- every event that spares the job
     pub event-goes : (kind′ body : ℕ) → Spares T c kind′ → Goes i m (applied T c m kind′ body)

@@ -12,13 +12,15 @@ use borrow.Author.Tests.{eq-eqb, ne-eqb, eqb-true, le-leb, leb-true}
 use Rattle.cells.specs.Choice.{cond-yes, cond-no, and-left, and-right, and-both}
 use Rattle.part.specs.Part.{permitted, sectorsIn, lengthOf}
 use Rattle.part.specs.Laws.{permitted-whole, permitted-some}
+use Rattle.job.specs.Legality.{running-awake}
+use Rattle.chip.specs.Laws.{cells-job}
 use Rattle.chip.specs.declared.Chip.{Chip}
 use Rattle.chip.specs.declared.Frame.{Frame}
 use Rattle.chip.specs.declared.Job.{Job}
 use Rattle.chip.specs.declared.JobKind.{JobKind}
 use Rattle.chip.specs.declared.JobKind.the-variants.{Idle, WriteStatus, Program, SmallErase, SectorErase, ChipErase}
-use Rattle.chip.specs.Job.{isJob, total}
-use Rattle.chip.specs.Chip.{statusByte, fresh}
+use Rattle.chip.specs.Job.{isJob, total, hasCells}
+use Rattle.chip.specs.Chip.{statusByte, fresh, running, suspendable}
 use Rattle.legal.specs.Legal.{isEmpty, isBlank, placed, tidy, judgementKnown, legal}
 use Rattle.legal.specs.Legality.{LegalCore, LegalChip, chip-facts, chip-legal, idle-legal, empty-legal}
 use Rattle.legal.specs.Legality as Legality
@@ -141,6 +143,9 @@ legal-when c n = (into, from)
           job-fits = fits (sectorsIn n) n whole-sectors refl (c .core .job .start) (c .core .job .done) (c .core .job .kind) (k .job-placed) (k .job-unfinished);
           job-enabled = k .job-enabled;
           suspended-cells = k .suspended-cells;
+          waiting-runs = λ w.
+          let runs : suspendable (c .core) ≡ true = k .waiting-runs w in
+          (and-right (running (c .core)) (hasCells (c .core .job .kind)) runs, running-awake (c .core) (and-left (running (c .core)) (hasCells (c .core .job .kind)) runs));
           deep-idle = k .deep-idle;
           deep-unarmed = k .deep-unarmed;
           address-small = l .frame-part .address-small;
@@ -170,6 +175,7 @@ legal-when c n = (into, from)
                 job-unfinished = fits-unfinished (sectorsIn n) n whole-sectors refl (j .start) (j .done) (j .kind) (l .job-fits);
                 job-enabled = l .job-enabled;
                 suspended-cells = l .suspended-cells;
+                waiting-runs = λ w. let cells = l .waiting-runs w in and-both (running (c .core)) (hasCells (j .kind)) (and-both (isJob (j .kind)) (not (c .core .suspended)) (cells-job (j .kind) (cells .0)) (ap not (cells .1))) (cells .0);
                 deep-idle = l .deep-idle;
                 deep-unarmed = l .deep-unarmed;
               };
@@ -196,6 +202,7 @@ fresh-state byte =
       awake = refl;
       unarmed = refl;
       no-job = refl;
+      not-waiting = refl;
       frame-empty = refl;
       load-blank = refl;
       held-blank = refl;
@@ -220,7 +227,7 @@ fresh-legal byte n part =
     chip-legal (fresh byte) n
     (record {
       length-permitted = part;
-      core-part = idle-legal (sectorsIn n) (fresh byte .core) refl (omega arith) refl (λ asleep. absurd (false≢true asleep));
+      core-part = idle-legal (sectorsIn n) (fresh byte .core) refl (omega arith) refl refl (λ asleep. absurd (false≢true asleep));
       frame-part = empty-legal (sectorsIn n) (permitted-some n part);
       tidy-part = Legality.empty-tidy;
     })

@@ -28,7 +28,7 @@ use Rattle.chip.specs.Job.{isJob}
 use Rattle.chip.specs.Chip.{bitsOf, blankLoad, running}
 use Rattle.legal.specs.Legal.{judgementKnown}
 use Rattle.job.specs.Tick.{ticksCore, ticksMemory, worked, ticksLeft, endedAs}
-use Rattle.job.specs.Laws.{ticks-rest, ticks-go, ticks-over, ticksMemory-rest, worked-go, worked-over}
+use Rattle.job.specs.Laws.{Stop, pauses, ends, stop-of, left-some, ticks-rest, ticks-go, ticks-pause, ticks-end, ticksMemory-rest, worked-go, worked-over, ended-each}
 use Rattle.verdict.specs.Verdict.{verdict, recordOf}
 use Rattle.verdict.specs.Effect.{begins, instantly, acted, settled}
 use Rattle.verdict.specs.Laws.{verdict-two, record-plain, record-tells, acted-nothing, instantly-each, held-reset}
@@ -134,6 +134,7 @@ two-starts T c m o known by =
       wen-same = ap (λ (k : Core). k .wen) core;
       wp-same = ap (λ (k : Core). k .wp) core;
       not-suspended = ap (λ (k : Core). k .suspended) core;
+      not-waiting = ap (λ (k : Core). k .waiting) core;
       unarmed = ap (λ (k : Core). k .armed) core ∙ not-so (eqb (c .frame .opcode) resetEnable && false) (λ h. false≢true (and-right (eqb (c .frame .opcode) resetEnable) false h));
       a-job = ap (λ (k : Core). isJob (k .job .kind)) core ∙ verdict-two (T .sectors) (c .core) (c .frame) (by .loose) known (by .verdict-is) .begins-job;
       at-step-0 = ap (λ (k : Core). k .job .done) core;
@@ -198,7 +199,7 @@ ticks-rest-cells S n k held m none = go (running k) refl (decLt n (ticksLeft S k
     go : (b : Bool) → running k ≡ b → Dec (n < ticksLeft S k) → ticksMemory S n k held m ≡ m
     go false r d = ticksMemory-rest S n k held m r
     go true r (yes h) = ap (λ (t : ℕ). ticksMemory S t k held m) (sym (worked-go S k r n (omega arith)) ∙ none)
-    go true r (no h) = absurd (omega (arith, worked-over S k r n (omega arith)))
+    go true r (no h) = absurd (omega (arith, worked-over S k r n (omega arith), left-some S k))
 
 -- An event without a working tick changes no cell.
 pub event-rests-cells : (T : Setting) (c : Chip) (m : List ℕ) (kind body : ℕ) → applied T c m kind body .ticks ≡ 0 → applied T c m kind body .memory ≡ m
@@ -223,20 +224,16 @@ OffWithoutJob k = isJob (k .job .kind) ≡ false → k .wen ≡ false
 
 -- the last step has put it off, ticks leave it so, and so does a verdict that begins no job and is no write enable done
 ended-off : (kind : JobKind) (k : Core) → endedAs kind k .wen ≡ false
-ended-off (WriteStatus value) k = refl
-ended-off Idle k = refl
-ended-off Program k = refl
-ended-off SmallErase k = refl
-ended-off SectorErase k = refl
-ended-off ChipErase k = refl
+ended-off kind k = ended-each kind k (λ (q : Core). q .wen ≡ false) refl (λ _. refl)
 
 off-ticks : (S n : ℕ) (k : Core) → OffWithoutJob k → OffWithoutJob (ticksCore S n k)
-off-ticks S n k off = go (running k) refl (decLt n (ticksLeft S k))
+off-ticks S n k off = go (running k) refl (decLt n (ticksLeft S k)) (stop-of S k)
   where
-    go : (b : Bool) → running k ≡ b → Dec (n < ticksLeft S k) → OffWithoutJob (ticksCore S n k)
-    go false r d = subst OffWithoutJob (sym (ticks-rest S n k r)) off
-    go true r (yes h) = subst OffWithoutJob (sym (ticks-go S k r n h)) off
-    go true r (no h) = subst OffWithoutJob (sym (ticks-over S k r n (omega arith))) (λ _. ended-off (k .job .kind) k)
+    go : (b : Bool) → running k ≡ b → Dec (n < ticksLeft S k) → Stop S k → OffWithoutJob (ticksCore S n k)
+    go false r d s = subst OffWithoutJob (sym (ticks-rest S n k r)) off
+    go true r (yes h) s = subst OffWithoutJob (sym (ticks-go S k r n h)) off
+    go true r (no h) (pauses waits more) = subst OffWithoutJob (sym (ticks-pause S k r n (omega arith) waits more)) off
+    go true r (no h) (ends all) = subst OffWithoutJob (sym (ticks-end S k r n (omega arith) all)) (λ _. ended-off (k .job .kind) k)
 
 module _ (S : ℕ) (k : Core) (f : Frame) (v : ℕ) (begins-none : v ≡ 2 → ⊥) (enables-not : v ≡ 1 → f .opcode ≡ writeEnable → ⊥) (off : OffWithoutJob k) where
   off-acted : Dec (v ≡ 1) → OffWithoutJob (acted S k f v)

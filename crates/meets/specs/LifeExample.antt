@@ -183,9 +183,9 @@ sound-by-test s (e ∷ es) t =
 
 -- ---- the script
 
--- five ticks; B0h; three ticks that find it suspended; a status read; 30h; eleven ticks
+-- five ticks; B0h; three ticks, of which the first works and the others find it suspended; a status read; 30h; ten ticks
 abbrev pub cutting : List ℕ
-cutting = (TICKS ∷ 0 ∷ 5 ∷ []) ++ (frame (0xB0 ∷ []) ++ ((TICKS ∷ 0 ∷ 3 ∷ []) ++ (frame (0x05 ∷ 0 ∷ []) ++ (frame (0x30 ∷ []) ++ (TICKS ∷ 0 ∷ 11 ∷ [])))))
+cutting = (TICKS ∷ 0 ∷ 5 ∷ []) ++ (frame (0xB0 ∷ []) ++ ((TICKS ∷ 0 ∷ 3 ∷ []) ++ (frame (0x05 ∷ 0 ∷ []) ++ (frame (0x30 ∷ []) ++ (TICKS ∷ 0 ∷ 10 ∷ [])))))
 
 -- a write enable; a small sector erase; and those
 abbrev pub erasesCut : List ℕ
@@ -260,7 +260,7 @@ module _ (m out : List ℕ) (smallest : length m ≡ 65536) (roomy : 33 ≤ leng
       (subst (λ (v : World). LifeRun answer (runsBy ours [] before start) v) (begun-as [] start before begins fit (good .0) (good .1 .0))
       (script-whole-life (fresh 0x00) m [] erasesCut out _ _ _ (refl, refl, refl) done before begins life in-order holds)))
 
-  -- Sixteen of its nineteen ticks work, and the run's own memory is the whole image: a sector of 4,096 cells FFh, every other cell as it was.
+  -- Sixteen of its eighteen ticks work, and the run's own memory is the whole image: a sector of 4,096 cells FFh, every other cell as it was.
   pub cut-and-ended : (answer .refusal ≡ 0) × (answer .memory ≡ wholeImage SmallErase 1 0 blankLoad m) × (answer .chip .core .job ≡ noJob) × (answer .ticks ≡ 16)
   unfolding runs eventsFrom walk faultAt knownKind knownIn kindRow kindRowIn applied exchanged taken judge fresh rowOf rowIn isProgram verdict recordOf listed isRead commandVerdict jobVerdict jobOf fitsRule settled acted heldAfter instantly protectedCount protectedSectors
   cut-and-ended = (done, lived .memory-is ∙ ap (λ (n : ℕ). wholeImage SmallErase (sectorsIn n) 0 blankLoad m) smallest, lived .job-gone, lived .ticks-are)

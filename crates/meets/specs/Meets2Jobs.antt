@@ -18,7 +18,7 @@ use Rattle.chip.specs.declared.Core.{Core}
 use Rattle.chip.specs.declared.Frame.{Frame}
 use Rattle.chip.specs.declared.JobKind.{JobKind}
 use Rattle.chip.specs.declared.JobKind.the-variants.{WriteStatus, Program, SmallErase, SectorErase, ChipErase}
-use Rattle.chip.specs.Fields.{withSuspended, withArmed, withJob}
+use Rattle.chip.specs.Fields.{withSuspended, withWaiting, withArmed, withJob}
 use Rattle.chip.specs.Job.{hasCells}
 use Rattle.chip.specs.Chip.{whole, emptyFrame, blankLoad}
 use Rattle.legal.specs.Legality.{chip-facts}
@@ -93,7 +93,7 @@ module _ (c : Chip) (m area : List ℕ) (ready : Ready c m area) (enabled : c .c
   -- the world after a frame of these bytes that has begun this job with this load
   abbrev pub begun : JobKind → ℕ → List ℕ → List ℕ → World
   begun kind start held bs =
-      world (whole (withArmed false (withSuspended false (withJob (record { kind = kind; start = start; done = 0 }) (c .core)))) emptyFrame blankLoad held) m (replicate (length bs) 0x80 ++ (0x82 ∷ 2 ∷ [])) 0
+      world (whole (withArmed false (withSuspended false (withWaiting false (withJob (record { kind = kind; start = start; done = 0 }) (c .core))))) emptyFrame blankLoad held) m (replicate (length bs) 0x80 ++ (0x82 ∷ 2 ∷ [])) 0
 
   begins : (bs : List ℕ) (kind : JobKind) (start : ℕ) (held : List ℕ) → framed ours c m area bs ≡ begun kind start held bs → Begins ours c m area bs kind start
   begins bs kind start held e =
@@ -130,7 +130,7 @@ module _ (c : Chip) (m area : List ℕ) (ready : Ready c m area) (enabled : c .c
     begins-at start there =
         closed
         ∙ ap (λ (k : Core). world (whole k emptyFrame blankLoad (cond (isProgram (f .opcode)) load blankLoad)) m (replicate (length bs) 0x80 ++ (0x82 ∷ 2 ∷ [])) 0)
-        (settled-begun S (c .core) f opcode A rule n kind command at some ∙ ap (λ (q : ℕ). withArmed false (withSuspended false (withJob (record { kind = kind; start = q; done = 0 }) (c .core)))) there)
+        (settled-begun S (c .core) f opcode A rule n kind command at some ∙ ap (λ (q : ℕ). withArmed false (withSuspended false (withWaiting false (withJob (record { kind = kind; start = q; done = 0 }) (c .core))))) there)
         ∙ ap (λ (q : ℕ). begun kind start (cond (isProgram q) load blankLoad) bs) (at .opcode-is)
 
   -- ---- the places

@@ -10,6 +10,7 @@ use lib.ListN.{length, replicate}
 use borrow.Author.Tests.{eqb-true, lt-leb, leb-true}
 use Rattle.cells.specs.Choice.{cond-no, and-left, and-right, not-so}
 use Rattle.part.specs.Part.{Setting, sectorsIn, settingOf}
+use Rattle.chip.specs.Laws.{cells-job}
 use Rattle.chip.specs.declared.Chip.{Chip}
 use Rattle.chip.specs.declared.Core.{Core}
 use Rattle.chip.specs.declared.Frame.{Frame}
@@ -141,18 +142,15 @@ pub allowed : (a b : Bool) → b ≡ true → (a && not b) ≡ false
 allowed true b h = ap not h
 allowed false b h = refl
 
--- what has cells is a job
-cells-job : (kind : JobKind) → hasCells kind ≡ true → isJob kind ≡ true
-cells-job Idle h = h
-cells-job (WriteStatus value) h = refl
-cells-job Program h = refl
-cells-job SmallErase h = refl
-cells-job SectorErase h = refl
-cells-job ChipErase h = refl
-
 -- a legal chip without a job is not suspended
 pub not-suspended : (c : Chip) (n : ℕ) → legal c n ≡ true → isJob (c .core .job .kind) ≡ false → c .core .suspended ≡ false
 not-suspended c n l idle = not-so (c .core .suspended) (λ e. false≢true (sym idle ∙ cells-job (c .core .job .kind) (chip-facts c n l .core-part .suspended-cells e)))
+
+-- and does not wait to be
+pub not-waiting : (c : Chip) (n : ℕ) → legal c n ≡ true → isJob (c .core .job .kind) ≡ false → c .core .waiting ≡ false
+not-waiting c n l idle =
+    not-so (c .core .waiting) (λ e.
+    false≢true (sym idle ∙ cells-job (c .core .job .kind) (and-right (running (c .core)) (hasCells (c .core .job .kind)) (chip-facts c n l .core-part .waiting-runs e))))
 
 -- A chip at rest, idle or suspended, takes the opcodes that are allowed while suspended.
 pub quiet-takes : (c : Chip) (m area : List ℕ) → Quiet c m area → (opcode : ℕ) → rowOf opcode .known ≡ true → rowOf opcode .suspended ≡ true → judge (c .core) opcode ≡ 0

@@ -129,10 +129,14 @@ fit-runs area (e ∷ es) w fit good = fit-runs area es (onwardBy ours area e w) 
 finds-worked : (S : ℕ) (k : Core) (n : ℕ) → LegalCore S k → worked S n k ≡ finds S k n
 finds-worked S k n l = go (running k) refl (decLt n (ticksLeft S k))
   where
-    go : (b : Bool) → running k ≡ b → Dec (n < ticksLeft S k) → worked S n k ≡ cond b (min n (total (k .job .kind) S - k .job .done)) 0
+    -- the job has a step left
+    left-is : running k ≡ true → ticksLeft S k ≡ cond (k .waiting) 1 (total (k .job .kind) S - k .job .done)
+    left-is r = ap (λ (left : ℕ). cond (k .waiting) 1 left) (omega (arith, l .job-unfinished (running-job k r)))
+
+    go : (b : Bool) → running k ≡ b → Dec (n < ticksLeft S k) → worked S n k ≡ cond b (min n (cond (k .waiting) 1 (total (k .job .kind) S - k .job .done))) 0
     go false r d = worked-rest S n k r
-    go true r (yes h) = worked-go S k r n (omega arith) ∙ omega (arith, l .job-unfinished (running-job k r))
-    go true r (no h) = worked-over S k r n (omega arith) ∙ omega (arith, l .job-unfinished (running-job k r))
+    go true r (yes h) = worked-go S k r n (omega arith) ∙ omega (arith, left-is r)
+    go true r (no h) = worked-over S k r n (omega arith) ∙ omega (arith, left-is r)
 
 -- no ticks find none
 pub finds-none : (S : ℕ) (k : Core) → finds S k 0 ≡ 0

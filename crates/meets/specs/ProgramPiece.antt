@@ -18,7 +18,7 @@ use Rattle.commands.specs.Table.{rowOf, rowIn, fitsRule, isRead, isProgram}
 use Rattle.chip.specs.declared.Chip.{Chip}
 use Rattle.chip.specs.declared.Core.{Core}
 use Rattle.chip.specs.declared.JobKind.the-variants.{Program}
-use Rattle.chip.specs.Fields.{withWen, withSuspended, withArmed, withJob}
+use Rattle.chip.specs.Fields.{withWen, withSuspended, withWaiting, withArmed, withJob}
 use Rattle.chip.specs.Job.{steps, wholeImage, noJob}
 use Rattle.chip.specs.Chip.{whole, emptyFrame, blankLoad}
 use Rattle.legal.specs.Legal.{legal, isBlank}
@@ -114,7 +114,7 @@ module _ (c : Chip) (m area : List ℕ) (ready : Ready c m area) where
 
     -- the core while it is under way
     abbrev programming : Core
-    programming = withArmed false (withSuspended false (withJob (record { kind = Program; start = start; done = 0 }) (enabled .core)))
+    programming = withArmed false (withSuspended false (withWaiting false (withJob (record { kind = Program; start = start; done = 0 }) (enabled .core))))
 
     program-runs : runs T (frameEvents (0x02 ∷ (address A ++ bs))) (world enabled m [] 0) ≡ begun enabled m area enabled-ready refl Program start load (0x02 ∷ (address A ++ bs))
     unfolding AllBytes
@@ -129,12 +129,12 @@ module _ (c : Chip) (m area : List ℕ) (ready : Ready c m area) where
         ≡ world (whole (gone programming) emptyFrame blankLoad blankLoad) (steps Program start load 0 16 m) written 16
     unfolding runs applied
     ticks-run written =
-        λ i. world (whole (ticks-end S programming refl i) emptyFrame blankLoad (ticksLoad-end S programming refl load i)) (ticksMemory-go S programming refl load m 16 (omega arith) i) (append-nil written i)
+        λ i. world (whole (ticks-end S programming refl 16 (omega arith) refl i) emptyFrame blankLoad (ticksLoad-end S programming refl 16 (omega arith) load refl i)) (ticksMemory-go S programming refl load m 16 (omega arith) i) (append-nil written i)
         ((ap (λ (n : ℕ). 0 + n) (worked-go S programming refl 16 (omega arith))) i)
 
     -- which leaves the core at rest
     rested : gone programming ≡ poweredUp (c .core)
-    rested = λ i. record { level = c .core .level; tb = c .core .tb; srwp = c .core .srwp; wen = false; suspended = false; wp = c .core .wp; deep = ready .quiet .awake i; armed = false; job = noJob }
+    rested = λ i. record { level = c .core .level; tb = c .core .tb; srwp = c .core .srwp; wen = false; suspended = false; waiting = false; wp = c .core .wp; deep = ready .quiet .awake i; armed = false; job = noJob }
 
     -- The events of a piece, from a chip at rest to one at rest.
     pub piece-runs : runs T (pieceEvents (address A) bs) (world c m [] 0) ≡ world (whole (poweredUp (c .core)) emptyFrame blankLoad blankLoad) (steps Program start load 0 16 m) (pageSays (length bs)) 16

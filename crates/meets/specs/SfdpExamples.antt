@@ -5,11 +5,12 @@ use mathlib.Core.Path.{_≡_, refl}
 use lib.ListN.{getD, replicate}
 use Rattle.part.specs.Part.{setting}
 use Rattle.part.specs.Area.{ownArea}
-use Rattle.kinds.specs.Kinds.{SELECT, LOOSE, knownIn, kindRowIn, knownKind, kindRow}
+use Rattle.kinds.specs.Kinds.{SELECT, TICK, LOOSE, knownIn, kindRowIn, knownKind, kindRow}
 use Rattle.commands.specs.Table.{rowOf, rowIn, fitsRule, isRead, isProgram}
 use Rattle.part.specs.Protection.{protectedCount, protectedSectors}
 use Rattle.chip.specs.Chip.{fresh}
 use Rattle.frame.specs.Frame.{judge, taken, exchanged}
+use Rattle.job.specs.Tick.{tickCore, ticksCore}
 use Rattle.verdict.specs.Verdict.{jobOf, jobVerdict, commandVerdict, listed, verdict, recordOf}
 use Rattle.verdict.specs.Effect.{instantly, acted, settled, heldAfter}
 use Rattle.event.specs.Event.{applied}
@@ -70,7 +71,7 @@ q4 : Q4
 unfolding runs eventsFrom walk faultAt knownKind knownIn kindRow kindRowIn applied exchanged taken judge fresh rowOf rowIn isProgram verdict recordOf listed isRead settled acted heldAfter ownArea
 q4 m = (refl, refl)
 
--- Q5: asleep the frame is 5, while a job runs 6, while one is suspended 7, and it floats; loose it is 0
+-- Q5: asleep the frame is 5, while a job runs 6, also while it waits to be suspended, and once it is suspended 7, and it floats; loose it is 0
 abbrev pub erases : List ℕ
 erases = frame (0x06 ∷ []) ++ frame (0x20 ∷ 0x00 ∷ 0x00 ∷ 0x00 ∷ [])
 
@@ -85,12 +86,13 @@ Q5 =
     (m : List ℕ)
     → (writtenOn 1 ownArea (frame (0xB9 ∷ []) ++ sfdpFrame 0x00 0x00 0x00 1) m ≡ 0x80 ∷ 0x82 ∷ 1 ∷ floats 5)
     × (writtenOn 1 ownArea (erases ++ sfdpFrame 0x00 0x00 0x00 1) m ≡ begun ++ floats 6)
-    × (writtenOn 1 ownArea (erases ++ (frame (0xB0 ∷ []) ++ sfdpFrame 0x00 0x00 0x00 1)) m ≡ begun ++ (0x80 ∷ 0x82 ∷ 1 ∷ floats 7))
+    × (writtenOn 1 ownArea (erases ++ (frame (0xB0 ∷ []) ++ sfdpFrame 0x00 0x00 0x00 1)) m ≡ begun ++ (0x80 ∷ 0x82 ∷ 1 ∷ floats 6))
+    × (writtenOn 1 ownArea (erases ++ (frame (0xB0 ∷ []) ++ (TICK ∷ sfdpFrame 0x00 0x00 0x00 1))) m ≡ begun ++ (0x80 ∷ 0x82 ∷ 1 ∷ floats 7))
     × (writtenOn 1 ownArea (SELECT ∷ (exchanges (0x5A ∷ 0x00 ∷ []) ++ (LOOSE ∷ 3 ∷ []))) m ≡ 0x80 ∷ 0x80 ∷ 0x82 ∷ 0 ∷ [])
 
 q5 : Q5
-unfolding runs eventsFrom walk faultAt knownKind knownIn kindRow kindRowIn applied exchanged taken judge fresh rowOf rowIn isProgram verdict recordOf listed isRead commandVerdict jobVerdict jobOf fitsRule settled acted heldAfter instantly protectedSectors protectedCount ownArea
-q5 m = (refl, refl, refl, refl)
+unfolding runs eventsFrom walk faultAt knownKind knownIn kindRow kindRowIn applied exchanged taken judge fresh rowOf rowIn isProgram verdict recordOf listed isRead commandVerdict jobVerdict jobOf fitsRule settled acted heldAfter instantly protectedSectors protectedCount ticksCore tickCore ownArea
+q5 m = (refl, refl, refl, refl, refl)
 
 -- The worked examples of 5Ah hold.
 pub sfdp-examples : Q1 × Q2 × Q3 × Q4 × Q5

@@ -1,23 +1,24 @@
 -- What Demand 3 says of ticks, of ours: idle ones do nothing, and all of them leave what is not the job's.
-use Prim.Native.Nat.{ℕ, _<_}
-use mathlib.Core.Bool.{Bool, true, false}
+use Prim.Native.Nat.{ℕ, _+_, _<_, _≤_}
+use mathlib.Core.Bool.{Bool, true, false, _&&_, _||_, false≢true}
 use mathlib.Core.List.{List, []}
 use mathlib.Core.Path.{_≡_, refl, sym, ap, subst, _∙_}
 use native.Mathlib.Decide.{decLt}
 use native.Mathlib.Omega.{arith}
-use lib.Dec.{leb}
+use lib.Dec.{ltb, leb}
 use lib.ListN.{length}
-use borrow.Author.Tests.{le-leb}
-use Rattle.cells.specs.Choice.{and-both}
+use borrow.Author.Tests.{lt-ltb, ltb-true, le-leb}
+use Rattle.cells.specs.Choice.{and-left, and-right, and-both, not-so}
 use Rattle.part.specs.Part.{Setting, sectorsIn, settingOf}
 use Rattle.chip.specs.declared.Chip.{Chip}
 use Rattle.chip.specs.declared.Core.{Core}
 use Rattle.chip.specs.declared.JobKind.{JobKind}
-use Rattle.chip.specs.declared.JobKind.the-variants.{Idle, WriteStatus, Program, SmallErase, SectorErase, ChipErase}
+use Rattle.chip.specs.Job.{hasCells, total}
 use Rattle.chip.specs.Chip.{whole, running}
+use Rattle.legal.specs.Legality.{LegalCore, chip-facts}
 use Rattle.kinds.specs.Kinds.{knownKind, knownIn, kindRow, kindRowIn}
-use Rattle.job.specs.Tick.{ticksLeft, ticksCore, endedAs}
-use Rattle.job.specs.Laws.{ticks-rest, ticksLoad-rest, ticksMemory-rest, worked-rest, ticks-go, ticks-over}
+use Rattle.job.specs.Tick.{advanced, stepsLeft, ticksLeft, ticksCore, endedAs}
+use Rattle.job.specs.Laws.{Stop, pauses, ends, stop-of, waits-one, ticks-rest, ticksLoad-rest, ticksMemory-rest, worked-rest, ticks-go, ticks-pause, ticks-end, ended-each}
 use Rattle.event.specs.Event.{tick, applied}
 use Rattle.demands.specs.Model.{reply, ours, event, Good, Fit}
 use Rattle.demands.specs.Demand3.{Ticking, one-tick, many-ticks, TicksKeep}
@@ -28,6 +29,11 @@ pub ticking-good : (kind body n : ℕ) → Ticking kind body n → Good (event k
 unfolding knownKind knownIn kindRow kindRowIn
 ticking-good kind body n (one-tick b) = (refl, refl)
 ticking-good kind body n (many-ticks t some most) = (refl, and-both (leb 1 t) (leb t 65535) (le-leb 1 t some) (le-leb t 65535 most))
+
+-- it has at least one tick
+ticking-some : (kind body n : ℕ) → Ticking kind body n → 1 ≤ n
+ticking-some kind body n (one-tick b) = omega arith
+ticking-some kind body n (many-ticks t some most) = some
 
 -- and it is what n ticks do
 ticking-applied : (T : Setting) (c : Chip) (m : List ℕ) (kind body n : ℕ) → Ticking kind body n → applied T c m kind body ≡ tick T c m n
@@ -49,36 +55,90 @@ ours-idle-ticks c m area kind body n fit ticking idle =
 
 -- what no number of ticks changes of the core
 record CoreKeeps (k k′ : Core) : Type 0 where
-  suspended-same : k′ .suspended ≡ k .suspended
   wp-same : k′ .wp ≡ k .wp
   deep-same : k′ .deep ≡ k .deep
   armed-same : k′ .armed ≡ k .armed
 
 ended-keeps : (kind : JobKind) (k : Core) → CoreKeeps k (endedAs kind k)
-ended-keeps (WriteStatus value) k = record { suspended-same = refl; wp-same = refl; deep-same = refl; armed-same = refl }
-ended-keeps Idle k = record { suspended-same = refl; wp-same = refl; deep-same = refl; armed-same = refl }
-ended-keeps Program k = record { suspended-same = refl; wp-same = refl; deep-same = refl; armed-same = refl }
-ended-keeps SmallErase k = record { suspended-same = refl; wp-same = refl; deep-same = refl; armed-same = refl }
-ended-keeps SectorErase k = record { suspended-same = refl; wp-same = refl; deep-same = refl; armed-same = refl }
-ended-keeps ChipErase k = record { suspended-same = refl; wp-same = refl; deep-same = refl; armed-same = refl }
+ended-keeps kind k = ended-each kind k (CoreKeeps k) (record { wp-same = refl; deep-same = refl; armed-same = refl }) (λ _. record { wp-same = refl; deep-same = refl; armed-same = refl })
 
 ticks-keep-core : (S n : ℕ) (k : Core) → CoreKeeps k (ticksCore S n k)
-ticks-keep-core S n k = go (running k) refl (decLt n (ticksLeft S k))
+ticks-keep-core S n k = go (running k) refl (decLt n (ticksLeft S k)) (stop-of S k)
   where
-    go : (b : Bool) → running k ≡ b → Dec (n < ticksLeft S k) → CoreKeeps k (ticksCore S n k)
-    go false r l = subst (CoreKeeps k) (sym (ticks-rest S n k r)) (record { suspended-same = refl; wp-same = refl; deep-same = refl; armed-same = refl })
-    go true r (yes l) = subst (CoreKeeps k) (sym (ticks-go S k r n l)) (record { suspended-same = refl; wp-same = refl; deep-same = refl; armed-same = refl })
-    go true r (no l) = subst (CoreKeeps k) (sym (ticks-over S k r n (omega arith))) (ended-keeps (k .job .kind) k)
+    go : (b : Bool) → running k ≡ b → Dec (n < ticksLeft S k) → Stop S k → CoreKeeps k (ticksCore S n k)
+    go false r l s = subst (CoreKeeps k) (sym (ticks-rest S n k r)) (record { wp-same = refl; deep-same = refl; armed-same = refl })
+    go true r (yes l) s = subst (CoreKeeps k) (sym (ticks-go S k r n l)) (record { wp-same = refl; deep-same = refl; armed-same = refl })
+    go true r (no l) (pauses waits more) = subst (CoreKeeps k) (sym (ticks-pause S k r n (omega arith) waits more)) (record { wp-same = refl; deep-same = refl; armed-same = refl })
+    go true r (no l) (ends all) = subst (CoreKeeps k) (sym (ticks-end S k r n (omega arith) all)) (ended-keeps (k .job .kind) k)
 
-pub ours-ticks-keep : (c : Chip) (m area : List ℕ) (kind body n : ℕ) → Fit c m area → Ticking kind body n → TicksKeep c (ours c m area kind body)
+-- ---- the wait
+
+-- whether the next step is not the last
+abbrev stepsAfter : ℕ → Core → Bool
+stepsAfter S k = ltb (k .job .done + 1) (total (k .job .kind) S)
+
+-- what ticks make of SUS and the mark: a job that waited is suspended if a step is left after the next, and waits no longer
+record WaitOver (S : ℕ) (k k′ : Core) : Type 0 where
+  suspended-is : k′ .suspended ≡ (k .suspended || k .waiting && stepsAfter S k)
+  wait-over : k′ .waiting ≡ false
+
+or-nothing : (b x : Bool) → x ≡ false → b ≡ (b || x)
+or-nothing true x e = refl
+or-nothing false x e = sym e
+
+or-true : (b x : Bool) → x ≡ true → (b || x) ≡ true
+or-true true x e = refl
+or-true false x e = e
+
+-- where no job waits, and where nothing comes after the next step, SUS stays
+unmarked-over : (S : ℕ) (k k′ : Core) → k′ .suspended ≡ k .suspended → k .waiting ≡ false → k′ .waiting ≡ k .waiting → WaitOver S k k′
+unmarked-over S k k′ same unmarked mark =
+    record { suspended-is = same ∙ or-nothing (k .suspended) _ (ap (λ (w : Bool). w && stepsAfter S k) unmarked); wait-over = mark ∙ unmarked }
+
+ended-over : (S : ℕ) (k : Core) (kind : JobKind) → (k .waiting && stepsAfter S k) ≡ false → WaitOver S k (endedAs kind k)
+ended-over S k kind last =
+    let stays : k .suspended ≡ (k .suspended || k .waiting && stepsAfter S k) = or-nothing (k .suspended) _ last in
+    ended-each kind k (WaitOver S k) (record { suspended-is = stays; wait-over = refl }) (λ _. record { suspended-is = stays; wait-over = refl })
+
+module _ (S n : ℕ) (some : 1 ≤ n) (k : Core) (l : LegalCore S k) where
+  -- a job that waits runs
+  unmarked-at-rest : running k ≡ false → k .waiting ≡ false
+  unmarked-at-rest rests = not-so (k .waiting) (λ w. false≢true (sym rests ∙ and-left (running k) (hasCells (k .job .kind)) (l .waiting-runs w)))
+
+  -- and stops at its next tick
+  unmarked-going : n < ticksLeft S k → k .waiting ≡ false
+  unmarked-going going = not-so (k .waiting) (λ w. absurd (omega (arith, waits-one S k w)))
+
+  nothing-after : ticksLeft S k ≡ stepsLeft S k → (k .waiting && stepsAfter S k) ≡ false
+  nothing-after all =
+      not-so (k .waiting && stepsAfter S k) (λ h.
+      let waits : k .waiting ≡ true = and-left (k .waiting) (stepsAfter S k) h in
+      let more : k .job .done + 1 < total (k .job .kind) S = ltb-true _ _ (and-right (k .waiting) (stepsAfter S k) h) in
+      omega (arith, all, waits-one S k waits))
+
+  ticks-wait-over : WaitOver S k (ticksCore S n k)
+  ticks-wait-over = go (running k) refl (decLt n (ticksLeft S k)) (stop-of S k)
+    where
+      go : (b : Bool) → running k ≡ b → Dec (n < ticksLeft S k) → Stop S k → WaitOver S k (ticksCore S n k)
+      go false r d s = subst (WaitOver S k) (sym (ticks-rest S n k r)) (unmarked-over S k k refl (unmarked-at-rest r) refl)
+      go true r (yes going) s = subst (WaitOver S k) (sym (ticks-go S k r n going)) (unmarked-over S k (advanced n k) refl (unmarked-going going) refl)
+      go true r (no done) (pauses waits more) =
+          subst (WaitOver S k) (sym (ticks-pause S k r n (omega arith) waits more))
+          (record { suspended-is = sym (or-true (k .suspended) _ (and-both (k .waiting) (stepsAfter S k) waits (lt-ltb _ _ more))); wait-over = refl })
+      go true r (no done) (ends all) = subst (WaitOver S k) (sym (ticks-end S k r n (omega arith) all)) (ended-over S k (k .job .kind) (nothing-after all))
+
+pub ours-ticks-keep : (c : Chip) (m area : List ℕ) (kind body n : ℕ) → Fit c m area → Ticking kind body n → TicksKeep c m (ours c m area kind body)
 ours-ticks-keep c m area kind body n fit ticking =
     let keeps : CoreKeeps (c .core) (ticksCore (sectorsIn (length m)) n (c .core)) = ticks-keep-core (sectorsIn (length m)) n (c .core) in
-    subst (TicksKeep c) (sym (ticking-as c m area kind body n fit ticking))
+    let over : WaitOver (sectorsIn (length m)) (c .core) (ticksCore (sectorsIn (length m)) n (c .core))
+        = ticks-wait-over (sectorsIn (length m)) n (ticking-some kind body n ticking) (c .core) (chip-facts c (length m) (fit .state-legal) .core-part) in
+    subst (TicksKeep c m) (sym (ticking-as c m area kind body n fit ticking))
     (record {
       says-nothing = refl;
       frame-same = refl;
       load-same = refl;
-      suspended-same = keeps .suspended-same;
+      suspended-is = over .suspended-is;
+      wait-over = over .wait-over;
       wp-same = keeps .wp-same;
       deep-same = keeps .deep-same;
       armed-same = keeps .armed-same;

@@ -16,7 +16,7 @@ use Rattle.chip.specs.declared.Core.{Core}
 use Rattle.chip.specs.declared.Frame.{Frame}
 use Rattle.chip.specs.Fields.{withArmed}
 use Rattle.chip.specs.Job.{isJob, hasCells}
-use Rattle.chip.specs.Chip.{running}
+use Rattle.chip.specs.Chip.{running, suspendable}
 use Rattle.chip.specs.Record.{recordBytes}
 use Rattle.frame.specs.Frame.{judge}
 use Rattle.verdict.specs.Verdict.{jobOf, startOf, pointless, jobVerdict, commandVerdict, listed, verdict, recordOf}
@@ -122,28 +122,42 @@ pub verdict-as : (n : ℕ) (k : Core) (f : Frame) (loose : Bool) → permitted n
 unfolding verdict listed commandVerdict judge
 verdict-as n k f loose p =
     ap (λ (v : ℕ). cond (eqb (f .count) 0) 0 (cond (not (eqb (f .judgement) 0)) (f .judgement) v))
-    (ap (above (isRead (f .opcode))) (job-part n p k (f .address) (f .opcode))
-    ∙ ap (λ (i : Bool). above i (inList n p k (f .address) (f .opcode))) (read-among (f .opcode))
+    (ap (above (isRead (f .opcode)) suspendless) (job-part n p k (f .address) (f .opcode))
+    ∙ ap (λ (i : Bool). above i suspendless (inList n p k (f .address) (f .opcode))) (read-among (f .opcode))
+    ∙ ap (λ (s : Bool). above (among (0x05 ∷ 0x03 ∷ 0x0B ∷ 0x9F ∷ 0x5A ∷ []) (f .opcode)) s (inList n p k (f .address) (f .opcode))) (none-or-waits (eqb (f .opcode) 0xB0) (suspendable k) (k .waiting))
     ∙ go (rowOf (f .opcode) .known) (k .deep && not (eqb (f .opcode) 0xAB)) (running k && not (rowOf (f .opcode) .running)) (k .suspended && not (rowOf (f .opcode) .suspended))
-    (eqb (f .opcode) 0xB0 && not (running k && hasCells (k .job .kind))) (eqb (f .opcode) 0x30 && not (k .suspended)) (eqb (f .opcode) 0x99 && not (k .armed))
+    (eqb (f .opcode) 0xB0 && not (suspendable k)) (eqb (f .opcode) 0xB0 && k .waiting) (eqb (f .opcode) 0x30 && not (k .suspended)) (eqb (f .opcode) 0x99 && not (k .armed))
     (among (0x05 ∷ 0x03 ∷ 0x0B ∷ 0x9F ∷ 0x5A ∷ []) (f .opcode)) (loose || not (fitsRule (rowOf (f .opcode) .rule) (f .count))) (inList n p k (f .address) (f .opcode)))
   where
-    above : Bool → ℕ → ℕ
-    above read v =
-        cond (not (eqb (judge k (f .opcode)) 0)) (judge k (f .opcode))
-        (cond read 0 (cond (loose || not (fitsRule (rowOf (f .opcode) .rule) (f .count))) 4 (cond (pointless k (f .opcode)) 11 v)))
+    -- a suspend with nothing to act on: there is no program or erase running, or it waits already
+    suspendless : Bool
+    suspendless = eqb (f .opcode) 0xB0 && not (suspendable k && not (k .waiting))
 
-    go : (a d r s p₁ p₂ p₃ i b : Bool) (v : ℕ)
+    none-or-waits : (b s w : Bool) → (b && not (s && not w)) ≡ (b && not s || b && w)
+    none-or-waits true true true = refl
+    none-or-waits true true false = refl
+    none-or-waits true false w = refl
+    none-or-waits false s w = refl
+
+    above : Bool → Bool → ℕ → ℕ
+    above read suspends-none v =
+        cond (not (eqb (judge k (f .opcode)) 0)) (judge k (f .opcode))
+        (cond read 0
+        (cond (loose || not (fitsRule (rowOf (f .opcode) .rule) (f .count))) 4
+        (cond (suspends-none || eqb (f .opcode) 0x30 && not (k .suspended) || eqb (f .opcode) 0x99 && not (k .armed)) 11 v)))
+
+    go : (a d r s p₀ p₁ p₂ p₃ i b : Bool) (v : ℕ)
         → _≡_ {A = ℕ}
-        (cond (not (eqb (cond (not a) 3 (cond d 5 (cond r 6 (cond s 7 0)))) 0)) (cond (not a) 3 (cond d 5 (cond r 6 (cond s 7 0)))) (cond i 0 (cond b 4 (cond (p₁ || p₂ || p₃) 11 v))))
-        (cond (not a) 3 (cond d 5 (cond r 6 (cond s 7 (cond i 0 (cond b 4 (cond p₁ 11 (cond p₂ 11 (cond p₃ 11 v)))))))))
-    go false d r s p₁ p₂ p₃ i b v = refl
-    go true true r s p₁ p₂ p₃ i b v = refl
-    go true false true s p₁ p₂ p₃ i b v = refl
-    go true false false true p₁ p₂ p₃ i b v = refl
-    go true false false false true p₂ p₃ i b v = refl
-    go true false false false false true p₃ i b v = refl
-    go true false false false false false p₃ i b v = refl
+        (cond (not (eqb (cond (not a) 3 (cond d 5 (cond r 6 (cond s 7 0)))) 0)) (cond (not a) 3 (cond d 5 (cond r 6 (cond s 7 0)))) (cond i 0 (cond b 4 (cond (p₀ || p₁ || p₂ || p₃) 11 v))))
+        (cond (not a) 3 (cond d 5 (cond r 6 (cond s 7 (cond i 0 (cond b 4 (cond p₀ 11 (cond p₁ 11 (cond p₂ 11 (cond p₃ 11 v))))))))))
+    go false d r s p₀ p₁ p₂ p₃ i b v = refl
+    go true true r s p₀ p₁ p₂ p₃ i b v = refl
+    go true false true s p₀ p₁ p₂ p₃ i b v = refl
+    go true false false true p₀ p₁ p₂ p₃ i b v = refl
+    go true false false false true p₁ p₂ p₃ i b v = refl
+    go true false false false false true p₂ p₃ i b v = refl
+    go true false false false false false true p₃ i b v = refl
+    go true false false false false false false p₃ i b v = refl
 
 -- The judgement of a frame with a byte is its verdict.
 pub verdict-judged : (S : ℕ) (k : Core) (f : Frame) (loose : Bool) → (f .count ≡ 0 → ⊥) → (f .judgement ≡ 0 → ⊥) → verdict S k f loose ≡ f .judgement
