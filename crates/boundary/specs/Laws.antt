@@ -50,6 +50,7 @@ chip-back c = λ i.
             srwp = flag-back (c .core .srwp) i;
             wen = flag-back (c .core .wen) i;
             suspended = flag-back (c .core .suspended) i;
+            waiting = flag-back (c .core .waiting) i;
             wp = flag-back (c .core .wp) i;
             deep = flag-back (c .core .deep) i;
             armed = flag-back (c .core .armed) i;
@@ -77,7 +78,7 @@ pub numbers-are-state : (c : Chip) → isState (numbersOf c) ≡ true
 unfolding isStateOf numbersOf
 numbers-are-state c =
     rw
-    (flag-small (c .core .tb), flag-small (c .core .srwp), flag-small (c .core .wen), flag-small (c .core .suspended), flag-small (c .core .wp), flag-small (c .core .deep), flag-small (c .core .armed), flag-small (c .frame .selected))
+    (flag-small (c .core .tb), flag-small (c .core .srwp), flag-small (c .core .wen), flag-small (c .core .suspended), flag-small (c .core .waiting), flag-small (c .core .wp), flag-small (c .core .deep), flag-small (c .core .armed), flag-small (c .frame .selected))
     (kind-small (c .core .job .kind))
 
 -- and the flags of a state come back from its chip: a state has no flag but 0 and 1 (RULES, Legal states)
@@ -94,11 +95,12 @@ flag-again v h = go (decLt v 1)
     go (yes l) = at 0 (omega (arith, l)) refl
     go (no l) = at 1 (omega (arith, l, leb-true v 1 h)) refl
 
--- eight flags and one test more, joined as `isStateOf` joins them: each flag's test holds
-eight-true : (a b c d e f g h k : Bool) → (a && b && c && d && e && f && g && h && k) ≡ true
-    → (a ≡ true) × (b ≡ true) × (c ≡ true) × (d ≡ true) × (e ≡ true) × (f ≡ true) × (g ≡ true) × (h ≡ true)
-eight-true a b c d e f g h k all =
-    let p8 = and-left (a && b && c && d && e && f && g && h) k all in
+-- nine flags and one test more, joined as `isStateOf` joins them: each flag's test holds
+nine-true : (a b c d e f g h i k : Bool) → (a && b && c && d && e && f && g && h && i && k) ≡ true
+    → (a ≡ true) × (b ≡ true) × (c ≡ true) × (d ≡ true) × (e ≡ true) × (f ≡ true) × (g ≡ true) × (h ≡ true) × (i ≡ true)
+nine-true a b c d e f g h i k all =
+    let p9 = and-left (a && b && c && d && e && f && g && h && i) k all in
+    let p8 = and-left (a && b && c && d && e && f && g && h) i p9 in
     let p7 = and-left (a && b && c && d && e && f && g) h p8 in
     let p6 = and-left (a && b && c && d && e && f) g p7 in
     let p5 = and-left (a && b && c && d && e) f p6 in
@@ -112,23 +114,26 @@ eight-true a b c d e f g h k all =
       and-right (a && b && c && d && e) f p6,
       and-right (a && b && c && d && e && f) g p7,
       and-right (a && b && c && d && e && f && g) h p8,
+      and-right (a && b && c && d && e && f && g && h) i p9,
     )
 
 pub flags-back : (c : ChipNumbers) → isState c ≡ true → numbersOf (chipOf c) .flags ≡ c .flags
 unfolding isStateOf chipOf numbersOf
 flags-back c h =
     let f = c .flags in
-    let t = eight-true (leb (f .tb) 1) (leb (f .srwp) 1) (leb (f .wen) 1) (leb (f .suspended) 1) (leb (f .wp) 1) (leb (f .deep) 1) (leb (f .armed) 1) (leb (f .selected) 1) (leb (c .kind) 5) h in
+    let t =
+    nine-true (leb (f .tb) 1) (leb (f .srwp) 1) (leb (f .wen) 1) (leb (f .suspended) 1) (leb (f .waiting) 1) (leb (f .wp) 1) (leb (f .deep) 1) (leb (f .armed) 1) (leb (f .selected) 1) (leb (c .kind) 5) h in
     λ i.
     record {
       tb = flag-again (f .tb) (t .0) i;
       srwp = flag-again (f .srwp) (t .1) i;
       wen = flag-again (f .wen) (t .2) i;
       suspended = flag-again (f .suspended) (t .3) i;
-      wp = flag-again (f .wp) (t .4) i;
-      deep = flag-again (f .deep) (t .5) i;
-      armed = flag-again (f .armed) (t .6) i;
-      selected = flag-again (f .selected) (t .7) i;
+      waiting = flag-again (f .waiting) (t .4) i;
+      wp = flag-again (f .wp) (t .5) i;
+      deep = flag-again (f .deep) (t .6) i;
+      armed = flag-again (f .armed) (t .7) i;
+      selected = flag-again (f .selected) (t .8) i;
     }
 
 -- each number from 0 to 5 means a kind of its own
@@ -154,7 +159,7 @@ kind-again kind value h = go (decLt kind 1) (decLt kind 2) (decLt kind 3) (decLt
 pub kind-number-back : (c : ChipNumbers) → isState c ≡ true → numbersOf (chipOf c) .kind ≡ c .kind
 unfolding isStateOf chipOf numbersOf
 kind-number-back c h = let f = c .flags in
-    kind-again (c .kind) (c .value) (and-right (leb (f .tb) 1 && leb (f .srwp) 1 && leb (f .wen) 1 && leb (f .suspended) 1 && leb (f .wp) 1 && leb (f .deep) 1 && leb (f .armed) 1 && leb (f .selected) 1) (leb (c .kind) 5) h)
+    kind-again (c .kind) (c .value) (and-right (leb (f .tb) 1 && leb (f .srwp) 1 && leb (f .wen) 1 && leb (f .suspended) 1 && leb (f .waiting) 1 && leb (f .wp) 1 && leb (f .deep) 1 && leb (f .armed) 1 && leb (f .selected) 1) (leb (c .kind) 5) h)
 
 -- ---- an answer as numbers
 

@@ -46,7 +46,7 @@ flagOf v = eqb v 1
 -- whether numbers are a state at all: no flag over 1, and over 5 no kind has a number
 unfoldable pub isStateOf : FlagNumbers → ℕ → Bool
 isStateOf f kind =
-    leb (f .tb) 1 && leb (f .srwp) 1 && leb (f .wen) 1 && leb (f .suspended) 1 && leb (f .wp) 1 && leb (f .deep) 1 && leb (f .armed) 1 && leb (f .selected) 1
+    leb (f .tb) 1 && leb (f .srwp) 1 && leb (f .wen) 1 && leb (f .suspended) 1 && leb (f .waiting) 1 && leb (f .wp) 1 && leb (f .deep) 1 && leb (f .armed) 1 && leb (f .selected) 1
     && leb kind 5
 
 abbrev pub isState : ChipNumbers → Bool
@@ -63,6 +63,7 @@ chipOf c =
             srwp = flagOf (c .flags .srwp);
             wen = flagOf (c .flags .wen);
             suspended = flagOf (c .flags .suspended);
+            waiting = flagOf (c .flags .waiting);
             wp = flagOf (c .flags .wp);
             deep = flagOf (c .flags .deep);
             armed = flagOf (c .flags .armed);
@@ -92,6 +93,7 @@ numbersOf c =
             srwp = flagNumber (c .core .srwp);
             wen = flagNumber (c .core .wen);
             suspended = flagNumber (c .core .suspended);
+            waiting = flagNumber (c .core .waiting);
             wp = flagNumber (c .core .wp);
             deep = flagNumber (c .core .deep);
             armed = flagNumber (c .core .armed);

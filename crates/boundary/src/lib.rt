@@ -29,6 +29,7 @@ pub struct FlagNumbers {
     pub srwp: u8,
     pub wen: u8,
     pub suspended: u8,
+    pub waiting: u8,
     pub wp: u8,
     pub deep: u8,
     pub armed: u8,
@@ -155,6 +156,7 @@ fn is_state(flags: FlagNumbers, kind: u8) -> bool
         & (flags.srwp <= 1)
         & (flags.wen <= 1)
         & (flags.suspended <= 1)
+        & (flags.waiting <= 1)
         & (flags.wp <= 1)
         & (flags.deep <= 1)
         & (flags.armed <= 1)
@@ -177,6 +179,7 @@ fn chip_of(c: ChipNumbers) -> Chip
             srwp: flags.srwp == 1,
             wen: flags.wen == 1,
             suspended: flags.suspended == 1,
+            waiting: flags.waiting == 1,
             wp: flags.wp == 1,
             deep: flags.deep == 1,
             armed: flags.armed == 1,
@@ -216,6 +219,7 @@ fn numbers_of(chip: Chip) -> ChipNumbers
             srwp: flag_number(core.srwp),
             wen: flag_number(core.wen),
             suspended: flag_number(core.suspended),
+            waiting: flag_number(core.waiting),
             wp: flag_number(core.wp),
             deep: flag_number(core.deep),
             armed: flag_number(core.armed),

@@ -47,6 +47,7 @@ fn same_core(a: Core, b: Core) -> bool {
         & (a.srwp == b.srwp)
         & (a.wen == b.wen)
         & (a.suspended == b.suspended)
+        & (a.waiting == b.waiting)
         & (a.wp == b.wp)
         & (a.deep == b.deep)
         & (a.armed == b.armed)

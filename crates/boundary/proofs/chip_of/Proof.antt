@@ -9,7 +9,7 @@ kind-of-requires c κs = search needs
 
 returns : tie.Need-returns
 unfolding chipOf
-returns c = rw (c .before .before .before .before .before .before .before .before .before .before .kind-of .ensures)
+returns c = rw (c .before .before .before .before .before .before .before .before .before .before .before .kind-of .ensures)
 
 pub chip-of-spec : {M : Type 1} → statement M
 chip-of-spec = tie.close (tie.spec kind-of-requires returns)

@@ -1,4 +1,4 @@
--- `boundary::is_state` meets its contract. The nine tests joined, as the definition joins them.
+-- `boundary::is_state` meets its contract. The ten tests joined, as the definition joins them.
 use mathlib.Core.Path.{refl}
 use Rattle.boundary.specs.Numbers.{isStateOf}
 use Rattle.boundary.proofs.is_state.Statement.{statement}

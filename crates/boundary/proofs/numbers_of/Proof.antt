@@ -28,6 +28,9 @@ flag-number-requires-7 c κs = search needs
 flag-number-requires-8 : tie.Need-flag-number-requires-8
 flag-number-requires-8 c κs = search needs
 
+flag-number-requires-9 : tie.Need-flag-number-requires-9
+flag-number-requires-9 c κs = search needs
+
 kind-number-requires : tie.Need-kind-number-requires
 kind-number-requires c κs = search needs
 
@@ -36,7 +39,7 @@ kind-value-requires c κs = search needs
 
 returns : tie.Need-returns
 unfolding numbersOf
-returns c = rw (c .before .before .before .before .before .before .before .before .before .flag-number .ensures, c .before .before .before .before .before .before .before .before .flag-number2 .ensures, c .before .before .before .before .before .before .before .flag-number3 .ensures, c .before .before .before .before .before .before .flag-number4 .ensures, c .before .before .before .before .before .flag-number5 .ensures, c .before .before .before .before .flag-number6 .ensures, c .before .before .before .flag-number7 .ensures, c .before .before .flag-number8 .ensures, c .before .kind-number .ensures, c .kind-value .ensures)
+returns c = rw (c .before .before .before .before .before .before .before .before .before .before .flag-number .ensures, c .before .before .before .before .before .before .before .before .before .flag-number2 .ensures, c .before .before .before .before .before .before .before .before .flag-number3 .ensures, c .before .before .before .before .before .before .before .flag-number4 .ensures, c .before .before .before .before .before .before .flag-number5 .ensures, c .before .before .before .before .before .flag-number6 .ensures, c .before .before .before .before .flag-number7 .ensures, c .before .before .before .flag-number8 .ensures, c .before .before .flag-number9 .ensures, c .before .kind-number .ensures, c .kind-value .ensures)
 
 pub numbers-of-spec : {M : Type 1} → statement M
 numbers-of-spec =
@@ -50,6 +53,7 @@ numbers-of-spec =
     flag-number-requires-6
     flag-number-requires-7
     flag-number-requires-8
+    flag-number-requires-9
     kind-number-requires
     kind-value-requires
     returns)
