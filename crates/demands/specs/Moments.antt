@@ -17,8 +17,8 @@ use Rattle.chip.specs.Job.{steps, wholeImage}
 use Rattle.script.specs.Script.{Event}
 use Rattle.script.specs.Run.{World}
 use Rattle.demands.specs.Model.{Model, Good, AllGood, Fit, doesBy, runsBy, workingTicks, workedBy}
-use Rattle.demands.specs.Demand2.{Ending, verdictOf, saysVerdict, Quiet, Ready, CellReads, StoppedFrame, DoneAtOnce, JobsBegun, JobsFromBytes, Demand2}
-use Rattle.demands.specs.Demand3.{Started, Spared, stepsOf, Demand3}
+use Rattle.demands.specs.Demand2.{Ending, verdictOf, saysVerdict, Quiet, Ready, CellReads, StatusRead, StoppedFrame, DoneAtOnce, JobsBegun, JobsFromBytes, Demand2}
+use Rattle.demands.specs.Demand3.{Started, Ticking, TicksKeep, Spared, stepsOf, Demand3}
 
 -- ---- Demand 2
 
@@ -67,6 +67,10 @@ Demand2Loads M = (c : Chip) (m area : List ℕ) → Ready c m area → c .core .
 abbrev pub Demand2Stops : Model → Type 0
 Demand2Stops M = StoppedFrame M
 
+-- status reads
+abbrev pub Demand2Status : Model → Type 0
+Demand2Status M = StatusRead M
+
 -- ---- Demand 3
 
 -- the start
@@ -91,6 +95,10 @@ Demand3End M =
 
 pub at-end : (M : Model) → Demand3 M → Demand3End M
 at-end M d area kind start held w es s all = d .lives area kind start held 0 w es s .whole-image refl all
+
+-- what ticks leave, and what becomes of SUS and the mark
+abbrev pub Demand3Keeps : Model → Type 0
+Demand3Keeps M = (c : Chip) (m area : List ℕ) (kind body n : ℕ) → Fit c m area → Ticking kind body n → TicksKeep c m (M c m area kind body)
 
 -- the count of an event
 abbrev pub Demand3Counts : Model → Type 0

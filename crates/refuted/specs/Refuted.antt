@@ -14,9 +14,9 @@ use Rattle.chip.specs.declared.Chip.{Chip}
 use Rattle.chip.specs.declared.Core.{Core}
 use Rattle.chip.specs.declared.Frame.{Frame}
 use Rattle.chip.specs.declared.JobKind.the-variants.{Program, SmallErase}
-use Rattle.chip.specs.Fields.{withWen, withSuspended, withLevel, withSrwp, withWp, withJob}
+use Rattle.chip.specs.Fields.{withWen, withSuspended, withWaiting, withLevel, withSrwp, withWp, withArmed, withJob}
 use Rattle.chip.specs.Job.{isJob}
-use Rattle.chip.specs.Chip.{whole, resting, emptyFrame, blankLoad, running}
+use Rattle.chip.specs.Chip.{whole, resting, emptyFrame, blankLoad, running, statusByte}
 use Rattle.legal.specs.Legal.{legalJob, legalCore, legalFrame, isEmpty, isBlank, legal}
 use Rattle.job.specs.Tick.{tickCore, ticksCore, tickLoad, ticksLoad, tickMemory, ticksMemory, worked}
 use Rattle.frame.specs.Frame.{judge, taken, exchanged}
@@ -29,10 +29,10 @@ use Rattle.script.specs.Run.{World, world}
 use Rattle.script.specs.Run as Run
 use Rattle.demands.specs.Model.{Model, ours, event, sends, address, AllGood, Fit, runsBy, workedBy}
 use Rattle.demands.specs.Demand1.{Demand1, roomNeeded, Demand1Run}
-use Rattle.demands.specs.Moments.{Demand2Gives, Demand2Does, Demand2Begins, Demand2LeavesWen, Demand2Reads, Demand2Loads, Demand2Stops, Demand3Starts, Demand3At, Demand3End, Demand3Counts, Demand3Reports}
-use Rattle.demands.specs.Demand2.{Ending, Quiet, Ready, AllInside, bytesOf, AllBytes, on-a-byte}
-use Rattle.demands.specs.Demand3.{Spares, AllSpare, Spared}
-use Rattle.refuted.specs.Wrong.{ignoresAll, refusesEvents, refusesCommands, readsBlank, ticksIdle, wholeJobAtOnce, inventsTicks, laysFromPageStart, laysFromAddress, storesBytes, nineTenCostWen, spoiltLoads, answersLate, keepsNine, swapsEnds, endsLate, tellsTarget, chipEraseTellsAll, deselects, twoADeselect, firstReads, firstLoads, secondLoads, secondWen, thirdErases, thirdSuspends}
+use Rattle.demands.specs.Moments.{Demand2Gives, Demand2Does, Demand2Begins, Demand2LeavesWen, Demand2Reads, Demand2Loads, Demand2Stops, Demand2Status, Demand3Starts, Demand3At, Demand3End, Demand3Counts, Demand3Keeps, Demand3Reports}
+use Rattle.demands.specs.Demand2.{Ending, Quiet, Ready, AllInside, bytesOf, AllBytes, on-a-byte, SaysStatus}
+use Rattle.demands.specs.Demand3.{Spares, AllSpare, one-tick, Spared}
+use Rattle.refuted.specs.Wrong.{ignoresAll, refusesEvents, refusesCommands, readsBlank, ticksIdle, wholeJobAtOnce, inventsTicks, laysFromPageStart, laysFromAddress, storesBytes, nineTenCostWen, spoiltLoads, answersLate, keepsNine, swapsEnds, endsLate, tellsTarget, chipEraseTellsAll, deselects, twoADeselect, suspendsAtOnce, waitUncounted, waitsTwo, showsSusEarly, suspendsTwice, markSurvivesReset, markSurvivesEnd, firstReads, firstLoads, secondLoads, secondWen, thirdErases, thirdSuspends}
 
 -- ---- the moments
 
@@ -307,6 +307,49 @@ in-the-way =
 
     third-byte : {t t′ a a′ b b′ : ℕ} → t ∷ a ∷ b ∷ [] ≡ t′ ∷ a′ ∷ b′ ∷ [] → b ≡ b′
     third-byte e = ap (λ (says : List ℕ). getD says 2 0) e
+
+-- ---- wrong waits
+
+-- a small sector erase that waits to be suspended, this many steps done; its chip with no frame open; and at the deselects of B0h and of 99h, armed
+abbrev waiting : ℕ → Core
+waiting d = withWaiting true (erasing d)
+
+abbrev suspending-twice : Chip
+suspending-twice = within (waiting 1) (sent 0xB0 0 1)
+
+abbrev resetting : Chip
+resetting = within (withArmed true (waiting 1)) (sent 0x99 0 1)
+
+pub record TheWait : Type 0 where
+  -- an accepted suspend leaves the job suspended, and not waiting: Demand 2's row for B0h
+  pub suspends-at-once : Demand2Does suspendsAtOnce → ⊥
+  -- of one tick in the wait none is counted; of two, two are
+  pub wait-uncounted : Demand3Counts waitUncounted → ⊥
+  pub waits-two : Demand3Counts waitsTwo → ⊥
+  -- a status read in the wait has bit 6
+  pub shows-sus-early : Demand2Status showsSusEarly → ⊥
+  -- a second B0h gets verdict 1 and not 11
+  pub suspends-twice : Demand2Gives 11 suspendsTwice → ⊥
+  -- the mark is still there after a reset, and after the job's last step
+  pub mark-survives-reset : Demand2Does markSurvivesReset → ⊥
+  pub mark-survives-end : Demand3Keeps markSurvivesEnd → ⊥
+
+-- The demands refute them.
+pub the-wait : TheWait
+unfolding answerOf memoryOf saidOf happens refusal bodyUsed legal legalCore legalJob legalFrame isEmpty isBlank permitted knownKind knownIn kindRow kindRowIn applied exchanged taken judge rowOf rowIn isProgram verdict recordOf listed isRead commandVerdict jobVerdict jobOf fitsRule settled acted heldAfter instantly protectedSectors protectedCount ticksCore tickCore tickLoad ticksLoad tickMemory ticksMemory worked sweep image imageFrom runsBy workedBy AllGood AllSpare AllInside AllBytes bytesOf statusByte
+the-wait =
+    record {
+      suspends-at-once = λ d. false≢true (ap (λ (k : Core). k .waiting) (d .1 .1 .0 suspending (cells 0) [] 0x03 0 false (ending suspending refl refl) refl refl .0));
+      wait-uncounted = λ d. absurd (omega (arith, d [] (event 0x05 1) (world (unselected (waiting 1)) (cells 0) [] 0) (fitting (unselected (waiting 1)) 0 refl) (refl, refl)));
+      waits-two = λ d. absurd (omega (arith, d [] (event 0x05 2) (world (unselected (waiting 1)) (cells 0) [] 0) (fitting (unselected (waiting 1)) 0 refl) (refl, refl)));
+      shows-sus-early = λ d. sus-shown (d (unselected (waiting 1)) (cells 0) [] (fitting (unselected (waiting 1)) 0 refl) refl refl [] tt 0 (omega arith) .1);
+      suspends-twice = λ d. absurd (omega (arith, second-byte (d suspending-twice (cells 0) [] 0x03 0 false (ending suspending-twice refl refl) refl)));
+      mark-survives-reset = λ d. false≢true (sym (ap (λ (k : Core). k .waiting) (d .1 .1 .1 .1 .1 .1 .1 .0 resetting (cells 0) [] 0x03 0 false (ending resetting refl refl) refl refl .0)));
+      mark-survives-end = λ d. false≢true (sym (d (unselected (waiting 15)) (cells 0) [] 0x04 0 1 (fitting (unselected (waiting 15)) 0 refl) (one-tick 0) .wait-over));
+    }
+  where
+    sus-shown : SaysStatus (waiting 1) (0x81 ∷ 67 ∷ []) → ⊥
+    sus-shown s = absurd (omega (arith, second-byte (s .driven), s .bits .sus))
 
 -- ---- our three earlier versions
 

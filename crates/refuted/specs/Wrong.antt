@@ -1,5 +1,5 @@
 -- Wrong models of the part: each is ours with one thing changed, so that nothing else can be what refutes it. `Refuted` has the theorems.
-use Prim.Native.Nat.{ℕ, zero, suc, _+_, _*_, _/_, _%_, _-_}
+use Prim.Native.Nat.{ℕ, zero, suc, _+_, _*_, _/_, _%_, _-_, min}
 use mathlib.Core.Bool.{Bool, true, false, cond, not, _&&_, _||_}
 use mathlib.Core.List.{List, [], _∷_, _++_}
 use lib.Dec.{eqb, ltb}
@@ -11,7 +11,7 @@ use Rattle.chip.specs.declared.Core.{Core}
 use Rattle.chip.specs.declared.Job.{Job}
 use Rattle.chip.specs.declared.JobKind.{JobKind}
 use Rattle.chip.specs.declared.JobKind.the-variants.{Idle, WriteStatus, Program, SmallErase, SectorErase, ChipErase}
-use Rattle.chip.specs.Fields.{withWen, withArmed, withJudgement}
+use Rattle.chip.specs.Fields.{withWen, withSuspended, withWaiting, withArmed, withJudgement}
 use Rattle.chip.specs.Chip.{whole, running}
 use Rattle.chip.specs.Job.{isJob, total}
 use Rattle.script.specs.declared.Ran.{Ran}
@@ -232,6 +232,57 @@ twoADeselect c m area s out =
       ticks = r .ticks;
     }
 
+-- ---- wrong waits
+
+-- ticks that find a job waiting to be suspended; the deselect of an accepted suspend
+abbrev pub onWait : Chip → ℕ → Bool
+onWait c kind = onWork c kind && c .core .waiting
+
+abbrev pub suspends : Chip → List ℕ → Bool
+suspends c says = ends 1 c says && eqb (c .frame .opcode) 0xB0
+
+-- it suspends at once
+abbrev pub suspendsAtOnce : Model
+suspendsAtOnce =
+    except (λ c kind says. suspends c says)
+    (λ c m area kind body. let r : Reply = ours c m area kind body in leaving (withCore (withSuspended true (withWaiting false (r .chip .core))) (r .chip)) r)
+
+-- the tick of the wait is not counted
+abbrev pub waitUncounted : Model
+waitUncounted = except (λ c kind says. onWait c kind) (λ c m area kind body. counting 0 (ours c m area kind body))
+
+-- two ticks of one event work in the wait
+abbrev pub waitsTwo : Model
+waitsTwo =
+    except (λ c kind says. onWait c kind && eqb kind 0x05)
+    (λ c m area kind body.
+    let r : Reply = ours (withCore (withWaiting false (c .core)) c) m area kind (min body 2) in
+    leaving (withCore (withSuspended (isJob (r .chip .core .job .kind)) (r .chip .core)) (r .chip)) r)
+
+-- a status read in the wait shows SUS
+abbrev pub showsSusEarly : Model
+showsSusEarly =
+    except (λ c kind says. drives says && eqb (c .frame .opcode) 0x05 && c .core .waiting)
+    (λ c m area kind body. let r : Reply = ours c m area kind body in saying (0x81 ∷ (getD (r .says) 1 0 + 64) ∷ []) r)
+
+-- a second suspend in the wait is done as the first
+abbrev pub suspendsTwice : Model
+suspendsTwice =
+    except (λ c kind says. ends 11 c says && eqb (c .frame .opcode) 0xB0 && c .core .waiting) (λ c m area kind body. saying (0x82 ∷ 1 ∷ []) (ours c m area kind body))
+
+-- the mark outlives a reset; it outlives the job's last step
+abbrev pub marked : Reply → Reply
+marked r = leaving (withCore (withWaiting true (r .chip .core)) (r .chip)) r
+
+abbrev pub markSurvivesReset : Model
+markSurvivesReset =
+    except (λ c kind says. ends 1 c says && eqb (c .frame .opcode) 0x99 && c .core .waiting) (λ c m area kind body. marked (ours c m area kind body))
+
+abbrev pub markSurvivesEnd : Model
+markSurvivesEnd =
+    except (λ c kind says. onWait c kind)
+    (λ c m area kind body. let r : Reply = ours c m area kind body in cond (isJob (r .chip .core .job .kind)) r (marked r))
+
 -- ---- our three earlier versions
 
 -- the first: a read that has passed the memory's end gives FFh, until it comes back to its address
@@ -264,5 +315,5 @@ thirdErases =
 -- the third: a suspend finds nothing
 abbrev pub thirdSuspends : Model
 thirdSuspends =
-    except (λ c kind says. ends 1 c says && eqb (c .frame .opcode) 0xB0)
+    except (λ c kind says. suspends c says)
     (λ c m area kind body. let r : Reply = ours c m area kind body in saying (0x82 ∷ 11 ∷ []) (leaving (withCore (withArmed false (c .core)) (r .chip)) r))
