@@ -144,8 +144,8 @@ legal-when c n = (into, from)
           job-enabled = k .job-enabled;
           suspended-cells = k .suspended-cells;
           waiting-runs = λ w.
-          let runs : suspendable (c .core) ≡ true = k .waiting-runs w in
-          (and-right (running (c .core)) (hasCells (c .core .job .kind)) runs, running-awake (c .core) (and-left (running (c .core)) (hasCells (c .core .job .kind)) runs));
+              let runs : suspendable (c .core) ≡ true = k .waiting-runs w in
+              (and-right (running (c .core)) (hasCells (c .core .job .kind)) runs, running-awake (c .core) (and-left (running (c .core)) (hasCells (c .core .job .kind)) runs));
           deep-idle = k .deep-idle;
           deep-unarmed = k .deep-unarmed;
           address-small = l .frame-part .address-small;

@@ -131,7 +131,7 @@ pub ours-ticks-keep : (c : Chip) (m area : List ℕ) (kind body n : ℕ) → Fit
 ours-ticks-keep c m area kind body n fit ticking =
     let keeps : CoreKeeps (c .core) (ticksCore (sectorsIn (length m)) n (c .core)) = ticks-keep-core (sectorsIn (length m)) n (c .core) in
     let over : WaitOver (sectorsIn (length m)) (c .core) (ticksCore (sectorsIn (length m)) n (c .core))
-        = ticks-wait-over (sectorsIn (length m)) n (ticking-some kind body n ticking) (c .core) (chip-facts c (length m) (fit .state-legal) .core-part) in
+    = ticks-wait-over (sectorsIn (length m)) n (ticking-some kind body n ticking) (c .core) (chip-facts c (length m) (fit .state-legal) .core-part) in
     subst (TicksKeep c m) (sym (ticking-as c m area kind body n fit ticking))
     (record {
       says-nothing = refl;

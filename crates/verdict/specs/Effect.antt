@@ -6,18 +6,23 @@ use lib.Dec.{eqb}
 use Rattle.commands.specs.Table.{isProgram, writeEnable, writeDisable, suspend, resume, wake, deepPowerDown, resetEnable, reset}
 use Rattle.chip.specs.declared.Core.{Core}
 use Rattle.chip.specs.declared.Frame.{Frame}
+use Rattle.chip.specs.declared.Job.{Job}
 use Rattle.chip.specs.Fields.{withWen, withSuspended, withWaiting, withDeep, withArmed, withJob}
 use Rattle.chip.specs.Job.{noJob}
 use Rattle.chip.specs.Chip.{blankLoad}
 use Rattle.verdict.specs.Verdict.{jobAsked}
 
--- verdict 2: the frame's job begins, on a part of S sectors; a suspended one is dropped for it, and the new one waits for nothing
-abbrev pub begins : ℕ → Core → Frame → Core
-begins S k f = withSuspended false (withWaiting false (withJob (jobAsked S f) k))
+-- another job in the place of the one that was there, neither suspended nor waiting to be
+abbrev pub replaced : Job → Core → Core
+replaced j k = withSuspended false (withWaiting false (withJob j k))
 
--- a reset drops the job and clears WEN, SUS and the waiting mark
+-- verdict 2: the frame's job begins, on a part of S sectors; a suspended one is dropped for it
+abbrev pub begins : ℕ → Core → Frame → Core
+begins S k f = replaced (jobAsked S f) k
+
+-- a reset drops the job, and clears SUS and the waiting mark with it, and WEN
 abbrev pub resets : Core → Core
-resets k = withWen false (withSuspended false (withWaiting false (withJob noJob k)))
+resets k = withWen false (replaced noJob k)
 
 -- verdict 1: write enable and disable, suspend and resume, wake and deep power-down, reset; reset enable does nothing but arm.
 -- A suspend only marks the job: the next tick does its step, and then it is suspended (`movedOn`)

@@ -6,7 +6,7 @@ ghost use Rattle.part.specs.Protection.{protectedSectors};
 ghost use Rattle.chip.specs.declared.JobKind.{JobKind};
 ghost use Rattle.chip.specs.Fields.{withWen, withSuspended, withWaiting, withDeep};
 ghost use Rattle.verdict.specs.Verdict.{jobOf, startOf, jobAsked, startProtected, targetProtected, pointless, jobVerdict, commandVerdict, listed, verdict, inTheWay, recordOf};
-ghost use Rattle.verdict.specs.Effect.{begins, resets, instantly, acted, settled, heldAfter};
+ghost use Rattle.verdict.specs.Effect.{replaced, begins, resets, instantly, acted, settled, heldAfter};
 use chip::Core;
 use chip::Frame;
 use chip::Job;
@@ -195,26 +195,30 @@ pub fn record_of(sectors: u8, core: Core, v: u8) -> Record
     Record::Verdict(v)
 }
 
-// The core with the frame's job begun.
-fn begin(sectors: u8, core: Core, f: Frame) -> Core
-    ensures { λ r. ⌜ r ≡ begins sectors core f ⌝ }
+// The core with another job in the place of the one that was there.
+fn replace_job(job: Job, core: Core) -> Core
+    ensures { λ r. ⌜ r ≡ replaced job core ⌝ }
 {
     let mut next = core;
     next.suspended = false;
     next.waiting = false;
-    next.job = job_asked(sectors, f);
+    next.job = job;
     next
+}
+
+// The core with the frame's job begun.
+fn begin(sectors: u8, core: Core, f: Frame) -> Core
+    ensures { λ r. ⌜ r ≡ begins sectors core f ⌝ }
+{
+    replace_job(job_asked(sectors, f), core)
 }
 
 // The core with its job dropped, WEN, SUS and the waiting mark clear.
 pub fn reset(core: Core) -> Core
     ensures { λ r. ⌜ r ≡ resets core ⌝ }
 {
-    let mut next = core;
+    let mut next = replace_job(chip::no_job(), core);
     next.wen = false;
-    next.suspended = false;
-    next.waiting = false;
-    next.job = chip::no_job();
     next
 }
 
