@@ -1,6 +1,6 @@
 -- The hypotheses of the theorems are met: for each kind of them a closed example. Demand 3's are met in `Examples` (P5, P9) and `LifeExample` (`cut-and-ended`).
 use Prim.Native.Nat.{ℕ, _/_, _%_}
-use mathlib.Core.Bool.{true, false}
+use mathlib.Core.Bool.{Bool, true, false}
 use mathlib.Core.List.{List, [], _∷_}
 use mathlib.Core.Path.{_≡_, refl, ap}
 use native.Mathlib.Omega.{arith}
@@ -12,8 +12,8 @@ use Rattle.chip.specs.declared.Chip.{Chip}
 use Rattle.chip.specs.declared.Core.{Core}
 use Rattle.chip.specs.declared.Frame.{Frame}
 use Rattle.chip.specs.declared.JobKind.{JobKind}
-use Rattle.chip.specs.declared.JobKind.the-variants.{Program, SmallErase}
-use Rattle.chip.specs.Fields.{withWen, withSuspended, withDeep, withArmed, withJob, withSelected, withOpcode, withPlace, withCount}
+use Rattle.chip.specs.declared.JobKind.the-variants.{WriteStatus, Program, SmallErase, SectorErase, ChipErase}
+use Rattle.chip.specs.Fields.{withWen, withSuspended, withWaiting, withDeep, withArmed, withJob, withSelected, withOpcode, withPlace, withCount}
 use Rattle.chip.specs.Chip.{whole, emptyFrame, blankLoad, resting, fresh}
 use Rattle.legal.specs.Legal.{legalJob, legalCore, legalFrame, isEmpty, isBlank, legal}
 use Rattle.kinds.specs.Kinds.{SELECT, EXCHANGE, DESELECT, TICK, WP, LOOSE, knownIn, kindRowIn, knownKind, kindRow}
@@ -53,12 +53,12 @@ unfolding rowOf rowIn
 stopped-met = (refl, refl, refl)
 
 -- `ours-cell-reads`, `ours-page-loads`: so reads and loads a chip whose program is suspended
-abbrev waiting : Chip
-waiting = whole (withSuspended true (withJob (record { kind = Program; start = 0; done = 0 }) (enabled .core))) emptyFrame blankLoad blankLoad
+abbrev paused : Chip
+paused = whole (withSuspended true (withJob (record { kind = Program; start = 0; done = 0 }) (enabled .core))) emptyFrame blankLoad blankLoad
 
-pub quiet-met : (m : List ℕ) → length m ≡ 65536 → Quiet waiting m []
+pub quiet-met : (m : List ℕ) → length m ≡ 65536 → Quiet paused m []
 unfolding legal legalCore legalJob legalFrame isEmpty isBlank permitted fresh
-quiet-met m long = record { fit = record { state-legal = ap (legal waiting) long; area-short = omega arith }; resting = refl; awake = refl; unselected = refl }
+quiet-met m long = record { fit = record { state-legal = ap (legal paused) long; area-short = omega arith }; resting = refl; awake = refl; unselected = refl }
 
 -- a state with a selected frame of that opcode and that read place
 abbrev reading-at : ℕ → ℕ → Chip
@@ -128,12 +128,15 @@ kinds-met = (refl, refl, refl)
 
 -- ---- verdicts 1 and 2
 
--- a core at rest with WEN; one with a job at step 0, running or suspended; one asleep; one armed
+-- a core at rest with WEN; one with a job at step 0, running, waiting to be suspended, or suspended; one asleep; one armed
 abbrev with-wen : Core
 with-wen = withWen true resting
 
 abbrev busy : JobKind → Core
 busy kind = withJob (record { kind = kind; start = 0; done = 0 }) with-wen
+
+abbrev waiting : JobKind → Core
+waiting kind = withWaiting true (busy kind)
 
 abbrev held-up : JobKind → Core
 held-up kind = withSuspended true (busy kind)
@@ -179,10 +182,40 @@ Begun =
 abbrev Suspended : Type 0
 Suspended = Rows (Gives 1 (armed (held-up Program)) 0x99 1 ∷ Gives 2 (held-up Program) 0x20 4 ∷ [])
 
-pub verdicts-met : At-once × Begun × Suspended
+-- in the wait a second suspend finds nothing, a resume and a read of cells are turned away, and a reset is done; a suspend whose frame the tick came into finds the
+-- job suspended, or over (RULES, Verdicts)
+abbrev Waiting : Type 0
+Waiting =
+    Rows
+    (Gives 11 (waiting SmallErase) 0xB0 1
+    ∷ Gives 6 (waiting SmallErase) 0x30 1
+    ∷ Gives 6 (waiting SmallErase) 0x03 5
+    ∷ Gives 1 (armed (waiting Program)) 0x99 1
+    ∷ Gives 7 (held-up SmallErase) 0xB0 1
+    ∷ Gives 11 resting 0xB0 1
+    ∷ [])
+
+pub verdicts-met : At-once × Begun × Suspended × Waiting
 unfolding rowOf rowIn fitsRule protectedSectors protectedCount legal legalCore legalJob legalFrame isEmpty isBlank permitted
 verdicts-met = (
   ((refl, refl), ((refl, refl), ((refl, refl), ((refl, refl), ((refl, refl), ((refl, refl), ((refl, refl), ((refl, refl), tt)))))))),
   ((refl, refl), ((refl, refl), ((refl, refl), ((refl, refl), ((refl, refl), ((refl, refl), ((refl, refl), ((refl, refl), tt)))))))),
   ((refl, refl), ((refl, refl), tt)),
+  ((refl, refl), ((refl, refl), ((refl, refl), ((refl, refl), ((refl, refl), ((refl, refl), tt)))))),
 )
+
+-- which states may wait: those with a program or an erase that runs, and no other (RULES, Legal states)
+abbrev MayWait : Core → Bool → Type 0
+MayWait k may = legal (whole k emptyFrame blankLoad blankLoad) 65536 ≡ may
+
+pub waits-met : Rows
+    (MayWait (waiting Program) true
+    ∷ MayWait (waiting SmallErase) true
+    ∷ MayWait (waiting SectorErase) true
+    ∷ MayWait (waiting ChipErase) true
+    ∷ MayWait (waiting (WriteStatus 0)) false
+    ∷ MayWait (withSuspended true (waiting Program)) false
+    ∷ MayWait (withWaiting true with-wen) false
+    ∷ [])
+unfolding legal legalCore legalJob legalFrame isEmpty isBlank permitted
+waits-met = (refl, (refl, (refl, (refl, (refl, (refl, (refl, tt)))))))

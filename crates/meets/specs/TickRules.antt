@@ -1,8 +1,9 @@
--- What Demand 3 says of ticks, of ours: idle ones do nothing, and all of them leave what is not the job's.
+-- What Demand 3 says of ticks, of ours: idle ones do nothing, all of them leave what is not the job's, and a job that waits is suspended after one; and that it does not matter how ticks are split into events.
 use Prim.Native.Nat.{ℕ, _+_, _<_, _≤_}
 use mathlib.Core.Bool.{Bool, true, false, _&&_, _||_, false≢true}
-use mathlib.Core.List.{List, []}
+use mathlib.Core.List.{List, [], _∷_, _++_, append-nil}
 use mathlib.Core.Path.{_≡_, refl, sym, ap, subst, _∙_}
+use native.Mathlib.Nat.{add-assoc}
 use native.Mathlib.Decide.{decLt}
 use native.Mathlib.Omega.{arith}
 use lib.Dec.{ltb, leb}
@@ -17,12 +18,13 @@ use Rattle.chip.specs.Job.{hasCells, total}
 use Rattle.chip.specs.Chip.{whole, running}
 use Rattle.legal.specs.Legality.{LegalCore, chip-facts}
 use Rattle.kinds.specs.Kinds.{knownKind, knownIn, kindRow, kindRowIn}
-use Rattle.job.specs.Tick.{advanced, stepsLeft, ticksLeft, ticksCore, endedAs}
-use Rattle.job.specs.Laws.{Stop, pauses, ends, stop-of, waits-one, ticks-rest, ticksLoad-rest, ticksMemory-rest, worked-rest, ticks-go, ticks-pause, ticks-end, ended-each}
+use Rattle.job.specs.Tick.{advanced, stepsLeft, ticksLeft, ticksCore, worked, endedAs}
+use Rattle.job.specs.Laws.{Stop, pauses, ends, stop-of, waits-one, ticks-rest, ticksLoad-rest, ticksMemory-rest, worked-rest, ticks-go, ticks-pause, ticks-end, ended-each, ticks-add, ticksLoad-add, ticksMemory-add, worked-add}
 use Rattle.event.specs.Event.{tick, applied}
-use Rattle.demands.specs.Model.{reply, ours, event, Good, Fit}
+use Rattle.script.specs.Run.{World, world, runs}
+use Rattle.demands.specs.Model.{reply, ours, event, Good, AllGood, Fit, runsBy}
 use Rattle.demands.specs.Demand3.{Ticking, one-tick, many-ticks, TicksKeep}
-use Rattle.meets.specs.Ours.{told, done-as}
+use Rattle.meets.specs.Ours.{told, done-as, runs-ours}
 
 -- nothing is wrong with an event of ticks
 pub ticking-good : (kind body n : ℕ) → Ticking kind body n → Good (event kind body)
@@ -143,3 +145,31 @@ ours-ticks-keep c m area kind body n fit ticking =
       deep-same = keeps .deep-same;
       armed-same = keeps .armed-same;
     })
+
+-- ---- ticks in one event or in two
+
+-- n ticks and then k, each in an event of its own, are n + k in one: whatever waits, ends or is suspended in between, and however they are split.
+pub ticks-split : (area : List ℕ) (w : World) (n k : ℕ) → Fit (w .chip) (w .memory) area → 1 ≤ n → 1 ≤ k → n + k ≤ 65535
+    → runsBy ours area (event 0x05 n ∷ event 0x05 k ∷ []) w ≡ runsBy ours area (event 0x05 (n + k) ∷ []) w
+unfolding runs applied AllGood
+ticks-split area w n k fit some more most =
+    runs-ours area (event 0x05 n ∷ event 0x05 k ∷ []) w fit (good n some (omega arith), (good k more (omega arith), tt))
+    ∙ (λ i.
+    world (whole (sym (ticks-add S n k c) i) (w .chip .frame) (w .chip .load) (sym (ticksLoad-add S n k c held) i)) (sym (ticksMemory-add S n k c held (w .memory)) i)
+    (append-nil (w .written ++ []) i) (counted i))
+    ∙ sym (runs-ours area (event 0x05 (n + k) ∷ []) w fit (good (n + k) (omega arith) most, tt))
+  where
+    S : ℕ
+    S = sectorsIn (length (w .memory))
+
+    c : Core
+    c = w .chip .core
+
+    held : List ℕ
+    held = w .chip .held
+
+    good : (t : ℕ) → 1 ≤ t → t ≤ 65535 → Good (event 0x05 t)
+    good t some most = ticking-good 0x05 t t (many-ticks t some most)
+
+    counted : w .ticks + worked S n c + worked S k (ticksCore S n c) ≡ w .ticks + worked S (n + k) c
+    counted = add-assoc (w .ticks) (worked S n c) (worked S k (ticksCore S n c)) ∙ ap (λ (t : ℕ). w .ticks + t) (sym (worked-add S n k c))
