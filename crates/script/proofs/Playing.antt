@@ -1,7 +1,8 @@
 -- The invariant of `play`: what is left of the script, run from here, comes to what the whole script comes to; and one turn of it.
 use Prim.Native.Nat.{ℕ, _+_, _*_, _<_, _≤_}
 use mathlib.Core.List.{List, [], _++_}
-use mathlib.Core.Path.{_≡_, refl, sym, ap, _∙_}
+use mathlib.Core.Bool.{false}
+use mathlib.Core.Path.{_≡_, refl, sym, ap, subst, _∙_}
 use native.Mathlib.Nat.{add-zero}
 use native.Mathlib.Omega.{arith}
 use lib.ListN.{length, getD, take, drop, take-append-drop}
@@ -14,9 +15,10 @@ use Rattle.chip.specs.declared.Core.{Core}
 use Rattle.chip.specs.declared.Frame.{Frame}
 use Rattle.chip.specs.declared.Record.{Record}
 use Rattle.chip.specs.declared.Record.the-variants.{Nothing}
-use Rattle.chip.specs.Chip.{whole}
+use Rattle.chip.specs.Chip.{whole, running}
 use Rattle.chip.specs.Record.{recordBytes}
 use Rattle.job.specs.Tick.{TicksAnswer}
+use Rattle.job.specs.Laws.{answer-rests}
 use Rattle.frame.specs.Frame.{exchange, exchanged}
 use Rattle.event.specs.Event.{Outcome, outcome, settleExchange, applied}
 use Rattle.event.specs.Laws.{applied-exchange, applied-ticks, said-room}
@@ -125,6 +127,12 @@ module _ {T : Setting} {s : List ℕ} {c₀ : Chip} {m₀ out₀ : List ℕ} {c 
         turns (outcome k′ (c .frame) (c .load) held′ m′ Nothing w) pos out
         ((λ i. outcome (a .core i) (c .frame) (c .load) (a .load i) (a .memory i) Nothing (a .working i)) ∙ sym (applied-ticks T c m (getD s at 0) n is-ticks) ∙ ap (applied T c m (getD s at 0)) body)
         (stored-none out pos Nothing refl) few kept refl
+
+    -- where no job runs they change nothing, and none of them works
+    pub idle-turn : getD s at 0 ≡ TICKS → running (c .core) ≡ false → Playing T s c₀ m₀ out₀ c m out (nextAt s at) pos ticks
+    idle-turn is-ticks rests =
+        subst (λ (t : ℕ). Playing T s c₀ m₀ out₀ c m out (nextAt s at) pos t) (add-zero ticks)
+        (ticks-turn is-ticks (bodyAt s at) refl (c .core) 0 (c .held) m (answer-rests (T .sectors) (bodyAt s at) (c .core) (c .held) m rests) (omega arith) refl)
 
   -- after the last event
   pub ends : length s ≤ at → Played T c₀ m₀ s out₀ (finished c pos ticks) m out

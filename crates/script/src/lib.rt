@@ -145,8 +145,9 @@ fn finished(
 }
 
 // Runs a script that nothing refuses: the chip is taken apart once, and put together at the end.
-// Data bytes are most of a script: they go by the frame alone, and ticks by the core alone. The other
-// calls get a copy of the frame, so that it need not lie in memory from one data byte to the next.
+// Data bytes are most of a script: they go by the frame alone, and ticks by the core alone, which is
+// not copied for ticks that find no job running. The other calls get a copy of the frame, so that it
+// need not lie in memory from one data byte to the next.
 fn play(chip: Chip, mem: &mut [u8], script: &[u8], out: &mut [u8], sectors: u8, area: &[u8]) -> Ran
     requires { ⌜ Playable (now script) (length (now out)) ⌝ }
     ensures { λ r. ⌜ Played (setting sectors (now (area .entry))) chip (now (mem .entry)) (now (script .entry)) (now (out .entry)) r (now (mem .exit)) (now (out .exit)) ⌝ }
@@ -180,6 +181,10 @@ fn play(chip: Chip, mem: &mut [u8], script: &[u8], out: &mut [u8], sectors: u8, 
         }
         let body = kinds::body_at(script, at) as u32;
         if kind == Kind::TICKS {
+            if !chip::is_running(core) {
+                at = kinds::next_at(script, at);
+                continue;
+            }
             let t = job::ticks(core, &mut held, mem, sectors, body);
             core = t.core;
             ticks += t.worked as u64;

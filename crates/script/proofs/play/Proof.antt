@@ -1,7 +1,8 @@
--- `script::play` meets its contract. What is left of the script, run from here, comes to what the whole script comes to (`Playing`); each turn is one event of it, a data byte an exchange by `exchanged-stream`, ticks by `ticks-turn`.
+-- `script::play` meets its contract. What is left of the script, run from here, comes to what the whole script comes to (`Playing`); each turn is one event of it, a data byte an exchange by `exchanged-stream`, ticks by `ticks-turn`, those that find no job running by `idle-turn`.
 use Prim.Native.Nat.{_+_, _<_, _-_}
 use mathlib.Core.Path.{_≡_, sym, _∙_, ap}
 use native.Mathlib.Omega.{arith}
+use borrow.Author.Tests.{not-true}
 use lib.ListN.{length}
 use Rattle.part.specs.Part.{setting}
 use Rattle.kinds.specs.Body.{nextAt}
@@ -9,7 +10,7 @@ use Rattle.kinds.specs.Laws.{step-inside}
 use Rattle.chip.specs.Chip.{whole}
 use Rattle.frame.specs.StreamLaws.{exchanged-stream}
 use Rattle.event.specs.Event.{applied}
-use Rattle.script.proofs.Playing.{Playing, starts, finds-room, exchange-inside, turns, exchange-finds-room, exchange-turns, ticks-turn, ends}
+use Rattle.script.proofs.Playing.{Playing, starts, finds-room, exchange-inside, turns, exchange-finds-room, exchange-turns, ticks-turn, idle-turn, ends}
 use borrow.Author.Needs.{needs}
 use Rattle.script.proofs.play.Statement.{statement}
 use Rattle.script.proofs.play.Tie as tie
@@ -74,6 +75,22 @@ body-at-requires c κs = search needs
 cast-body : tie.Need-cast-body Inv-loop μ-loop
 cast-body c = omega (arith, c .body-at .ensures .1)
 
+is-running-requires : tie.Need-is-running-requires Inv-loop μ-loop
+is-running-requires c κs = search needs
+
+next-at-requires : tie.Need-next-at-requires Inv-loop μ-loop
+next-at-requires c κs = search needs
+
+loop-less-3 : tie.Need-loop-less-3 Inv-loop μ-loop
+loop-less-3 c =
+    let next : c .next-at .result ≡ nextAt (c .before .before .before .before .before .before .before .before .before .before .before .before .before .before .before .before .before .args .script .now) (c .before .before .before .before .before .before .before .before .loop .at) = c .next-at .ensures ∙ step-inside (c .before .before .before .before .before .before .before .before .before .before .before .before .before .before .before .before .before .args .script .now) (c .before .before .before .before .before .before .before .before .loop .at) (c .before .before .before .before .before .before .before .loop-test .taken) in
+    omega (arith, next, c .before .before .before .before .before .before .before .loop-test .taken)
+
+loop-again-3 : tie.Need-loop-again-3 Inv-loop μ-loop
+loop-again-3 c =
+    let next : c .next-at .result ≡ nextAt (c .before .before .before .before .before .before .before .before .before .before .before .before .before .before .before .before .before .args .script .now) (c .before .before .before .before .before .before .before .before .loop .at) = c .next-at .ensures ∙ step-inside (c .before .before .before .before .before .before .before .before .before .before .before .before .before .before .before .before .before .args .script .now) (c .before .before .before .before .before .before .before .before .loop .at) (c .before .before .before .before .before .before .before .loop-test .taken) in
+    rw next (idle-turn (c .before .before .before .before .before .before .before .before .loop .inv) (c .before .before .before .before .before .before .before .loop-test .taken) (c .before .before .before .if3 .taken) (sym (c .before .before .is-running .ensures) ∙ not-true _ (c .before .if4 .taken)))
+
 ticks-requires : tie.Need-ticks-requires Inv-loop μ-loop
 ticks-requires c κs = search needs
 
@@ -83,20 +100,20 @@ cast-ticks c = search needs
 add-ticks : tie.Need-add-ticks Inv-loop μ-loop
 add-ticks c =
     let t : c .before .before .before .before .ticks .result .worked < 4294967296 = search needs in
-    omega (arith, c .before .before .before .before .before .before .before .before .before .before .before .before .loop .inv .few, c .before .before .before .before .before .before .before .before .before .before .before .before .loop .inv .inside, c .before .before .before .before .before .before .before .before .before .before .before .before .loop .inv .short)
+    omega (arith, c .before .before .before .before .before .before .before .before .before .before .before .before .before .before .loop .inv .few, c .before .before .before .before .before .before .before .before .before .before .before .before .before .before .loop .inv .inside, c .before .before .before .before .before .before .before .before .before .before .before .before .before .before .loop .inv .short)
 
-next-at-requires : tie.Need-next-at-requires Inv-loop μ-loop
-next-at-requires c κs = search needs
+next-at-requires-2 : tie.Need-next-at-requires-2 Inv-loop μ-loop
+next-at-requires-2 c κs = search needs
 
-loop-less-3 : tie.Need-loop-less-3 Inv-loop μ-loop
-loop-less-3 c =
-    let next : c .next-at .result ≡ nextAt (c .before .before .before .before .before .before .before .before .before .before .before .before .before .before .before .before .before .before .before .before .before .before .args .script .now) (c .before .before .before .before .before .before .before .before .before .before .before .before .before .loop .at) = c .next-at .ensures ∙ step-inside (c .before .before .before .before .before .before .before .before .before .before .before .before .before .before .before .before .before .before .before .before .before .before .args .script .now) (c .before .before .before .before .before .before .before .before .before .before .before .before .before .loop .at) (c .before .before .before .before .before .before .before .before .before .before .before .before .loop-test .taken) in
-    omega (arith, next, c .before .before .before .before .before .before .before .before .before .before .before .before .loop-test .taken)
+loop-less-4 : tie.Need-loop-less-4 Inv-loop μ-loop
+loop-less-4 c =
+    let next : c .next-at2 .result ≡ nextAt (c .before .before .before .before .before .before .before .before .before .before .before .before .before .before .before .before .before .before .before .before .before .before .before .before .args .script .now) (c .before .before .before .before .before .before .before .before .before .before .before .before .before .before .before .loop .at) = c .next-at2 .ensures ∙ step-inside (c .before .before .before .before .before .before .before .before .before .before .before .before .before .before .before .before .before .before .before .before .before .before .before .before .args .script .now) (c .before .before .before .before .before .before .before .before .before .before .before .before .before .before .before .loop .at) (c .before .before .before .before .before .before .before .before .before .before .before .before .before .before .loop-test .taken) in
+    omega (arith, next, c .before .before .before .before .before .before .before .before .before .before .before .before .before .before .loop-test .taken)
 
-loop-again-3 : tie.Need-loop-again-3 Inv-loop μ-loop
-loop-again-3 c =
-    let next : c .next-at .result ≡ nextAt (c .before .before .before .before .before .before .before .before .before .before .before .before .before .before .before .before .before .before .before .before .before .before .args .script .now) (c .before .before .before .before .before .before .before .before .before .before .before .before .before .loop .at) = c .next-at .ensures ∙ step-inside (c .before .before .before .before .before .before .before .before .before .before .before .before .before .before .before .before .before .before .before .before .before .before .args .script .now) (c .before .before .before .before .before .before .before .before .before .before .before .before .before .loop .at) (c .before .before .before .before .before .before .before .before .before .before .before .before .loop-test .taken) in
-    rw next (ticks-turn (c .before .before .before .before .before .before .before .before .before .before .before .before .before .loop .inv) (c .before .before .before .before .before .before .before .before .before .before .before .before .loop-test .taken) (c .before .before .before .before .before .before .before .before .if3 .taken) _ (c .before .before .before .before .before .before .before .before .before .body-at .ensures .0) _ _ _ _ (c .before .before .before .before .before .ticks .ensures) (search needs) (c .before .before .before .before .before .ticks .kept .1 .1 .0))
+loop-again-4 : tie.Need-loop-again-4 Inv-loop μ-loop
+loop-again-4 c =
+    let next : c .next-at2 .result ≡ nextAt (c .before .before .before .before .before .before .before .before .before .before .before .before .before .before .before .before .before .before .before .before .before .before .before .before .args .script .now) (c .before .before .before .before .before .before .before .before .before .before .before .before .before .before .before .loop .at) = c .next-at2 .ensures ∙ step-inside (c .before .before .before .before .before .before .before .before .before .before .before .before .before .before .before .before .before .before .before .before .before .before .before .before .args .script .now) (c .before .before .before .before .before .before .before .before .before .before .before .before .before .before .before .loop .at) (c .before .before .before .before .before .before .before .before .before .before .before .before .before .before .loop-test .taken) in
+    rw next (ticks-turn (c .before .before .before .before .before .before .before .before .before .before .before .before .before .before .before .loop .inv) (c .before .before .before .before .before .before .before .before .before .before .before .before .before .before .loop-test .taken) (c .before .before .before .before .before .before .before .before .before .before .if3 .taken) _ (c .before .before .before .before .before .before .before .before .before .before .before .body-at .ensures .0) _ _ _ _ (c .before .before .before .before .before .ticks .ensures) (search needs) (c .before .before .before .before .before .ticks .kept .1 .1 .0))
 
 step-requires : tie.Need-step-requires Inv-loop μ-loop
 step-requires c κs = search needs
@@ -112,17 +129,17 @@ add-ticks-2 c =
     let t : c .before .before .before .before .before .before .before .before .before .step .result .ticks < 4294967296 = search needs in
     omega (arith, c .before .before .before .before .before .before .before .before .before .before .before .before .before .before .before .before .before .before .loop .inv .few, c .before .before .before .before .before .before .before .before .before .before .before .before .before .before .before .before .before .before .loop .inv .inside, c .before .before .before .before .before .before .before .before .before .before .before .before .before .before .before .before .before .before .loop .inv .short)
 
-next-at-requires-2 : tie.Need-next-at-requires-2 Inv-loop μ-loop
-next-at-requires-2 c κs = search needs
+next-at-requires-3 : tie.Need-next-at-requires-3 Inv-loop μ-loop
+next-at-requires-3 c κs = search needs
 
-loop-less-4 : tie.Need-loop-less-4 Inv-loop μ-loop
-loop-less-4 c =
-    let next : c .next-at2 .result ≡ nextAt (c .before .before .before .before .before .before .before .before .before .before .before .before .before .before .before .before .before .before .before .before .before .before .before .before .before .before .before .before .args .script .now) (c .before .before .before .before .before .before .before .before .before .before .before .before .before .before .before .before .before .before .before .loop .at) = c .next-at2 .ensures ∙ step-inside (c .before .before .before .before .before .before .before .before .before .before .before .before .before .before .before .before .before .before .before .before .before .before .before .before .before .before .before .before .args .script .now) (c .before .before .before .before .before .before .before .before .before .before .before .before .before .before .before .before .before .before .before .loop .at) (c .before .before .before .before .before .before .before .before .before .before .before .before .before .before .before .before .before .before .loop-test .taken) in
+loop-less-5 : tie.Need-loop-less-5 Inv-loop μ-loop
+loop-less-5 c =
+    let next : c .next-at3 .result ≡ nextAt (c .before .before .before .before .before .before .before .before .before .before .before .before .before .before .before .before .before .before .before .before .before .before .before .before .before .before .before .before .args .script .now) (c .before .before .before .before .before .before .before .before .before .before .before .before .before .before .before .before .before .before .before .loop .at) = c .next-at3 .ensures ∙ step-inside (c .before .before .before .before .before .before .before .before .before .before .before .before .before .before .before .before .before .before .before .before .before .before .before .before .before .before .before .before .args .script .now) (c .before .before .before .before .before .before .before .before .before .before .before .before .before .before .before .before .before .before .before .loop .at) (c .before .before .before .before .before .before .before .before .before .before .before .before .before .before .before .before .before .before .loop-test .taken) in
     omega (arith, next, c .before .before .before .before .before .before .before .before .before .before .before .before .before .before .before .before .before .before .loop-test .taken)
 
-loop-again-4 : tie.Need-loop-again-4 Inv-loop μ-loop
-loop-again-4 c =
-    let next : c .next-at2 .result ≡ nextAt (c .before .before .before .before .before .before .before .before .before .before .before .before .before .before .before .before .before .before .before .before .before .before .before .before .before .before .before .before .args .script .now) (c .before .before .before .before .before .before .before .before .before .before .before .before .before .before .before .before .before .before .before .loop .at) = c .next-at2 .ensures ∙ step-inside (c .before .before .before .before .before .before .before .before .before .before .before .before .before .before .before .before .before .before .before .before .before .before .before .before .before .before .before .before .args .script .now) (c .before .before .before .before .before .before .before .before .before .before .before .before .before .before .before .before .before .before .before .loop .at) (c .before .before .before .before .before .before .before .before .before .before .before .before .before .before .before .before .before .before .loop-test .taken) in
+loop-again-5 : tie.Need-loop-again-5 Inv-loop μ-loop
+loop-again-5 c =
+    let next : c .next-at3 .result ≡ nextAt (c .before .before .before .before .before .before .before .before .before .before .before .before .before .before .before .before .before .before .before .before .before .before .before .before .before .before .before .before .args .script .now) (c .before .before .before .before .before .before .before .before .before .before .before .before .before .before .before .before .before .before .before .loop .at) = c .next-at3 .ensures ∙ step-inside (c .before .before .before .before .before .before .before .before .before .before .before .before .before .before .before .before .before .before .before .before .before .before .before .before .before .before .before .before .args .script .now) (c .before .before .before .before .before .before .before .before .before .before .before .before .before .before .before .before .before .before .before .loop .at) (c .before .before .before .before .before .before .before .before .before .before .before .before .before .before .before .before .before .before .loop-test .taken) in
     rw next (turns (c .before .before .before .before .before .before .before .before .before .before .before .before .before .before .before .before .before .before .before .loop .inv) (c .before .before .before .before .before .before .before .before .before .before .before .before .before .before .before .before .before .before .loop-test .taken) _ _ _ (c .before .before .before .before .before .before .before .before .before .before .step .ensures ∙ ap (applied _ _ _ _) (c .before .before .before .before .before .before .before .before .before .before .before .before .before .before .before .body-at .ensures .0)) (c .before .before .before .before .before .before .put3 .ensures) (search needs) (c .before .before .before .before .before .before .before .before .before .before .step .kept .1 .1 .1 .1 .0) (c .before .before .before .before .before .before .put3 .kept .0))
 
 finished-requires : tie.Need-finished-requires Inv-loop μ-loop
@@ -161,19 +178,23 @@ play-spec =
     loop-again-2
     body-at-requires
     cast-body
-    ticks-requires
-    cast-ticks
-    add-ticks
+    is-running-requires
     next-at-requires
     loop-less-3
     loop-again-3
+    ticks-requires
+    cast-ticks
+    add-ticks
+    next-at-requires-2
+    loop-less-4
+    loop-again-4
     step-requires
     put-requires-3
     cast-ticks-2
     add-ticks-2
-    next-at-requires-2
-    loop-less-4
-    loop-again-4
+    next-at-requires-3
+    loop-less-5
+    loop-again-5
     finished-requires
     same-length
     same-length-2
