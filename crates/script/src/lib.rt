@@ -145,9 +145,9 @@ fn finished(
 }
 
 // Runs a script that nothing refuses: the chip is taken apart once, and put together at the end.
-// Data bytes are most of a script: they go by the frame alone, and ticks by the core alone, which is
-// not copied for ticks that find no job running. The other calls get a copy of the frame, so that it
-// need not lie in memory from one data byte to the next.
+// Data bytes are most of a script: they go by the frame alone, and ticks by the core alone. Whether a
+// job runs is kept beside the core, so that ticks that find none copy nothing. The other calls get a
+// copy of the frame, so that it need not lie in memory from one data byte to the next.
 fn play(chip: Chip, mem: &mut [u8], script: &[u8], out: &mut [u8], sectors: u8, area: &[u8]) -> Ran
     requires { ⌜ Playable (now script) (length (now out)) ⌝ }
     ensures { λ r. ⌜ Played (setting sectors (now (area .entry))) chip (now (mem .entry)) (now (script .entry)) (now (out .entry)) r (now (mem .exit)) (now (out .exit)) ⌝ }
@@ -156,6 +156,7 @@ fn play(chip: Chip, mem: &mut [u8], script: &[u8], out: &mut [u8], sectors: u8, 
     let mut frame = chip.frame;
     let mut load = chip.load;
     let mut held = chip.held;
+    let mut busy = chip::is_running(core);
     let mut at = 0;
     let mut pos = 0;
     let mut ticks: u64 = 0;
@@ -181,12 +182,13 @@ fn play(chip: Chip, mem: &mut [u8], script: &[u8], out: &mut [u8], sectors: u8, 
         }
         let body = kinds::body_at(script, at) as u32;
         if kind == Kind::TICKS {
-            if !chip::is_running(core) {
+            if !busy {
                 at = kinds::next_at(script, at);
                 continue;
             }
             let t = job::ticks(core, &mut held, mem, sectors, body);
             core = t.core;
+            busy = chip::is_running(core);
             ticks += t.worked as u64;
             at = kinds::next_at(script, at);
             continue;
@@ -206,6 +208,7 @@ fn play(chip: Chip, mem: &mut [u8], script: &[u8], out: &mut [u8], sectors: u8, 
         let said = s.said;
         pos = put(out, pos, said);
         core = s.core;
+        busy = chip::is_running(core);
         frame = s.frame;
         ticks += s.ticks as u64;
         at = kinds::next_at(script, at);

@@ -46,8 +46,8 @@ fn put_frame(out: &mut [u8], at: usize, command: &[u8], bytes: &[u8]) -> usize
     ensures { λ r. ⌜ Put (now (out .entry)) at (frameOf (now (command .entry) ++ now (bytes .entry))) r (now (out .exit)) ⌝ }
 {
     out[at] = Kind::SELECT as u8;
-    let address = put_exchanges(out, at + 1, command);
-    let end = put_exchanges(out, address, bytes);
+    let data = put_exchanges(out, at + 1, command);
+    let end = put_exchanges(out, data, bytes);
     out[end] = Kind::DESELECT as u8;
     end + 1
 }
