@@ -146,8 +146,9 @@ fn finished(
 
 // Runs a script that nothing refuses: the chip is taken apart once, and put together at the end.
 // Data bytes are most of a script: they go by the frame alone, and ticks by the core alone. Whether a
-// job runs is kept beside the core, so that ticks that find none copy nothing. The other calls get a
-// copy of the frame, so that it need not lie in memory from one data byte to the next.
+// job runs is kept beside the core, so that ticks that find none copy nothing; it is read off the
+// answers, since a core that is only handed on stays in one piece. The other calls get a copy of the
+// frame, so that it need not lie in memory from one data byte to the next.
 fn play(chip: Chip, mem: &mut [u8], script: &[u8], out: &mut [u8], sectors: u8, area: &[u8]) -> Ran
     requires { ⌜ Playable (now script) (length (now out)) ⌝ }
     ensures { λ r. ⌜ Played (setting sectors (now (area .entry))) chip (now (mem .entry)) (now (script .entry)) (now (out .entry)) r (now (mem .exit)) (now (out .exit)) ⌝ }
@@ -156,7 +157,7 @@ fn play(chip: Chip, mem: &mut [u8], script: &[u8], out: &mut [u8], sectors: u8, 
     let mut frame = chip.frame;
     let mut load = chip.load;
     let mut held = chip.held;
-    let mut busy = chip::is_running(core);
+    let mut busy = chip::is_running(chip.core);
     let mut at = 0;
     let mut pos = 0;
     let mut ticks: u64 = 0;
@@ -188,7 +189,7 @@ fn play(chip: Chip, mem: &mut [u8], script: &[u8], out: &mut [u8], sectors: u8, 
             }
             let t = job::ticks(core, &mut held, mem, sectors, body);
             core = t.core;
-            busy = chip::is_running(core);
+            busy = chip::is_running(t.core);
             ticks += t.worked as u64;
             at = kinds::next_at(script, at);
             continue;
@@ -208,7 +209,7 @@ fn play(chip: Chip, mem: &mut [u8], script: &[u8], out: &mut [u8], sectors: u8, 
         let said = s.said;
         pos = put(out, pos, said);
         core = s.core;
-        busy = chip::is_running(core);
+        busy = chip::is_running(s.core);
         frame = s.frame;
         ticks += s.ticks as u64;
         at = kinds::next_at(script, at);
