@@ -33,7 +33,8 @@ const WRITTEN_OUT: [WrittenOut; 14] = [
 ];
 
 impl Session<'_> {
-    /// What verdict 9 names, at every level of every part, and the rooms of runs with deselects.
+    /// What verdict 9 names and in which sectors, at every level of every part, and the rooms of runs
+    /// with deselects.
     pub fn protection(&mut self) -> Outcome {
         for case in &WRITTEN_OUT {
             self.written_out(case)?;
@@ -42,6 +43,10 @@ impl Session<'_> {
             for level in 1..=7 {
                 self.turned_away_at(length, level << 2)?;
                 self.turned_away_at(length, level << 2 | 0x20)?;
+            }
+            for level in 0..=7 {
+                self.every_sector_at(length, level << 2)?;
+                self.every_sector_at(length, level << 2 | 0x20)?;
             }
             self.levels_of_one_run(length)?;
         }
@@ -77,6 +82,24 @@ impl Session<'_> {
         } else {
             self.deliver(&events)?;
         }
+        self.close()
+    }
+
+    /// A job in one sector after the other, in one run; one that begins is cut before its first step.
+    fn every_sector_at(&mut self, length: usize, status: u8) -> Outcome {
+        self.open_fresh(length, status)?;
+        let events = self.write(|writer| {
+            writer.calm = true;
+            for sector in 0..length / Chip::SECTOR {
+                writer.enable();
+                let class = writer.rng.pick(&LONG_JOBS[..3]);
+                send_job(writer, class, sector);
+                if writer.chip.job.is_some() {
+                    writer.put(kind::POWER_CUT, 0);
+                }
+            }
+        });
+        self.one_run(&events)?;
         self.close()
     }
 

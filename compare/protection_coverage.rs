@@ -6,7 +6,7 @@ use crate::event::{kind, room_of, Event};
 use crate::model::{Chip, Record};
 use crate::protection::{ends, target_sector, Ends};
 use crate::side::{record_bytes, verdict_of};
-use crate::tally::{print_cells, print_head, print_line, Tally};
+use crate::tally::{mark, print_cells, print_head, print_line, Tally};
 
 /// The jobs that can have a protected target, as `LONG_JOBS` has them.
 const TARGETS: [&str; 4] = ["a program", "a small sector erase", "a sector erase", "a chip erase"];
@@ -101,6 +101,8 @@ pub struct ProtectionCoverage {
     named: [[[[u64; LEVELS.len()]; 6]; 2]; 4],
     /// Targets that are a sector or a part of one, by TB, place and length.
     places: [[[u64; 6]; PLACES.len()]; 2],
+    /// The sectors, a bit each, in which such a job began or was turned away, by TB, length and level.
+    asked: [[[u32; 8]; 6]; 2],
     /// Verdicts 9 by entry point.
     entries: [u64; 3],
     rooms: [[u64; ROOMS.len()]; SCRIPTS.len()],
@@ -116,6 +118,7 @@ impl ProtectionCoverage {
         ProtectionCoverage {
             named: [[[[0; LEVELS.len()]; 6]; 2]; 4],
             places: [[[0; 6]; PLACES.len()]; 2],
+            asked: [[[0; 8]; 6]; 2],
             entries: [0; 3],
             rooms: [[0; ROOMS.len()]; SCRIPTS.len()],
             situations: Tally::new(&SITUATIONS),
@@ -134,8 +137,13 @@ impl ProtectionCoverage {
         let class = Class::begun_by(before.frame.opcode);
         let job = LONG_JOBS.iter().position(|long| Some(*long) == class);
         let size = LENGTHS.iter().position(|known| *known == length);
-        let (Some(job), Some(size), Some(ends)) = (job, size, ends(before, length)) else { return };
+        let (Some(job), Some(size)) = (job, size) else { return };
         let tb = usize::from(before.tb);
+        if LONG_JOBS[job] != Class::Chip && matches!(verdict_of(record), Some(2 | 9)) {
+            let asked = &mut self.asked[tb][size][usize::from(before.level)];
+            *asked |= 1 << target_sector(before, length);
+        }
+        let Some(ends) = ends(before, length) else { return };
         match record {
             Record::Protected { first, last } if (first.into(), last.into()) == ends => {
                 self.named[job][tb][size][usize::from(before.level - 1)] += 1;
@@ -199,7 +207,8 @@ impl ProtectionCoverage {
 
     /// Prints the tables and gives the number of cells that are empty, or filled and should not be.
     pub fn report(&self, entries: &[(&str, &[u8])]) -> usize {
-        let mut faults = self.report_named() + self.report_places() + self.report_rooms();
+        let mut faults = self.report_named() + self.report_places();
+        faults += self.report_asked() + self.report_rooms();
         println!("\nverdict 9 and rooms");
         for ((name, _), count) in entries.iter().zip(self.entries) {
             faults += print_line(&format!("verdict 9, {name}"), count);
@@ -233,6 +242,25 @@ impl ProtectionCoverage {
             for ((name, fewest), counts) in PLACES.iter().zip(by_place) {
                 print!("{:24}", format!("TB {tb}, {name}"));
                 faults += print_cells(counts, |length| SECTORS[length] >= *fewest);
+            }
+        }
+        faults
+    }
+
+    /// Prints how many sectors of each part have been asked, which have to be all.
+    fn report_asked(&self) -> usize {
+        println!("\nsectors in which a job began or was turned away, by level: all of them");
+        print_head(&[0, 1, 2, 3, 4, 5, 6, 7]);
+        let mut faults = 0;
+        for (tb, by_length) in self.asked.iter().enumerate() {
+            for (sectors, by_level) in SECTORS.iter().zip(by_length) {
+                print!("{:24}", format!("TB {tb}, S = {sectors}"));
+                for asked in by_level {
+                    let bad = asked.count_ones() != u32::from(*sectors);
+                    print!("{:>8}", asked.count_ones().to_string() + mark(bad));
+                    faults += usize::from(bad);
+                }
+                println!();
             }
         }
         faults

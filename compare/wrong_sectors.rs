@@ -5,7 +5,7 @@ use crate::protection::{ends, target_sector};
 use crate::side::RecordBytes;
 
 /// The faults, in words; the last two are seen in the answer to an event alone.
-pub const FAULTS: [&str; 11] = [
+pub const FAULTS: [&str; 12] = [
     "verdict 9 names the protected sectors of the target alone",
     "verdict 9 names the last sector first",
     "verdict 9 names the sector after the last one",
@@ -15,6 +15,7 @@ pub const FAULTS: [&str; 11] = [
     "verdict 9 names sectors at the top whatever TB is",
     "verdict 9 names more sectors than a cut part has",
     "a run names the sectors that were protected when it began",
+    "the sector before the last protected one is free",
     "an event alone answers verdict 9 by two bytes",
     "an event alone leaves a byte behind a record of two",
 ];
@@ -50,6 +51,7 @@ pub fn record(
         8 => run_began
             .and_then(|chip| ends(chip, length))
             .map_or((first, last), |(first, last)| (first as u8, last as u8)),
+        9 if !chip_erase && first < sector && sector + 1 == last => return Record::Verdict(2),
         _ => (first, last),
     };
     Record::Protected { first, last }
@@ -66,10 +68,10 @@ fn sectors_of_real_part(level: u8) -> u8 {
 /// The bytes that an event alone is answered with, with the fault of that number.
 pub fn answered(fault: usize, right: RecordBytes) -> RecordBytes {
     match (fault, right) {
-        (9, RecordBytes { length: 3, bytes: [mark, first, _] }) => {
+        (10, RecordBytes { length: 3, bytes: [mark, first, _] }) => {
             RecordBytes { length: 2, bytes: [mark, first, 0] }
         }
-        (10, RecordBytes { length: 2, bytes: [mark, body, _] }) => {
+        (11, RecordBytes { length: 2, bytes: [mark, body, _] }) => {
             RecordBytes { length: 2, bytes: [mark, body, body] }
         }
         _ => right,

@@ -2,3 +2,6 @@ pub mod Part
 pub mod Area
 pub mod Protection
 pub mod Laws
+pub mod Walk
+pub mod WalkLaws
+pub mod Examples

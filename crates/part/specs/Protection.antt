@@ -19,7 +19,8 @@ lastEnd count tb S = cond tb (count - 1) (S - 1)
 -- the protect test: the two ends of the protected sectors, nothing where the count is 0 (RULES, Protection)
 unfoldable pub protectedSectors : ℕ → Bool → ℕ → Protected
 protectedSectors L tb S =
-    cond (eqb (protectedCount L S) 0) NoSector (Sectors (firstEnd (protectedCount L S) tb S) (lastEnd (protectedCount L S) tb S))
+    let count = protectedCount L S in
+    cond (eqb count 0) NoSector (Sectors (firstEnd count tb S) (lastEnd count tb S))
 
 -- whether sector x lies between the two ends, both of them included; and whether there is any such sector (RULES, Protection)
 abbrev pub protects : Protected → ℕ → Bool

@@ -111,19 +111,17 @@ fn smaller(a: u8, b: u8) -> u8
     b
 }
 
-// How many of `sectors` sectors a level protects.
+// How many of `sectors` sectors a level protects: a power of two, as far as there are so many, and from 6 on all.
 fn protected_count(level: u8, sectors: u8) -> u8
     ensures { λ r. ⌜ r ≡ protectedCount level sectors ⌝ }
 {
-    match level {
-        0 => 0,
-        1 => smaller(1, sectors),
-        2 => smaller(2, sectors),
-        3 => smaller(4, sectors),
-        4 => smaller(8, sectors),
-        5 => smaller(16, sectors),
-        _ => sectors,
+    if level == 0 {
+        return 0;
     }
+    if level < 6 {
+        return smaller(1 << (level - 1), sectors);
+    }
+    sectors
 }
 
 // The protect test: the first and the last protected sector, from level, TB and the number of sectors.
@@ -134,13 +132,12 @@ pub fn protected_sectors(level: u8, tb: bool, sectors: u8) -> Protected
     if count == 0 {
         return Protected::NoSector;
     }
-    if tb {
-        return Protected::Sectors(0, count - 1);
-    }
-    Protected::Sectors(sectors - count, sectors - 1)
+    let first = if tb { 0 } else { sectors - count };
+    let last = if tb { count - 1 } else { sectors - 1 };
+    Protected::Sectors(first, last)
 }
 
-// Whether sector x is among the protected ones: it lies between their two ends.
+// Whether sector x is among the protected ones: one comparison with their two ends.
 pub fn protects(range: Protected, x: usize) -> bool
     ensures { λ r. ⌜ r ≡ protects range x ⌝ }
 {
