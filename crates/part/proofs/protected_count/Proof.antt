@@ -25,11 +25,11 @@ smaller-requires c κs = search needs
 returns-2 : tie.Need-returns-2
 unfolding protectedCount
 returns-2 c =
-    rw (c .smaller .ensures, ne-eqb _ _ (c .before .before .if1 .left), lt-ltb _ _ (c .before .if2 .taken), shl-exact {a = 1} 1 (c .before .before .before .args .level - 1) 8 (omega arith) (omega (arith, c .before .if2 .taken)), one-mul)
+    rw (c .smaller .ensures, ne-eqb _ _ (c .before .before .if1 .left), lt-ltb (c .before .before .before .args .level) 6 (omega (arith, c .before .if2 .taken)), shl-exact {a = 1} 1 (c .before .before .before .args .level - 1) 8 (omega arith) (omega (arith, c .before .if2 .taken)), one-mul)
 
 returns-3 : tie.Need-returns-3
 unfolding protectedCount
-returns-3 c = rw (ne-eqb _ _ (c .before .if1 .left), le-ltb _ _ (c .if2 .left))
+returns-3 c = rw (ne-eqb _ _ (c .before .if1 .left), le-ltb (c .before .before .args .level) 6 (omega (arith, c .if2 .left)))
 
 pub protected-count-spec : {M : Type 1} → statement M
 protected-count-spec =
