@@ -1,4 +1,4 @@
--- The protect test once more, as a walk from sector to sector that counts and computes nothing. `WalkLaws` says that the two answer alike (RULES, Protection).
+-- The protect test once more, as a walk from sector to sector, with no arithmetic in it. `WalkLaws` says that the two answer alike (RULES, Protection).
 use Prim.Native.Nat.{ℕ, zero, suc}
 use mathlib.Core.Bool.{Bool, true, false, cond}
 use mathlib.Core.List.{List, [], _∷_, reverse}
@@ -7,7 +7,7 @@ use lib.ListN.{getD, take}
 use Rattle.part.specs.declared.Protected.{Protected}
 use Rattle.part.specs.declared.Protected.the-variants.{NoSector, Sectors}
 
--- n sectors in a row, the first of them a: a part of S sectors is the row of S from 0 on (RULES, The array)
+-- n sectors in a row, the first of them a; those of a part of S sectors are the row of S from 0 on (RULES, The array)
 abbrev pub sectorsFrom : ℕ → ℕ → List ℕ
 sectorsFrom a zero = []
 sectorsFrom a (suc n) = a ∷ sectorsFrom (suc a) n
@@ -33,12 +33,12 @@ walk (sector ∷ rest) x = cond (eqb x sector) true (walk rest x)
 abbrev pub protectedByWalk : ℕ → Bool → ℕ → ℕ → Bool
 protectedByWalk L tb S x = walk (takenSectors L tb S) x
 
--- where a walk that stands at a sector ends, with the rest before it
+-- the last sector of a walk that stands at one and has the rest to go
 abbrev pub lastOf : ℕ → List ℕ → ℕ
 lastOf sector [] = sector
 lastOf sector (next ∷ rest) = lastOf next rest
 
--- and the two ends of a walk: where it begins and where it ends (RULES, Protection)
+-- and the two ends of a walk: the sectors where it begins and where it ends, nothing where it has none to go to (RULES, Protection)
 abbrev pub endsOf : List ℕ → Protected
 endsOf [] = NoSector
 endsOf (sector ∷ rest) = Sectors sector (lastOf sector rest)

@@ -111,7 +111,7 @@ fn smaller(a: u8, b: u8) -> u8
     b
 }
 
-// How many of `sectors` sectors a level protects: a power of two, as far as there are so many, and from 6 on all.
+// How many of `sectors` sectors a level protects: a power of two, as far as there are so many; from 6 on all.
 fn protected_count(level: u8, sectors: u8) -> u8
     ensures { λ r. ⌜ r ≡ protectedCount level sectors ⌝ }
 {
