@@ -23,6 +23,7 @@ length-row : (a n : ℕ) → length (sectorsFrom a n) ≡ n
 length-row a zero = refl
 length-row a (suc n) = ap suc (length-row (suc a) n)
 
+-- rows with the same first sector and as many sectors are the same
 row-as : (a n b m : ℕ) → a ≡ b → n ≡ m → sectorsFrom a n ≡ sectorsFrom b m
 row-as a n b m at long = ap₂ sectorsFrom at long
 
@@ -64,6 +65,7 @@ counted (suc (suc (suc (suc (suc (suc L)))))) S =
     let all : min S S ≡ S = omega arith in
     rw (eqb·suc-zero (suc (suc (suc (suc (suc L))))), le-ltb (suc (suc (suc (suc (suc (suc L)))))) 6 (omega arith), all)
 
+-- at the bottom the first so many of 0 to S − 1, at the top what is left behind the others
 pub taken-row : (L : ℕ) (tb : Bool) (S : ℕ) → takenSectors L tb S ≡ sectorsFrom (firstEnd (protectedCount L S) tb S) (protectedCount L S)
 taken-row L true S = take-row (asksFor L S) 0 S ∙ ap (sectorsFrom 0) (counted L S)
 taken-row L false S =
