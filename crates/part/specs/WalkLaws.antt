@@ -1,7 +1,7 @@
 -- The protect test and the walk answer alike, for every level, TB, number of sectors and sector: who believes the walk believes the test (RULES, Protection).
 use Prim.Native.Nat.{ℕ, zero, suc, _+_, _-_, _≤_, _<_, min}
 use mathlib.Core.Bool.{Bool, true, false, _&&_}
-use mathlib.Core.List.{List, [], _∷_, _++_, reverse, reverse-append, reverse-reverse}
+use mathlib.Core.List.{List, _∷_, _++_, reverse, reverse-append, reverse-reverse}
 use mathlib.Core.Path.{_≡_, refl, sym, ap, ap₂, _∙_}
 use native.Mathlib.Nat.{zero-min, min-zero, suc-min-suc}
 use native.Mathlib.Omega.{arith}
@@ -12,7 +12,7 @@ use lib.Seq.{take-at, take-all}
 use borrow.Author.Tests.{eq-eqb, ne-eqb, le-ltb, le-leb, lt-leb}
 use Rattle.cells.specs.Choice.{cond-yes, cond-no, and-both}
 use Rattle.part.specs.declared.Protected.{Protected}
-use Rattle.part.specs.declared.Protected.the-variants.{NoSector, Sectors}
+use Rattle.part.specs.declared.Protected.the-variants.{Sectors}
 use Rattle.part.specs.Protection.{protectedCount, firstEnd, lastEnd, protectedSectors, protects, isProtected}
 use Rattle.part.specs.Laws.{protectedCount-le, no-ends, two-ends}
 use Rattle.part.specs.Walk.{sectorsFrom, asksFor, takeLast, takenSectors, walk, protectedByWalk, lastOf, endsOf}
