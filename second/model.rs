@@ -34,7 +34,6 @@ pub(crate) mod kind {
     pub const TICKS: u8 = 0x05;
     pub const WP_LEVEL: u8 = 0x06;
     pub const POWER_CUT: u8 = 0x07;
-    pub const LOOSE_DESELECT: u8 = 0x08;
 }
 
 /// Length rule of a frame that may have any length.
@@ -86,7 +85,7 @@ const ROW_OF: [u8; 256] = {
 };
 
 /// The body length of each event kind from 01h on.
-const BODY_LENGTHS: [usize; 8] = [0, 1, 0, 0, 2, 1, 0, 1];
+const BODY_LENGTHS: [usize; 7] = [0, 1, 1, 0, 2, 1, 0];
 
 /// The four-byte code that a 9Fh frame drives in a cycle, the reserve code last.
 const JEDEC_CYCLE: [u8; 4] = [0x62, 0x16, 0x15, 0x00];
@@ -106,6 +105,8 @@ const COUNT_CAP: u8 = 6;
 const ADDRESS_END: u32 = 1 << 24;
 /// The longest SFDP area that is lent.
 const LONGEST_AREA: usize = 256;
+/// The most bits that a deselect can leave loose: with an eighth the byte would be whole.
+const MOST_LOOSE_BITS: u64 = 7;
 
 /// What a job does, with the load of a program or the value of a write status.
 #[derive(Clone, Debug, PartialEq, Eq)]
@@ -679,9 +680,9 @@ pub(crate) fn body_length(kind: u8) -> Option<usize> {
 fn body_in_range(kind: u8, body: u64) -> bool {
     match kind {
         kind::EXCHANGE => body <= 0xFF,
+        kind::DESELECT => body <= MOST_LOOSE_BITS,
         kind::TICKS => (1..=65_535).contains(&body),
         kind::WP_LEVEL => body <= 1,
-        kind::LOOSE_DESELECT => (1..=7).contains(&body),
         _ => true,
     }
 }
@@ -698,8 +699,8 @@ fn apply(
     match kind {
         kind::SELECT => chip.selected = true,
         kind::EXCHANGE => return (exchange(chip, memory, area, body as u8), 0),
-        kind::DESELECT => return (deselect(chip, memory.len(), false), 0),
-        kind::LOOSE_DESELECT => return (deselect(chip, memory.len(), true), 0),
+        // One loose bit spoils a frame as much as seven do.
+        kind::DESELECT => return (deselect(chip, memory.len(), body > 0), 0),
         kind::TICK => return (Record::None, pass_ticks(chip, memory, 1)),
         kind::TICKS => return (Record::None, pass_ticks(chip, memory, body)),
         kind::WP_LEVEL => chip.wp_high = body == 1,
@@ -766,7 +767,7 @@ fn body_value(body: &[u8]) -> u64 {
 fn output_room(kind: u8) -> usize {
     match kind {
         kind::EXCHANGE => 2,
-        kind::DESELECT | kind::LOOSE_DESELECT => 3,
+        kind::DESELECT => 3,
         _ => 0,
     }
 }

@@ -3,13 +3,16 @@
 #[path = "model.rs"]
 mod model;
 
-use model::Chip;
+use model::{kind, Chip};
 use std::io::{self, Read, Write};
 
 /// The longest script the program reads.
 const LONGEST_SCRIPT: usize = 4_096;
-/// The most output room that one byte of a script can need: a deselect is one byte long.
-const ROOM_PER_BYTE: usize = 3;
+/// Bytes of an event that has a record, be it an exchange or a deselect.
+const EVENT_WITH_RECORD: usize = 2;
+/// The most output room that such an event can need, which is a deselect's. Spread over its two
+/// bytes that is one and a half for each, the most that one byte of a script can need.
+const ROOM_PER_EVENT: usize = 3;
 /// The program's SFDP area, which is empty.
 const AREA: [u8; 0] = [];
 
@@ -20,7 +23,7 @@ pub fn report(script: &[u8]) -> String {
     }
     let mut chip = Chip::fresh(0x00);
     let mut memory = vec![0xFF; Chip::SECTOR];
-    let mut output = vec![0; ROOM_PER_BYTE * script.len()];
+    let mut output = vec![0; room_for(script.len())];
     let mut text = format!("part {}\n", memory.len());
     let answer = model::run(&mut chip, &mut memory, &AREA, script, &mut output);
     if answer.refusal != 0 {
@@ -32,6 +35,12 @@ pub fn report(script: &[u8]) -> String {
     text
 }
 
+/// Output room that is enough for every good script of that length. A byte left over by the
+/// halving is no whole event with a record and needs none.
+fn room_for(script_length: usize) -> usize {
+    script_length / EVENT_WITH_RECORD * ROOM_PER_EVENT
+}
+
 /// One line a record, each with the offset of its event in a script that has run.
 pub fn record_lines(script: &[u8], output: &[u8]) -> String {
     let mut text = String::new();
@@ -39,7 +48,7 @@ pub fn record_lines(script: &[u8], output: &[u8]) -> String {
     let mut offset = 0;
     while offset < script.len() {
         let kind = script[offset];
-        if matches!(kind, 0x02 | 0x03 | 0x08) {
+        if matches!(kind, kind::EXCHANGE | kind::DESELECT) {
             text += &format!("{offset} {}\n", record_word(&mut records));
         }
         offset += 1 + model::body_length(kind).unwrap_or(0);

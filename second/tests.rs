@@ -1,5 +1,8 @@
 // Tests of the second model: the paper's cases, refusals, verdicts and errors that look right.
 
+#[path = "deselect_tests.rs"]
+mod deselect_tests;
+
 #[path = "model.rs"]
 mod model;
 
@@ -64,17 +67,17 @@ impl Bench {
 
     /// Deselects on a byte boundary and gives the verdict.
     fn end(&mut self) -> u8 {
-        verdict_of(self.deselect(3, 0))
+        verdict_of(self.deselect(0))
     }
 
-    /// Deselects loosely and gives the verdict.
+    /// Deselects with some bits loose and gives the verdict.
     fn end_loose(&mut self) -> u8 {
-        verdict_of(self.deselect(8, 3))
+        verdict_of(self.deselect(3))
     }
 
-    /// Applies a deselect of either kind and gives its record.
-    fn deselect(&mut self, kind: u64, body: u64) -> Record {
-        let (record, ticks) = self.apply(kind, body);
+    /// Deselects with that many bits loose and gives the record.
+    fn deselect(&mut self, loose_bits: u64) -> Record {
+        let (record, ticks) = self.apply(3, loose_bits);
         assert_eq!(ticks, 0);
         record
     }
@@ -87,7 +90,7 @@ impl Bench {
     /// Sends a whole frame and gives the record of its verdict.
     fn frame_record(&mut self, bytes: &[u8]) -> Record {
         self.send(bytes);
-        self.deselect(3, 0)
+        self.deselect(0)
     }
 
     /// Lets ticks pass and gives the number of working ticks.
@@ -315,7 +318,7 @@ fn longest_script_accepted_and_one_more_refused() {
 }
 
 /// The script of the paper's sample.
-const SAMPLE: [u8; 10] = [1, 2, 6, 3, 1, 2, 5, 2, 0, 3];
+const SAMPLE: [u8; 12] = [1, 2, 6, 3, 0, 1, 2, 5, 2, 0, 3, 0];
 
 #[test]
 fn sample_records() {
@@ -329,24 +332,24 @@ fn sample_records() {
 
 #[test]
 fn program_texts() {
-    let text = "part 65536\n1 --\n3 V1\n5 --\n7 02\n9 V0\nanswer 0 ticks 0\n";
+    let text = "part 65536\n1 --\n3 V1\n6 --\n8 02\n10 V0\nanswer 0 ticks 0\n";
     assert_eq!(program::report(&SAMPLE), text);
     assert_eq!(program::report(&[]), "part 65536\nanswer 0 ticks 0\n");
     assert_eq!(program::report(&[4, 9]), "part 65536\nanswer 5 at 1\n");
     assert_eq!(program::report(&[4; 4_097]), "too long\n");
     assert!(program::report(&[4; 4_096]).ends_with("answer 0 ticks 0\n"));
-    let erase = [1, 2, 6, 3, 1, 2, 0x60, 3, 5, 1, 44];
-    assert!(program::report(&erase).ends_with("7 V2\nanswer 0 ticks 256\n"));
+    let erase = [1, 2, 6, 3, 0, 1, 2, 0x60, 3, 0, 5, 1, 44];
+    assert!(program::report(&erase).ends_with("\n8 V2\nanswer 0 ticks 256\n"));
 }
 
 #[test]
 fn program_names_the_sectors_in_the_way() {
     for level in 1..=7 {
         for bottom in [0x00, 0x20] {
-            let protect = [1, 2, 6, 3, 1, 2, 1, 2, bottom | level << 2, 3, 4];
-            let erase = [1, 2, 6, 3, 1, 2, 0x60, 3, 1, 2, 0xD8, 2, 1, 2, 2, 2, 3, 3];
-            let text = "part 65536\n1 --\n3 V1\n5 --\n7 --\n9 V2\n12 --\n14 V1\n16 --\n18 V9 0 0\n\
-                20 --\n22 --\n24 --\n26 --\n28 V9 0 0\nanswer 0 ticks 1\n";
+            let protect = [1, 2, 6, 3, 0, 1, 2, 1, 2, bottom | level << 2, 3, 0, 4];
+            let erase = [1, 2, 6, 3, 0, 1, 2, 0x60, 3, 0, 1, 2, 0xD8, 2, 1, 2, 2, 2, 3, 3, 0];
+            let text = "part 65536\n1 --\n3 V1\n6 --\n8 --\n10 V2\n14 --\n16 V1\n19 --\n\
+                21 V9 0 0\n24 --\n26 --\n28 --\n30 --\n32 V9 0 0\nanswer 0 ticks 1\n";
             assert_eq!(program::report(&[&protect[..], &erase[..]].concat()), text);
         }
     }
@@ -354,23 +357,29 @@ fn program_names_the_sectors_in_the_way() {
 
 #[test]
 fn program_lines_of_verdict_9_are_decimal() {
-    let script = [6, 1, 3, 1, 2, 0, 8, 7, 2, 0, 3];
+    let script = [6, 1, 3, 0, 1, 2, 0, 3, 7, 2, 0, 3, 0];
     let output = [0x83, 31, 31, 0x80, 0x83, 16, 31, 0x81, 31, 0x82, 11];
-    let text = "2 V9 31 31\n4 --\n6 V9 16 31\n8 1F\n10 V11\n";
+    let text = "2 V9 31 31\n5 --\n7 V9 16 31\n9 1F\n11 V11\n";
     assert_eq!(program::record_lines(&script, &output), text);
 }
 
 #[test]
 fn program_has_room_for_every_script() {
-    for event in [&[3][..], &[8, 1], &[2, 0]] {
-        let script = event.repeat(4_096 / event.len());
-        let text = program::report(&script);
-        assert!(text.ends_with("\nanswer 0 ticks 0\n"), "{event:?}");
-        assert_eq!(text.lines().count(), 4_096 / event.len() + 2);
+    for event in [[3, 0], [3, 1], [3, 7], [2, 0]] {
+        for events in (0..10).chain([2_047, 2_048]) {
+            let script = event.repeat(events);
+            let text = program::report(&script);
+            assert!(text.ends_with("\nanswer 0 ticks 0\n"), "{event:?} {events}");
+            assert_eq!(text.lines().count(), events + 2);
+            let odd = [&[4][..], &script].concat();
+            let fits = odd.len() <= 4_096;
+            assert_eq!(program::report(&odd).lines().count(), if fits { events + 2 } else { 1 });
+        }
     }
-    let protect = [1, 2, 6, 3, 1, 2, 1, 2, 4, 3, 4, 1, 2, 6, 3];
-    let script = [&protect[..], &[1, 2, 0x60, 3].repeat(1_020)].concat();
-    assert!(program::report(&script).ends_with("\n4094 V9 0 0\nanswer 0 ticks 1\n"));
+    let protect = [1, 2, 6, 3, 0, 1, 2, 1, 2, 4, 3, 0, 4, 1, 2, 6, 3, 0];
+    let script = [&protect[..], &[1, 2, 0x60, 3, 0].repeat(815)].concat();
+    assert_eq!(script.len(), 4_093);
+    assert!(program::report(&script).ends_with("\n4091 V9 0 0\nanswer 0 ticks 1\n"));
 }
 
 /// Runs a script that must be refused and checks that nothing has changed.
@@ -393,11 +402,12 @@ fn run_refusals() {
     assert_eq!(refused(&mut bench, &[5, 0], 9), (4, 0));
     assert_eq!(refused(&mut bench, &[4, 5, 0, 0, 9], 9), (6, 1));
     assert_eq!(refused(&mut bench, &[6, 2], 9), (6, 0));
-    assert_eq!(refused(&mut bench, &[8, 0], 9), (6, 0));
-    assert_eq!(refused(&mut bench, &[8, 8], 9), (6, 0));
-    assert_eq!(refused(&mut bench, &[1, 2, 6, 3], 4), (7, 0));
-    assert_eq!(refused(&mut bench, &[8, 1], 2), (7, 0));
-    assert_eq!(refused(&mut bench, &[3, 9], 0), (5, 1));
+    assert_eq!(refused(&mut bench, &[3, 8], 9), (6, 0));
+    assert_eq!(refused(&mut bench, &[8, 0], 9), (5, 0));
+    assert_eq!(refused(&mut bench, &[1, 2, 6, 3], 9), (4, 3));
+    assert_eq!(refused(&mut bench, &[1, 2, 6, 3, 0], 4), (7, 0));
+    assert_eq!(refused(&mut bench, &[3, 1], 2), (7, 0));
+    assert_eq!(refused(&mut bench, &[3, 0, 9], 0), (5, 2));
     assert_eq!(refused(&mut bench, &[9; 65_537], 0), (3, 0));
     bench.chip.level = 8;
     assert_eq!(refused(&mut bench, &[9; 65_537], 0), (2, 0));
@@ -420,10 +430,10 @@ fn memory_lengths() {
 #[test]
 fn event_refusals() {
     let cases = [
-        (0, 0, 5), (9, 0, 5), (u64::MAX, u64::MAX, 5), (257, 0, 5),
+        (0, 0, 5), (8, 1, 5), (9, 0, 5), (u64::MAX, u64::MAX, 5), (257, 0, 5), (259, 0, 5),
         (2, 255, 0), (2, 256, 6), (5, 0, 6), (5, 1, 0), (5, 65_535, 0), (5, 65_536, 6),
-        (6, 0, 0), (6, 1, 0), (6, 2, 6), (8, 0, 6), (8, 1, 0), (8, 7, 0), (8, 8, 6),
-        (1, u64::MAX, 0), (3, u64::MAX, 0), (4, u64::MAX, 0), (7, u64::MAX, 0),
+        (6, 0, 0), (6, 1, 0), (6, 2, 6), (3, 0, 0), (3, 7, 0), (3, 8, 6), (3, 256, 6),
+        (3, u64::MAX, 6), (1, u64::MAX, 0), (4, u64::MAX, 0), (7, u64::MAX, 0),
     ];
     for (kind, body, refusal) in cases {
         let mut bench = Bench::new(1, 0);
@@ -766,25 +776,25 @@ fn room_is_2_an_exchange_and_3_a_deselect() {
     assert_eq!(run_in_room(&mut bench, &[], 0), []);
     assert_eq!(run_in_room(&mut bench, &[4, 5, 0, 1, 6, 1, 1, 7], 0), []);
     assert_eq!(run_in_room(&mut bench, &[2, 0x60], 2), [0x80]);
-    assert_eq!(run_in_room(&mut bench, &[3], 3), [0x82, 0]);
-    assert_eq!(run_in_room(&mut bench, &[8, 1], 3), [0x82, 0]);
-    assert_eq!(run_in_room(&mut bench, &[3, 8, 7, 3], 9), [0x82, 0, 0x82, 0, 0x82, 0]);
+    assert_eq!(run_in_room(&mut bench, &[3, 0], 3), [0x82, 0]);
+    assert_eq!(run_in_room(&mut bench, &[3, 1], 3), [0x82, 0]);
+    assert_eq!(run_in_room(&mut bench, &[3, 0, 3, 7, 3, 0], 9), [0x82, 0, 0x82, 0, 0x82, 0]);
     assert_eq!(run_in_room(&mut bench, &SAMPLE, 12), [0x80, 0x82, 1, 0x80, 0x81, 2, 0x82, 0]);
-    assert_eq!(run_in_room(&mut bench, &[1, 2, 0x00, 8, 2], 5), [0x80, 0x82, 3]);
-    assert_eq!(run_in_room(&mut bench, &[1, 2, 0xB9, 2, 0, 3], 7), [0x80, 0x80, 0x82, 4]);
-    assert_eq!(run_in_room(&mut bench, &[1, 2, 0x60, 8, 7], 5), [0x80, 0x82, 4]);
-    assert_eq!(run_in_room(&mut bench, &[1, 2, 0x99, 3], 5), [0x80, 0x82, 11]);
-    assert_eq!(run_in_room(&mut bench, &[1, 2, 0x60, 3], 5), [0x80, 0x82, 2]);
+    assert_eq!(run_in_room(&mut bench, &[1, 2, 0x00, 3, 2], 5), [0x80, 0x82, 3]);
+    assert_eq!(run_in_room(&mut bench, &[1, 2, 0xB9, 2, 0, 3, 0], 7), [0x80, 0x80, 0x82, 4]);
+    assert_eq!(run_in_room(&mut bench, &[1, 2, 0x60, 3, 7], 5), [0x80, 0x82, 4]);
+    assert_eq!(run_in_room(&mut bench, &[1, 2, 0x99, 3, 0], 5), [0x80, 0x82, 11]);
+    assert_eq!(run_in_room(&mut bench, &[1, 2, 0x60, 3, 0], 5), [0x80, 0x82, 2]);
 }
 
 #[test]
 fn room_of_protected_frames() {
     let mut bench = protected_bench(8, 3, false);
-    assert_eq!(run_in_room(&mut bench, &[1, 2, 0x60, 3], 5), [0x80, 0x83, 4, 7]);
-    assert_eq!(run_in_room(&mut bench, &[1, 2, 0x60, 8, 1], 5), [0x80, 0x82, 4]);
-    let erase = [1, 2, 0xD8, 2, 6, 2, 0, 2, 0, 3];
+    assert_eq!(run_in_room(&mut bench, &[1, 2, 0x60, 3, 0], 5), [0x80, 0x83, 4, 7]);
+    assert_eq!(run_in_room(&mut bench, &[1, 2, 0x60, 3, 1], 5), [0x80, 0x82, 4]);
+    let erase = [1, 2, 0xD8, 2, 6, 2, 0, 2, 0, 3, 0];
     assert_eq!(run_in_room(&mut bench, &erase, 11), [0x80, 0x80, 0x80, 0x80, 0x83, 4, 7]);
-    let three = [1, 2, 0xC7, 3, 3, 1, 2, 0x60, 3];
+    let three = [1, 2, 0xC7, 3, 0, 3, 0, 1, 2, 0x60, 3, 0];
     let records = [0x80, 0x83, 4, 7, 0x82, 0, 0x80, 0x83, 4, 7];
     assert_eq!(run_in_room(&mut bench, &three, 13), records);
 }
@@ -793,10 +803,10 @@ fn room_of_protected_frames() {
 fn written_is_2_for_verdict_4_and_3_for_verdict_9() {
     let mut bench = protected_bench(32, 1, false);
     bench.send(&[0xC7]);
-    assert_eq!(run_in_room(&mut bench.clone(), &[8, 1], 3), [0x82, 4]);
-    assert_eq!(run_in_room(&mut bench.clone(), &[3], 3), [0x83, 31, 31]);
+    assert_eq!(run_in_room(&mut bench.clone(), &[3, 1], 3), [0x82, 4]);
+    assert_eq!(run_in_room(&mut bench.clone(), &[3, 0], 3), [0x83, 31, 31]);
     let mut output = [0xEE; 8];
-    let answer = run(&mut bench.chip, &mut bench.memory, &bench.area, &[3, 8, 5], &mut output);
+    let answer = run(&mut bench.chip, &mut bench.memory, &bench.area, &[3, 0, 3, 5], &mut output);
     assert_eq!(answer, RunAnswer { refusal: 0, offset: 0, written: 5, ticks: 0 });
     assert_eq!(output, [0x83, 31, 31, 0x82, 0, 0xEE, 0xEE, 0xEE]);
 }
@@ -1086,8 +1096,8 @@ fn fresh_keeps_its_bits() {
 }
 
 /// A small sector erase and its suspend, which random frames in a row seldom are.
-const ERASE_AND_SUSPEND: [u8; 18] =
-    [1, 2, 0x06, 3, 1, 2, 0x20, 2, 0, 2, 0x30, 2, 0, 3, 1, 2, 0xB0, 3];
+const ERASE_AND_SUSPEND: [u8; 21] =
+    [1, 2, 0x06, 3, 0, 1, 2, 0x20, 2, 0, 2, 0x30, 2, 0, 3, 0, 1, 2, 0xB0, 3, 0];
 
 /// A random script of mostly sensible frames.
 fn random_script(dice: &mut Dice) -> Vec<u8> {
@@ -1109,9 +1119,9 @@ fn random_script(dice: &mut Dice) -> Vec<u8> {
             script.push(4);
         }
         match dice.below(12) {
-            0 => script.extend([8, 1 + dice.below(7) as u8]),
+            0 => script.extend([3, 1 + dice.below(7) as u8]),
             1 => script.push(7),
-            _ => script.push(3),
+            _ => script.extend([3, 0]),
         }
         match dice.below(6) {
             0 => script.push(4),
@@ -1138,7 +1148,7 @@ fn events_of(script: &[u8]) -> Vec<(u64, u64)> {
 
 /// The room of a good script: 2 an exchange, 3 a deselect, clean or loose.
 fn room_of(script: &[u8]) -> usize {
-    events_of(script).iter().map(|(kind, _)| [0, 0, 2, 3, 0, 0, 0, 0, 3][*kind as usize]).sum()
+    events_of(script).iter().map(|(kind, _)| [0, 0, 2, 3, 0, 0, 0, 0][*kind as usize]).sum()
 }
 
 /// The output bytes of a record.
@@ -1239,7 +1249,7 @@ fn legal_states_stay_legal() {
             match dice.below(12) {
                 0 => bench.apply(1, 0),
                 1 => bench.apply(3, 0),
-                2 => bench.apply(8, 7),
+                2 => bench.apply(3, 1 + dice.below(7)),
                 3 => bench.apply(4, 0),
                 4 => bench.apply(5, 1 + dice.below(600)),
                 5 => bench.apply(6, dice.below(2)),
@@ -1492,7 +1502,7 @@ fn sfdp_state_at_the_last_place_reads_on() {
 fn refusal_13_and_its_order() {
     let mut bench = Bench::with_area(1, &[0; 256]);
     assert_eq!(bench.apply(1, 0), (Record::None, 0));
-    let answer = run(&mut bench.chip, &mut bench.memory, &bench.area, &[3], &mut [0; 3]);
+    let answer = run(&mut bench.chip, &mut bench.memory, &bench.area, &[3, 0], &mut [0; 3]);
     assert_eq!(answer, RunAnswer { refusal: 0, offset: 0, written: 2, ticks: 0 });
     bench.area.push(0);
     let before = bench.clone();
@@ -1501,11 +1511,11 @@ fn refusal_13_and_its_order() {
         assert_eq!((answer.record, answer.ticks), (Record::None, 0));
         answer.refusal
     };
-    for (kind, body) in [(1, 0), (2, 0x5A), (2, 256), (9, 0)] {
+    for (kind, body) in [(1, 0), (2, 0x5A), (2, 256), (3, 8), (9, 0)] {
         assert_eq!(alone(&mut bench, kind, body), 13);
         assert!(bench.chip == before.chip && bench.memory == before.memory);
     }
-    let scripts: [&[u8]; 5] = [&[], &[1, 2, 0x5A, 3], &[1, 9], &[1, 2], &[9; 65_537]];
+    let scripts: [&[u8]; 5] = [&[], &[1, 2, 0x5A, 3, 0], &[1, 9], &[1, 2], &[9; 65_537]];
     for script in scripts {
         assert_eq!(refused(&mut bench, script, 0), (13, 0));
     }
@@ -1525,7 +1535,7 @@ fn refusal_13_and_its_order() {
 fn sfdp_in_a_run_and_in_the_program() {
     let mut script = vec![1];
     script.extend(addressed(0x5A, 0, &[0; 17]).iter().flat_map(|byte| [2, *byte]));
-    script.push(3);
+    script.extend([3, 0]);
     let mut bench = Bench::with_area(1, &CONTENT);
     let mut output = [0xEE; 60];
     let answer = run(&mut bench.chip, &mut bench.memory, &bench.area, &script, &mut output);
@@ -1536,7 +1546,7 @@ fn sfdp_in_a_run_and_in_the_program() {
     assert_eq!(output[..39], expected);
     assert!(output[39..].iter().all(|byte| *byte == 0xEE));
     let text = "part 65536\n1 --\n3 --\n5 --\n7 --\n9 --\n11 FF\n13 V0\nanswer 0 ticks 0\n";
-    assert_eq!(program::report(&[1, 2, 0x5A, 2, 0, 2, 0, 2, 0, 2, 0, 2, 0, 3]), text);
+    assert_eq!(program::report(&[1, 2, 0x5A, 2, 0, 2, 0, 2, 0, 2, 0, 2, 0, 3, 0]), text);
 }
 
 /// An area of that length, FFh but for the signature, the last header's number and the headers.

@@ -627,7 +627,7 @@ fn bad_mark_is_refused_alone_and_changes_nothing() {
 #[test]
 fn bad_mark_is_refused_in_a_run_and_changes_nothing() {
     let scripts: [&[u8]; 7] =
-        [&[], &[4], &[5, 0, 9], &[7], &[1, 2, 0xB0, 3], &[9], &[4; 65_537]];
+        [&[], &[4], &[5, 0, 9], &[7], &[1, 2, 0xB0, 3, 0], &[9], &[4; 65_537]];
     for chip in bad_marks() {
         let mut bench = used_bench(1, 0);
         bench.chip = chip;
@@ -645,9 +645,9 @@ fn bad_mark_is_refused_in_a_run_and_changes_nothing() {
 #[test]
 fn wait_in_a_run() {
     for (done, after, ticks) in [(3, 0x42, 4), (15, 0x00, 16)] {
-        let mut script = vec![1, 2, 0x06, 3, 1, 2, 0x02, 2, 0, 2, 0, 2, 0, 2, 0x55, 3];
-        script.extend([5, 0, done, 1, 2, 0xB0, 3, 1, 2, 0xB0, 3, 1, 2, 0x30, 3]);
-        script.extend([1, 2, 0x05, 2, 0, 4, 2, 0, 3, 4, 5, 0xFF, 0xFF]);
+        let mut script = vec![1, 2, 0x06, 3, 0, 1, 2, 0x02, 2, 0, 2, 0, 2, 0, 2, 0x55, 3, 0];
+        script.extend([5, 0, done, 1, 2, 0xB0, 3, 0, 1, 2, 0xB0, 3, 0, 1, 2, 0x30, 3, 0]);
+        script.extend([1, 2, 0x05, 2, 0, 4, 2, 0, 3, 0, 4, 5, 0xFF, 0xFF]);
         let mut expected = vec![0x80, 0x82, 1, 0x80, 0x80, 0x80, 0x80, 0x80, 0x82, 2];
         expected.extend([0x80, 0x82, 1, 0x80, 0x82, 11, 0x80, 0x82, 6]);
         expected.extend([0x80, 0x81, 0x03, 0x81, after, 0x82, 0]);
@@ -659,7 +659,7 @@ fn wait_in_a_run() {
         assert_eq!(output[..written], expected);
         assert_eq!(bench.chip.status_byte(), after);
         let text = program::report(&script);
-        let end = format!("\n34 03\n37 {after:02X}\n39 V0\nanswer 0 ticks {ticks}\n");
+        let end = format!("\n39 03\n42 {after:02X}\n44 V0\nanswer 0 ticks {ticks}\n");
         assert!(text.ends_with(&end), "{text}");
     }
 }

@@ -17,6 +17,9 @@ pub const LONGEST_DATA: usize = 4_096;
 /// piece, whose frames would be turned away while it runs.
 const TICKS_A_PIECE: u16 = PROGRAM_STEPS as u16;
 
+/// The body of a deselect on a byte boundary; with any other the frame would come to nothing.
+const NO_BITS_LOOSE: u8 = 0;
+
 /// Writes the script that programs the data at the address, or refuses and writes nothing. Output
 /// beyond the script keeps its content.
 #[allow(dead_code)]
@@ -84,7 +87,7 @@ fn add_piece(script: &mut Vec<u8>, place: usize, piece: &[u8]) {
 fn add_frame(script: &mut Vec<u8>, bytes: &[u8]) {
     script.push(kind::SELECT);
     script.extend(bytes.iter().flat_map(|byte| [kind::EXCHANGE, *byte]));
-    script.push(kind::DESELECT);
+    script.extend([kind::DESELECT, NO_BITS_LOOSE]);
 }
 
 /// Adds one event of many ticks, the high byte of their number first.

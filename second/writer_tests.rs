@@ -3,7 +3,8 @@
 use super::model::{run, Chip, RunAnswer};
 use super::sfdp::CONTENT;
 use super::writer::{script_of, write_program, Written, LONGEST_DATA};
-use super::{mixed, protected_walk, refused, room_of, used_bench, Bench, Dice, REAL, SECTORS};
+use super::{events_of, mixed, protected_walk, refused, room_of, used_bench};
+use super::{Bench, Dice, REAL, SECTORS};
 
 /// The lengths of data that the tests go through, on each side of a page and at both ends.
 const DATA_LENGTHS: [usize; 6] = [0, 1, 255, 256, 257, 4_096];
@@ -23,10 +24,13 @@ fn pieces_of(address: usize, length: usize) -> usize {
     }
 }
 
-/// The length of the script for a range: two frames and the ticks are 17 bytes without data, and
-/// each data byte is an exchange.
+/// Bytes of a piece's script but for its data: a write enable frame (select, opcode, deselect), a
+/// 02h frame (select, opcode and three address bytes, deselect) and the ticks.
+const PIECE: usize = (1 + 2 + 2) + (1 + 4 * 2 + 2) + 3;
+
+/// The length of the script for a range: each data byte is an exchange.
 fn script_length(address: usize, length: usize) -> usize {
-    17 * pieces_of(address, length) + 2 * length
+    PIECE * pieces_of(address, length) + 2 * length
 }
 
 /// The script for data at an address, written by a walk over the cells that looks for page edges.
@@ -36,12 +40,12 @@ fn walked_script(address: usize, data: &[u8]) -> Vec<u8> {
         let place = address + j;
         let [_, high, middle, low] = (place as u32).to_be_bytes();
         if j == 0 || place % 256 == 0 {
-            script.extend([1, 2, 0x06, 3]);
+            script.extend([1, 2, 0x06, 3, 0]);
             script.extend([1, 2, 0x02, 2, high, 2, middle, 2, low]);
         }
         script.extend([2, *byte]);
         if j + 1 == data.len() || place % 256 == 255 {
-            script.extend([3, 5, 0, 16]);
+            script.extend([3, 0, 5, 0, 16]);
         }
     }
     script
@@ -142,7 +146,7 @@ fn writer_22_past_the_top() {
 
 #[test]
 fn writer_23_in_every_room() {
-    for (address, data_length, needed) in [(0, 0, 0), (9, 1, 19), (255, 2, 38), (0, 256, 529)] {
+    for (address, data_length, needed) in [(0, 0, 0), (9, 1, 21), (255, 2, 42), (0, 256, 531)] {
         for room in 0..needed {
             assert_eq!(answer_in(Chip::SECTOR, address, data_length, room), 23);
         }
@@ -175,7 +179,8 @@ fn writer_refusals_in_their_order() {
         (65_536, usize::MAX, 4_096, 0, 21),
         (65_536, 61_441, 4_096, 0, 22),
         (65_536, 61_440, 4_096, 0, 23),
-        (65_536, 61_440, 4_096, 8_464, 0),
+        (65_536, 61_440, 4_096, 8_495, 23),
+        (65_536, 61_440, 4_096, 8_496, 0),
     ];
     for (length, address, data_length, room, first) in one_fault_less_each {
         assert_eq!(answer_in(length, address, data_length, room), first);
@@ -245,28 +250,41 @@ fn no_bytes_no_script() {
 #[test]
 fn script_over_one_page_edge() {
     let script = [
-        1, 2, 0x06, 3, // write enable
-        1, 2, 0x02, 2, 0x01, 2, 0x23, 2, 0xFE, 2, 0xA1, 2, 0xB2, 3, // two bytes at 0123FEh
+        1, 2, 0x06, 3, 0, // write enable
+        1, 2, 0x02, 2, 0x01, 2, 0x23, 2, 0xFE, 2, 0xA1, 2, 0xB2, 3, 0, // two bytes at 0123FEh
         5, 0, 16, // the ticks of a program
-        1, 2, 0x06, 3, // write enable
-        1, 2, 0x02, 2, 0x01, 2, 0x24, 2, 0x00, 2, 0xC3, 3, // one byte at 012400h
+        1, 2, 0x06, 3, 0, // write enable
+        1, 2, 0x02, 2, 0x01, 2, 0x24, 2, 0x00, 2, 0xC3, 3, 0, // one byte at 012400h
         5, 0, 16, // the ticks of a program
     ];
-    let mut output = [0xEE; 45];
+    let mut output = [0xEE; 49];
     let answer = write_program(REAL, 0x01_23FE, &[0xA1, 0xB2, 0xC3], &mut output);
-    assert_eq!(answer, Written { refusal: 0, written: 40 });
-    assert_eq!(output[..40], script);
-    assert_eq!(output[40..], [0xEE; 5]);
+    assert_eq!(answer, Written { refusal: 0, written: 44 });
+    assert_eq!(output[..44], script);
+    assert_eq!(output[44..], [0xEE; 5]);
     assert_eq!(script_of(0x01_23FE, &[0xA1, 0xB2, 0xC3]), script);
-    let mut short = [0xEE; 39];
+    let mut short = [0xEE; 43];
     assert_eq!(write_program(REAL, 0x01_23FE, &[0xA1, 0xB2, 0xC3], &mut short), refused_by(23));
-    assert_eq!(short, [0xEE; 39]);
+    assert_eq!(short, [0xEE; 43]);
 }
 
 #[test]
 fn script_of_the_last_cell() {
-    let script = [1, 2, 0x06, 3, 1, 2, 0x02, 2, 0x1F, 2, 0xFF, 2, 0xFF, 2, 0x00, 3, 5, 0, 16];
+    let enable = [1, 2, 0x06, 3, 0];
+    let program = [1, 2, 0x02, 2, 0x1F, 2, 0xFF, 2, 0xFF, 2, 0x00, 3, 0];
+    let script = [&enable[..], &program, &[5, 0, 16]].concat();
     assert_eq!(good_script(REAL, 0x1F_FFFF, &[0]), script);
+}
+
+#[test]
+fn every_deselect_written_is_clean() {
+    for (address, length) in [(0, 0), (0, 1), (255, 2), (3, 4_096), (0xF000, 4_096)] {
+        let events = events_of(&good_script(Chip::SECTOR, address, &mixed(length)));
+        let deselects: Vec<_> = events.iter().filter(|(kind, _)| *kind == 3).collect();
+        assert_eq!(deselects.len(), 2 * pieces_of(address, length));
+        assert!(deselects.iter().all(|(_, loose_bits)| *loose_bits == 0));
+        assert!(events.iter().all(|(kind, _)| [1, 2, 3, 5].contains(kind)));
+    }
 }
 
 #[test]
@@ -278,15 +296,42 @@ fn script_of_any_number_has_its_low_three_bytes() {
     assert_eq!(script_of(usize::MAX, &[1, 2]), over_the_end);
 }
 
+/// The longest script, from what a piece is made of. 4,096 bytes are 16 pages full; set off a page
+/// edge they touch 17 pages, and so there are 17 pieces of 19 bytes each beside the data.
+const LONGEST_SCRIPT: usize = 17 * PIECE + 4_096 * 2;
+
 #[test]
-fn longest_script() {
-    let length_at = |offset| good_script(Chip::SECTOR, offset, &mixed(4_096)).len();
-    assert_eq!(length_at(0), 8_464);
-    for offset in 1..256 {
-        assert_eq!(length_at(offset), 8_481);
+fn longest_script_in_numbers() {
+    assert_eq!(PIECE, 19);
+    assert_eq!(LONGEST_SCRIPT, 323 + 8_192);
+    assert_eq!(LONGEST_SCRIPT, 8_515);
+    assert!(LONGEST_SCRIPT < 65_536);
+}
+
+#[test]
+fn longest_script_is_met_off_a_page_edge_and_never_passed() {
+    let length_at = |address| good_script(REAL, address, &mixed(4_096)).len();
+    let top = REAL - 4_096;
+    for page in [0, 0x1_0000, top] {
+        assert_eq!(length_at(page), 16 * PIECE + 8_192);
     }
-    assert_eq!(length_at(256), 8_464);
-    assert!(8_481 < 65_536);
+    for offset in 1..256 {
+        assert_eq!(length_at(offset), LONGEST_SCRIPT);
+        assert_eq!(length_at(top - offset), LONGEST_SCRIPT);
+    }
+    for offset in 0..256 {
+        for length in 0..4_096 {
+            assert!(script_length(offset, length) < LONGEST_SCRIPT, "{offset} {length}");
+        }
+    }
+}
+
+#[test]
+fn longest_script_needs_its_last_byte_of_room() {
+    for address in [1, 128, 255, 0xEFFF] {
+        assert_eq!(answer_in(Chip::SECTOR, address, 4_096, LONGEST_SCRIPT - 1), 23);
+        assert_eq!(answer_in(Chip::SECTOR, address, 4_096, LONGEST_SCRIPT), 0);
+    }
 }
 
 #[test]
@@ -296,7 +341,7 @@ fn script_of_every_length() {
             let data = mixed(length);
             let script = good_script(Chip::SECTOR, offset, &data);
             assert!(script == walked_script(offset, &data), "{offset} {length}");
-            assert!(script.len() <= 8_481);
+            assert!(script.len() <= LONGEST_SCRIPT);
         }
     }
 }

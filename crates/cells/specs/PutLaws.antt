@@ -58,9 +58,6 @@ room-then {t} {u} {p} {q} {xs} ys a fit = omega (arith, a .end, put-length a, le
 pub room-behind : {t u : List ℕ} {p q : ℕ} {xs : List ℕ} (k n : ℕ) → Put t p xs q u → length xs ≡ k → p + k + n ≤ length t → q + n ≤ length u
 room-behind k n a long fit = omega (arith, a .end, put-length a, long, fit)
 
-pub place-behind : {t u : List ℕ} {p q : ℕ} {xs : List ℕ} (k : ℕ) → Put t p xs q u → length xs ≡ k → p + k < length t → q < length u
-place-behind k a long fit = omega (arith, a .end, put-length a, long, fit)
-
 -- what is put stands between what was before it and what is behind it
 pub put-between : {t u : List ℕ} {p q : ℕ} {xs : List ℕ} → Put t p xs q u → p + length xs ≤ length t → (take q u ≡ take p t ++ xs) × (drop q u ≡ drop q t)
 put-between {t} {u} {p} {q} {xs} a fit =

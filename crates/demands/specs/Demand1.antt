@@ -1,7 +1,7 @@
 -- Demand 1, of any model: whatever comes in gets an answer, and what is wrong is turned away by its number in the table of refusals, with everything as it was
 -- (RULES, Refusals). That every event and every script gets an answer, and only one, is in the types: a model and a runner are functions.
 use Prim.Native.Nat.{ℕ, _+_, _<_, _≤_}
-use mathlib.Core.Bool.{true, false, cond, _||_}
+use mathlib.Core.Bool.{true, false, cond}
 use mathlib.Core.List.{List, [], _∷_, _++_}
 use mathlib.Core.Path.{_≡_}
 use mathlib.Core.Logic.{_↔_}
@@ -84,10 +84,10 @@ pub record FirstAt (s : List ℕ) (at : ℕ) : Type 0 where
   pub in-order : events s ≡ before ++ (eventAt s at ∷ behind)
   pub before-sound : AllSound s before
 
--- the room that the records of some events are given: two bytes for each exchange, three for each deselect, clean or loose, whatever its verdict turns out to be
+-- the room that the records of some events are given: two bytes for each exchange, three for each deselect, whatever its body is and its verdict turns out to be
 unfoldable pub roomNeeded : List Event → ℕ
 roomNeeded [] = 0
-roomNeeded (e ∷ es) = cond (eqb (e .kind) 0x02) 2 (cond (eqb (e .kind) 0x03 || eqb (e .kind) 0x08) 3 0) + roomNeeded es
+roomNeeded (e ∷ es) = cond (eqb (e .kind) 0x02) 2 (cond (eqb (e .kind) 0x03) 3 0) + roomNeeded es
 
 -- what is looked at before the script's events is in order
 pub record Heard (c : Chip) (n extent : ℕ) (s : List ℕ) : Type 0 where

@@ -45,11 +45,6 @@ abbrev pub Rows : List (Type 0) → Type 0
 Rows [] = Unit {0}
 Rows (row ∷ rows) = row × Rows rows
 
--- a deselect: clean on a byte boundary, or loose with 1 to 7 bits of a byte gone in
-pub data Closing : ℕ → ℕ → Bool → Type 0 where
-  on-a-byte : (body : ℕ) → Closing 0x03 body false
-  inside-a-byte : (bits : ℕ) → 1 ≤ bits → bits ≤ 7 → Closing 0x08 bits true
-
 -- ---- verdicts (RULES, Verdicts)
 
 -- what stops an opcode at its byte: 3 unknown, 5 asleep and not ABh, 6 not while running, 7 not while suspended, 0 nothing
@@ -77,12 +72,12 @@ changesCells opcode = inOneSector opcode || ofTheChip opcode
 abbrev pub beginsJob : ℕ → Bool
 beginsJob opcode = eqb opcode 0x01 || changesCells opcode
 
--- the list from its top down, for a frame with judgement none, on a memory of n cells; what none of it takes is 1, done at once
-abbrev pub rulesList : ℕ → Core → Frame → Bool → List Test
-rulesList n k f loose =
+-- the list from its top down, for a frame with judgement none, on a memory of n cells, if so many bits of a byte had gone in; what none of it takes is 1, done at once
+abbrev pub rulesList : ℕ → Core → Frame → ℕ → List Test
+rulesList n k f bits =
     stops k (f .opcode)
     ++ (test 0 (among (0x05 ∷ 0x03 ∷ 0x0B ∷ 0x9F ∷ 0x5A ∷ []) (f .opcode))
-    ∷ test 4 (loose || not (fitsRule (rowOf (f .opcode) .rule) (f .count)))
+    ∷ test 4 (leb 1 bits || not (fitsRule (rowOf (f .opcode) .rule) (f .count)))
     ∷ test 11 (eqb (f .opcode) 0xB0 && not (running k && hasCells (k .job .kind)))
     ∷ test 11 (eqb (f .opcode) 0xB0 && k .waiting)
     ∷ test 11 (eqb (f .opcode) 0x30 && not (k .suspended))
@@ -96,8 +91,8 @@ rulesList n k f loose =
     ∷ [])
 
 -- the verdict of a selected frame: 0 without a whole byte; its judgement, if it has one; otherwise the first of the list that applies
-abbrev pub verdictOf : ℕ → Core → Frame → Bool → ℕ
-verdictOf n k f loose = cond (eqb (f .count) 0) 0 (cond (not (eqb (f .judgement) 0)) (f .judgement) (firstOf (rulesList n k f loose) 1))
+abbrev pub verdictOf : ℕ → Core → Frame → ℕ → ℕ
+verdictOf n k f bits = cond (eqb (f .count) 0) 0 (cond (not (eqb (f .judgement) 0)) (f .judgement) (firstOf (rulesList n k f bits) 1))
 
 -- the protected sectors by their two ends: of S sectors the first so many with TB 1, the last so many with TB 0 (RULES, Protection)
 abbrev pub firstProtected : ℕ → Core → ℕ
@@ -112,18 +107,18 @@ saysVerdict n k v = cond (eqb v 9) (0x83 ∷ firstProtected (sectorsIn n) k ∷ 
 
 -- ---- what a verdict does (RULES, Verdicts; Jobs)
 
--- a selected frame of a legal chip, at its deselect
-pub record Ending (c : Chip) (m area : List ℕ) (kind body : ℕ) (loose : Bool) : Type 0 where
+-- a selected frame of a legal chip, at its deselect, with 0 to 7 bits of a byte gone in
+pub record Ending (c : Chip) (m area : List ℕ) (bits : ℕ) : Type 0 where
   pub fit : Fit c m area
   pub selected : c .frame .selected ≡ true
-  pub closing : Closing kind body loose
+  pub few : bits ≤ 7
 
 -- the core and the job's load after a deselect that gives this verdict to a frame of this opcode
 abbrev pub After : Model → ℕ → ℕ → (Chip → List ℕ → Core) → (Chip → List ℕ) → Type 0
 After M verdict opcode core held =
-    (c : Chip) (m area : List ℕ) (kind body : ℕ) (loose : Bool) → Ending c m area kind body loose → c .frame .opcode ≡ opcode
-    → M c m area kind body .says ≡ 0x82 ∷ verdict ∷ []
-    → (M c m area kind body .chip .core ≡ core c m) × (M c m area kind body .chip .held ≡ held c)
+    (c : Chip) (m area : List ℕ) (bits : ℕ) → Ending c m area bits → c .frame .opcode ≡ opcode
+    → M c m area 0x03 bits .says ≡ 0x82 ∷ verdict ∷ []
+    → (M c m area 0x03 bits .chip .core ≡ core c m) × (M c m area 0x03 bits .chip .held ≡ held c)
 
 -- verdict 1 of a command: what it changes of the core, and then it disarms; the job's load stays
 abbrev pub AtOnce : Model → ℕ → (Core → Core) → Type 0
@@ -170,17 +165,17 @@ JobsBegun M =
 -- where neither is said no job, no bit and no load changes; a frame with a whole byte disarms
 abbrev pub OtherVerdicts : Model → Type 0
 OtherVerdicts M =
-    (c : Chip) (m area : List ℕ) (kind body : ℕ) (loose : Bool) → Ending c m area kind body loose
-    → (M c m area kind body .says ≡ 0x82 ∷ 1 ∷ [] → ⊥) → (M c m area kind body .says ≡ 0x82 ∷ 2 ∷ [] → ⊥)
-    → (M c m area kind body .chip .core ≡ cond (eqb (c .frame .count) 0) (c .core) (withArmed false (c .core))) × (M c m area kind body .chip .held ≡ c .held)
+    (c : Chip) (m area : List ℕ) (bits : ℕ) → Ending c m area bits
+    → (M c m area 0x03 bits .says ≡ 0x82 ∷ 1 ∷ [] → ⊥) → (M c m area 0x03 bits .says ≡ 0x82 ∷ 2 ∷ [] → ⊥)
+    → (M c m area 0x03 bits .chip .core ≡ cond (eqb (c .frame .count) 0) (c .core) (withArmed false (c .core))) × (M c m area 0x03 bits .chip .held ≡ c .held)
 
 -- every deselect of a frame: what is said of its verdict, the empty frame that it leaves, and no cell changed
-pub record Closes (M : Model) (c : Chip) (m area : List ℕ) (kind body : ℕ) (loose : Bool) : Type 0 where
-  pub says : M c m area kind body .says ≡ saysVerdict (length m) (c .core) (verdictOf (length m) (c .core) (c .frame) loose)
-  pub frame-empty : M c m area kind body .chip .frame ≡ emptyFrame
-  pub load-blank : M c m area kind body .chip .load ≡ blankLoad
-  pub cells-same : M c m area kind body .memory ≡ m
-  pub works-none : M c m area kind body .ticks ≡ 0
+pub record Closes (M : Model) (c : Chip) (m area : List ℕ) (bits : ℕ) : Type 0 where
+  pub says : M c m area 0x03 bits .says ≡ saysVerdict (length m) (c .core) (verdictOf (length m) (c .core) (c .frame) bits)
+  pub frame-empty : M c m area 0x03 bits .chip .frame ≡ emptyFrame
+  pub load-blank : M c m area 0x03 bits .chip .load ≡ blankLoad
+  pub cells-same : M c m area 0x03 bits .memory ≡ m
+  pub works-none : M c m area 0x03 bits .ticks ≡ 0
 
 -- ---- a frame's bytes (RULES, Commands)
 
@@ -313,7 +308,7 @@ StoppedFrame M =
     → (es : List Event) → AllInside es
     → let w : World = runsBy M area es (opened M c m area (opcode ∷ [])) in
     ((b : ℕ) → b ≤ 255 → saidNext M area w b ≡ 0x80 ∷ [])
-    × ((kind body : ℕ) (loose : Bool) → Closing kind body loose → M (w .chip) (w .memory) area kind body .says ≡ 0x82 ∷ stopOf (c .core) opcode ∷ [])
+    × ((bits : ℕ) → bits ≤ 7 → M (w .chip) (w .memory) area 0x03 bits .says ≡ 0x82 ∷ stopOf (c .core) opcode ∷ [])
 
 -- ---- a page load and the job that it begins (RULES, Commands; Jobs)
 
@@ -370,8 +365,7 @@ pub record Demand2 (M : Model) : Type 0 where
   pub power-cut : (c : Chip) (m area : List ℕ) (body : ℕ) → Fit c m area → M c m area 0x07 body ≡ reply (whole (poweredUp (c .core)) emptyFrame blankLoad blankLoad) m [] 0
   -- with no frame open an exchange floats, a deselect is verdict 0, and that is all
   pub unselected-exchange : (c : Chip) (m area : List ℕ) (b : ℕ) → Fit c m area → b ≤ 255 → c .frame .selected ≡ false → M c m area 0x02 b ≡ reply c m (0x80 ∷ []) 0
-  pub unselected-deselect : (c : Chip) (m area : List ℕ) (kind body : ℕ) (loose : Bool) → Fit c m area → Closing kind body loose → c .frame .selected ≡ false
-      → M c m area kind body ≡ reply c m (0x82 ∷ 0 ∷ []) 0
+  pub unselected-deselect : (c : Chip) (m area : List ℕ) (bits : ℕ) → Fit c m area → bits ≤ 7 → c .frame .selected ≡ false → M c m area 0x03 bits ≡ reply c m (0x82 ∷ 0 ∷ []) 0
   -- the opcode byte floats and is judged; the first byte of a frame is the opcode
   pub opcode-byte : (c : Chip) (m area : List ℕ) (b : ℕ) → Fit c m area → b ≤ 255 → c .frame .selected ≡ true → c .frame .count ≡ 0
       → M c m area 0x02 b
@@ -387,7 +381,7 @@ pub record Demand2 (M : Model) : Type 0 where
   pub status-read : StatusRead M
   pub stopped-frame : StoppedFrame M
   -- a deselect: its verdict, and what that does
-  pub closes : (c : Chip) (m area : List ℕ) (kind body : ℕ) (loose : Bool) → Ending c m area kind body loose → Closes M c m area kind body loose
+  pub closes : (c : Chip) (m area : List ℕ) (bits : ℕ) → Ending c m area bits → Closes M c m area bits
   pub done-at-once : DoneAtOnce M
   pub jobs-begun : JobsBegun M
   pub other-verdicts : OtherVerdicts M

@@ -1,7 +1,7 @@
 -- Demand 3, of any model: a job from its start to its end and beyond. Cut up by suspends, resumes and reads it ends with exactly its whole image on the memory that
 -- it began with; before that exactly its first k steps are done, k being the ticks that found it running; a reset or a power cut leaves just those k (RULES, Jobs).
 use Prim.Native.Nat.{ℕ, _+_, _<_, _≤_}
-use mathlib.Core.Bool.{Bool, true, false, _&&_, _||_}
+use mathlib.Core.Bool.{true, false, _&&_, _||_}
 use mathlib.Core.List.{List, [], _∷_}
 use mathlib.Core.Path.{_≡_}
 use mathlib.Core.Logic.{_↔_, _⊎_}
@@ -131,8 +131,7 @@ resetCore k = withArmed false (withWen false (withSuspended false (withWaiting f
 pub record Demand3 (M : Model) : Type 0 where
   -- The start: kind, place and load by the command (as in Demand 2), and everything else as it was.
   pub jobs-begun : JobsBegun M
-  pub starts : (c : Chip) (m area : List ℕ) (kind body : ℕ) (loose : Bool) → Ending c m area kind body loose → M c m area kind body .says ≡ 0x82 ∷ 2 ∷ []
-      → Started c m (M c m area kind body)
+  pub starts : (c : Chip) (m area : List ℕ) (bits : ℕ) → Ending c m area bits → M c m area 0x03 bits .says ≡ 0x82 ∷ 2 ∷ [] → Started c m (M c m area 0x03 bits)
   -- The count: the working ticks that an event answers are those that found a job running.
   pub counts : (area : List ℕ) (e : Event) (w : World) → Fit (w .chip) (w .memory) area → Good e → doesBy M area e w .ticks ≡ workingTicks w e
   -- Ticks that find no job running do nothing, and all of them leave what is not the job's.

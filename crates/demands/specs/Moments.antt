@@ -1,6 +1,6 @@
 -- The demands at one moment: single clauses of them, by name, for one verdict or one k. Each follows from its demand. `refuted` shows which of them a wrong model fails.
 use Prim.Native.Nat.{ℕ}
-use mathlib.Core.Bool.{Bool, true, false}
+use mathlib.Core.Bool.{true, false}
 use mathlib.Core.List.{List, [], _∷_}
 use mathlib.Core.Path.{_≡_, refl, sym, ap, _∙_}
 use native.Mathlib.Nat.{add-zero}
@@ -25,11 +25,11 @@ use Rattle.demands.specs.Demand3.{Started, Ticking, TicksKeep, Spared, s
 -- a frame to which the list gives verdict v is told v; verdict 9 by the sectors that were in the way
 abbrev pub Demand2Gives : ℕ → Model → Type 0
 Demand2Gives v M =
-    (c : Chip) (m area : List ℕ) (kind body : ℕ) (loose : Bool) → Ending c m area kind body loose → verdictOf (length m) (c .core) (c .frame) loose ≡ v
-    → M c m area kind body .says ≡ saysVerdict (length m) (c .core) v
+    (c : Chip) (m area : List ℕ) (bits : ℕ) → Ending c m area bits → verdictOf (length m) (c .core) (c .frame) bits ≡ v
+    → M c m area 0x03 bits .says ≡ saysVerdict (length m) (c .core) v
 
 pub gives : (M : Model) (v : ℕ) → Demand2 M → Demand2Gives v M
-gives M v d c m area kind body loose e is = d .closes c m area kind body loose e .says ∙ ap (saysVerdict (length m) (c .core)) is
+gives M v d c m area bits e is = d .closes c m area bits e .says ∙ ap (saysVerdict (length m) (c .core)) is
 
 -- 82h and a number say that verdict and no other
 pub verdict-told : (n : ℕ) (k : Core) (v u : ℕ) → saysVerdict n k v ≡ 0x82 ∷ u ∷ [] → v ≡ u
@@ -47,14 +47,14 @@ Demand2Begins M = JobsBegun M
 -- verdict v leaves WEN, if v is neither 1 nor 2
 abbrev pub Demand2LeavesWen : ℕ → Model → Type 0
 Demand2LeavesWen v M =
-    (c : Chip) (m area : List ℕ) (kind body : ℕ) (loose : Bool) → Ending c m area kind body loose → verdictOf (length m) (c .core) (c .frame) loose ≡ v
-    → M c m area kind body .chip .core .wen ≡ c .core .wen
+    (c : Chip) (m area : List ℕ) (bits : ℕ) → Ending c m area bits → verdictOf (length m) (c .core) (c .frame) bits ≡ v
+    → M c m area 0x03 bits .chip .core .wen ≡ c .core .wen
 
 pub leaves-wen : (M : Model) (v : ℕ) → (v ≡ 1 → ⊥) → (v ≡ 2 → ⊥) → Demand2 M → Demand2LeavesWen v M
-leaves-wen M v not-one not-two d c m area kind body loose e is =
-    let says = gives M v d c m area kind body loose e is in
+leaves-wen M v not-one not-two d c m area bits e is =
+    let says = gives M v d c m area bits e is in
     ap (λ (k : Core). k .wen)
-    (d .other-verdicts c m area kind body loose e (λ one. not-one (verdict-told (length m) (c .core) v 1 (sym says ∙ one))) (λ two. not-two (verdict-told (length m) (c .core) v 2 (sym says ∙ two))) .0)
+    (d .other-verdicts c m area bits e (λ one. not-one (verdict-told (length m) (c .core) v 1 (sym says ∙ one))) (λ two. not-two (verdict-told (length m) (c .core) v 2 (sym says ∙ two))) .0)
     ∙ cond-either (λ (k : Core). k .wen ≡ c .core .wen) (eqb (c .frame .count) 0) (c .core) (withArmed false (c .core)) (λ _. refl) (λ _. refl)
 
 -- reads of cells, loads and their jobs, and frames that are stopped
@@ -76,7 +76,7 @@ Demand2Status M = StatusRead M
 -- the start
 abbrev pub Demand3Starts : Model → Type 0
 Demand3Starts M =
-    (c : Chip) (m area : List ℕ) (kind body : ℕ) (loose : Bool) → Ending c m area kind body loose → M c m area kind body .says ≡ 0x82 ∷ 2 ∷ [] → Started c m (M c m area kind body)
+    (c : Chip) (m area : List ℕ) (bits : ℕ) → Ending c m area bits → M c m area 0x03 bits .says ≡ 0x82 ∷ 2 ∷ [] → Started c m (M c m area 0x03 bits)
 
 -- at k: exactly k steps are laid on the memory
 abbrev pub Demand3At : ℕ → Model → Type 0

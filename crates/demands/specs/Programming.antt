@@ -39,9 +39,9 @@ exchangesFor (b ∷ bs) = 0x02 ∷ b ∷ exchangesFor bs
 -- for some bytes of one page, the first of them for address A: 06h in a frame; 02h, the address and the bytes in a frame; 16 ticks
 abbrev pub pageScript : ℕ → List ℕ → List ℕ
 pageScript A bs =
-    0x01 ∷ 0x02 ∷ 0x06 ∷ 0x03
+    0x01 ∷ 0x02 ∷ 0x06 ∷ 0x03 ∷ 0x00
     ∷ 0x01 ∷ 0x02 ∷ 0x02 ∷ 0x02 ∷ A / 65536 % 256 ∷ 0x02 ∷ A / 256 % 256 ∷ 0x02 ∷ A % 256
-    ∷ (exchangesFor bs ++ (0x03 ∷ 0x05 ∷ 0x00 ∷ 0x10 ∷ []))
+    ∷ (exchangesFor bs ++ (0x03 ∷ 0x00 ∷ 0x05 ∷ 0x00 ∷ 0x10 ∷ []))
 
 -- ---- what the run says
 
@@ -97,7 +97,7 @@ pub record Programs (W : Writer) (R : Runner) : Type 0 where
       → let k : ℕ = inFirstPage A (length bs) in
       W A bs ≡ pageScript A (take k bs) ++ W (A + k) (drop k bs)
   -- nothing of 3 to 6 refuses it: it is short, and each event of it is whole, of a known kind and in its range
-  pub short : (A : ℕ) (bs : List ℕ) → length bs ≤ 4096 → length (W A bs) ≤ 8481
+  pub short : (A : ℕ) (bs : List ℕ) → length bs ≤ 4096 → length (W A bs) ≤ 8515
   pub sound : (A : ℕ) (bs : List ℕ) → AllBytes bs → AllSound (W A bs) (events (W A bs))
   -- the room that a run of it asks
   pub room : (A : ℕ) (bs : List ℕ) → AllBytes bs → roomNeeded (events (W A bs)) ≡ 16 * pagesTouched A (length bs) + 2 * length bs

@@ -15,25 +15,23 @@ use Rattle.demands.specs.Demand2.{among}
 
 -- Which numbers are kinds, how many bytes the body of each has, and which bodies are in its range (RULES, Events).
 pub record KindsInNumbers : Type 0 where
-  -- eight kinds, 01h to 08h
-  pub known : (kind : ℕ) → knownKind kind ≡ among (1 ∷ 2 ∷ 3 ∷ 4 ∷ 5 ∷ 6 ∷ 7 ∷ 8 ∷ []) kind
+  -- seven kinds, 01h to 07h
+  pub known : (kind : ℕ) → knownKind kind ≡ among (1 ∷ 2 ∷ 3 ∷ 4 ∷ 5 ∷ 6 ∷ 7 ∷ []) kind
   -- the bytes of their bodies
   pub length-01 : bodyLength 0x01 ≡ 0
   pub length-02 : bodyLength 0x02 ≡ 1
-  pub length-03 : bodyLength 0x03 ≡ 0
+  pub length-03 : bodyLength 0x03 ≡ 1
   pub length-04 : bodyLength 0x04 ≡ 0
   pub length-05 : bodyLength 0x05 ≡ 2
   pub length-06 : bodyLength 0x06 ≡ 1
   pub length-07 : bodyLength 0x07 ≡ 0
-  pub length-08 : bodyLength 0x08 ≡ 1
-  -- an exchange has any byte, ticks 1 to 65,535, WP low or high, a loose deselect 1 to 7 bits
+  -- an exchange has any byte, a deselect 0 to 7 bits, ticks 1 to 65,535, WP low or high
   pub range-02 : (body : ℕ) → (inRange 0x02 body ≡ true) ↔ (body ≤ 255)
+  pub range-03 : (body : ℕ) → (inRange 0x03 body ≡ true) ↔ (body ≤ 7)
   pub range-05 : (body : ℕ) → (inRange 0x05 body ≡ true) ↔ ((1 ≤ body) × (body ≤ 65535))
   pub range-06 : (body : ℕ) → (inRange 0x06 body ≡ true) ↔ (body ≤ 1)
-  pub range-08 : (body : ℕ) → (inRange 0x08 body ≡ true) ↔ ((1 ≤ body) × (body ≤ 7))
   -- a kind without a body takes any number
   pub any-01 : (body : ℕ) → inRange 0x01 body ≡ true
-  pub any-03 : (body : ℕ) → inRange 0x03 body ≡ true
   pub any-04 : (body : ℕ) → inRange 0x04 body ≡ true
   pub any-07 : (body : ℕ) → inRange 0x07 body ≡ true
 

@@ -2,7 +2,7 @@
 use Prim.Native.Nat.{ℕ, _%_}
 use mathlib.Core.Bool.{Bool, true, false, cond}
 use mathlib.Core.List.{List}
-use lib.Dec.{eqb}
+use lib.Dec.{eqb, ltb}
 use Rattle.part.specs.Part.{Setting}
 use Rattle.kinds.specs.Kinds.{SELECT, EXCHANGE, DESELECT, TICK, TICKS, WP, POWER, Says}
 use Rattle.chip.specs.declared.Chip.{Chip}
@@ -27,6 +27,10 @@ pub record Outcome : Type 0 where
 abbrev pub outcome : Core → Frame → List ℕ → List ℕ → List ℕ → Record → ℕ → Outcome
 outcome k f load held m said ticks = record { chip = whole k f load held; memory = m; said = said; ticks = ticks }
 
+-- the chip and the memory as they were, with something said
+abbrev pub asItWas : Chip → List ℕ → Record → Outcome
+asItWas c m said = outcome (c .core) (c .frame) (c .load) (c .held) m said 0
+
 -- a select; one more in an open frame changes nothing
 abbrev pub select : Chip → List ℕ → Outcome
 select c m = outcome (c .core) (withSelected true (c .frame)) (c .load) (c .held) m Nothing 0
@@ -38,15 +42,14 @@ settleExchange c m e = outcome (c .core) (e .frame) (e .load) (c .held) m (e .sa
 abbrev pub exchangeByte : Setting → Chip → List ℕ → ℕ → Outcome
 exchangeByte T c m b = settleExchange c m (exchanged T (c .core) (c .frame) (c .load) m b)
 
--- a deselect, clean or loose: the verdict, what it does and what is said of it, and the empty frame; with no frame open verdict 0 and no more
+-- a deselect, loose or not: the verdict, what it does and what is said of it, and the empty frame; with no frame open verdict 0 and no more
 abbrev pub closes : Setting → Chip → List ℕ → ℕ → Outcome
 closes T c m v =
     outcome (settled (T .sectors) (c .core) (c .frame) v) emptyFrame blankLoad (heldAfter (c .frame) v (c .load) (c .held)) m (recordOf (T .sectors) (c .core) v) 0
 
 abbrev pub deselect : Setting → Chip → List ℕ → Bool → Outcome
 deselect T c m loose =
-    cond (c .frame .selected) (closes T c m (verdict (T .sectors) (c .core) (c .frame) loose))
-    (outcome (c .core) (c .frame) (c .load) (c .held) m (Verdict 0) 0)
+    cond (c .frame .selected) (closes T c m (verdict (T .sectors) (c .core) (c .frame) loose)) (asItWas c m (Verdict 0))
 
 -- n ticks
 abbrev pub tick : Setting → Chip → List ℕ → ℕ → Outcome
@@ -65,17 +68,17 @@ poweredUp k = withDeep false (withArmed false (resets k))
 abbrev pub cutPower : Chip → List ℕ → Outcome
 cutPower c m = outcome (poweredUp (c .core)) emptyFrame blankLoad blankLoad m Nothing 0
 
--- one event by its kind; the one known kind that is left is the loose deselect
+-- one event by its kind; a deselect is loose if some bits of a byte had gone in, and what is no kind does nothing
 unfoldable pub applied : Setting → Chip → List ℕ → ℕ → ℕ → Outcome
 applied T c m kind body =
     cond (eqb kind SELECT) (select c m)
     (cond (eqb kind EXCHANGE) (exchangeByte T c m (body % 256))
-    (cond (eqb kind DESELECT) (deselect T c m false)
+    (cond (eqb kind DESELECT) (deselect T c m (ltb 0 body))
     (cond (eqb kind TICK) (tick T c m 1)
     (cond (eqb kind TICKS) (tick T c m body)
     (cond (eqb kind WP) (setWp c m body)
     (cond (eqb kind POWER) (cutPower c m)
-    (deselect T c m true)))))))
+    (asItWas c m Nothing)))))))
 
 -- what sort of thing a record says, in the words of the table of kinds (RULES, Records)
 abbrev pub sortOf : Record → Says

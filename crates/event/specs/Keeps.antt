@@ -1,9 +1,9 @@
 -- What an event leaves alone: the memory's length, the cells and the count of working ticks at every kind but ticks, and all but arming at verdicts 3 to 12.
 use Prim.Native.Nat.{ℕ}
-use mathlib.Core.Bool.{Bool, true, false}
+use mathlib.Core.Bool.{Bool}
 use mathlib.Core.List.{List}
 use mathlib.Core.Path.{_≡_, refl, ap}
-use lib.Dec.{eqb}
+use lib.Dec.{eqb, ltb}
 use lib.ListN.{length}
 use Rattle.cells.specs.Choice.{cond-either}
 use Rattle.part.specs.Part.{Setting}
@@ -29,12 +29,12 @@ length-applied T c m kind body =
     applied-each T c m kind body (λ (o : Outcome). length (o .memory) ≡ length m)
     (λ _. refl)
     (λ _. refl)
-    (λ _. ap length (deselect-still T c m false .0))
+    (λ _. ap length (deselect-still T c m (ltb 0 body) .0))
     (λ _. length-ticks (T .sectors) 1 (c .core) (c .held) m)
     (λ _. length-ticks (T .sectors) body (c .core) (c .held) m)
     (λ _. refl)
     (λ _. refl)
-    (λ _. ap length (deselect-still T c m true .0))
+    (λ _. refl)
 
 -- An event of a kind other than ticks changes no cell and works no tick.
 still : (T : Setting) (c : Chip) (m : List ℕ) (kind body : ℕ) → (kind ≡ TICK → ⊥) → (kind ≡ TICKS → ⊥) → (applied T c m kind body .memory ≡ m) × (applied T c m kind body .ticks ≡ 0)
@@ -42,12 +42,12 @@ still T c m kind body not-tick not-ticks =
     applied-each T c m kind body (λ (o : Outcome). (o .memory ≡ m) × (o .ticks ≡ 0))
     (λ _. (refl, refl))
     (λ _. (refl, refl))
-    (λ _. deselect-still T c m false)
+    (λ _. deselect-still T c m (ltb 0 body))
     (λ e. absurd (not-tick e))
     (λ e. absurd (not-ticks e))
     (λ _. (refl, refl))
     (λ _. (refl, refl))
-    (λ _. deselect-still T c m true)
+    (λ _. (refl, refl))
 
 pub cells-stay : (T : Setting) (c : Chip) (m : List ℕ) (kind body : ℕ) → (kind ≡ TICK → ⊥) → (kind ≡ TICKS → ⊥) → applied T c m kind body .memory ≡ m
 cells-stay T c m kind body not-tick not-ticks = still T c m kind body not-tick not-ticks .0

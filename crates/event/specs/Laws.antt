@@ -8,15 +8,15 @@ use native.Mathlib.Nat.{mod-eq-of-lt}
 use native.Mathlib.Omega.{arith}
 use lib.ListN.{length}
 use lib.Dec.{eqb, ltb}
-use borrow.Author.Tests.{eq-eqb, ne-eqb, eqb-true, eqb-false, ltb-false}
+use borrow.Author.Tests.{eq-eqb, ne-eqb, eqb-false, ltb-false}
 use Rattle.cells.specs.Choice.{cond-yes, cond-no, cond-either, chosen-number}
 use Rattle.part.specs.Part.{permitted, Setting, setting, sectorsIn}
 use Rattle.part.specs.Area.{longestArea}
 use Rattle.part.specs.declared.Protected.{Protected}
 use Rattle.part.specs.declared.Protected.the-variants.{NoSector, Sectors}
 use Rattle.part.specs.Protection.{protectedSectors}
-use Rattle.kinds.specs.Kinds.{SELECT, EXCHANGE, DESELECT, TICK, TICKS, WP, POWER, LOOSE, Says, KindRow, kindRowIn, kindRow, knownKind, bodyLength, inRange, saysOf, isSaid, roomOf}
-use Rattle.kinds.specs.Laws.{kind-each, last-kind, range-small}
+use Rattle.kinds.specs.Kinds.{SELECT, EXCHANGE, DESELECT, TICK, TICKS, WP, POWER, Says, KindRow, knownIn, kindRowIn, kindRow, knownKind, bodyLength, inRange, saysOf, isSaid, roomOf}
+use Rattle.kinds.specs.Laws.{NoKind, not-kind, kind-each, range-small}
 use Rattle.chip.specs.declared.Chip.{Chip}
 use Rattle.legal.specs.Legal.{legal}
 use Rattle.chip.specs.declared.Core.{Core}
@@ -29,13 +29,13 @@ use Rattle.frame.specs.Frame.{Exchange, exchanged}
 use Rattle.frame.specs.Legality.{taken-each, exchanged-each}
 use Rattle.verdict.specs.Verdict.{verdict, inTheWay, recordOf}
 use Rattle.event.specs.declared.Answer.{Answer}
-use Rattle.event.specs.Event.{Outcome, outcome, select, exchangeByte, deselect, closes, tick, setWp, cutPower, applied, sortOf}
+use Rattle.event.specs.Event.{Outcome, asItWas, select, exchangeByte, deselect, closes, tick, setWp, cutPower, applied, sortOf}
 use Rattle.event.specs.Alone.{bodyUsed, refusal, refused, done, happens, answerOf, memoryOf, saidOf}
 
 -- ---- a deselect
 
 pub deselect-unselected : (T : Setting) (c : Chip) (m : List ℕ) (loose : Bool) → c .frame .selected ≡ false
-    → deselect T c m loose ≡ outcome (c .core) (c .frame) (c .load) (c .held) m (Verdict 0) 0
+    → deselect T c m loose ≡ asItWas c m (Verdict 0)
 deselect-unselected T c m loose h = cond-no (c .frame .selected) _ _ h
 
 pub deselect-selected : (T : Setting) (c : Chip) (m : List ℕ) (loose : Bool) → c .frame .selected ≡ true
@@ -44,27 +44,24 @@ deselect-selected T c m loose h = cond-yes (c .frame .selected) _ _ h
 
 -- ---- one event, by its kind
 
--- what holds of each kind's outcome holds of the event's; the last is for LOOSE, the one known kind that is left
+-- what holds of each kind's outcome, and of what is no kind, holds of the event's
 pub applied-each : (T : Setting) (c : Chip) (m : List ℕ) (kind body : ℕ) (P : Outcome → Type 0)
     → (kind ≡ SELECT → P (select c m))
     → (kind ≡ EXCHANGE → P (exchangeByte T c m (body % 256)))
-    → (kind ≡ DESELECT → P (deselect T c m false))
+    → (kind ≡ DESELECT → P (deselect T c m (ltb 0 body)))
     → (kind ≡ TICK → P (tick T c m 1))
     → (kind ≡ TICKS → P (tick T c m body))
     → (kind ≡ WP → P (setWp c m body))
     → (kind ≡ POWER → P (cutPower c m))
-    → ((knownKind kind ≡ true → kind ≡ LOOSE) → P (deselect T c m true))
+    → (NoKind kind → P (asItWas c m Nothing))
     → P (applied T c m kind body)
-unfolding applied
+unfolding applied knownKind knownIn
 applied-each T c m kind body P p₁ p₂ p₃ p₄ p₅ p₆ p₇ p₈ =
-    cond-either P (eqb kind SELECT) _ _ (λ e. p₁ (eqb-true _ _ e))
-    (λ n₁. cond-either P (eqb kind EXCHANGE) _ _ (λ e. p₂ (eqb-true _ _ e))
-    (λ n₂. cond-either P (eqb kind DESELECT) _ _ (λ e. p₃ (eqb-true _ _ e))
-    (λ n₃. cond-either P (eqb kind TICK) _ _ (λ e. p₄ (eqb-true _ _ e))
-    (λ n₄. cond-either P (eqb kind TICKS) _ _ (λ e. p₅ (eqb-true _ _ e))
-    (λ n₅. cond-either P (eqb kind WP) _ _ (λ e. p₆ (eqb-true _ _ e))
-    (λ n₆. cond-either P (eqb kind POWER) _ _ (λ e. p₇ (eqb-true _ _ e))
-    (λ n₇. p₈ (last-kind kind (eqb-false _ _ n₁) (eqb-false _ _ n₂) (eqb-false _ _ n₃) (eqb-false _ _ n₄) (eqb-false _ _ n₅) (eqb-false _ _ n₆) (eqb-false _ _ n₇)))))))))
+    kind-each (λ k. kind ≡ k → P (applied T c m k body)) p₁ p₂ p₃ p₄ p₅ p₆ p₇
+    (λ k none e.
+    rw (not-kind none SELECT refl, not-kind none EXCHANGE refl, not-kind none DESELECT refl, not-kind none TICK refl, not-kind none TICKS refl, not-kind none WP refl, not-kind none POWER refl)
+    (p₈ (subst NoKind (sym e) none)))
+    kind refl
 
 -- the exchange of a byte, as an event
 pub applied-exchange : (T : Setting) (c : Chip) (m : List ℕ) (kind b : ℕ) → kind ≡ EXCHANGE → b < 256 → applied T c m kind b ≡ exchangeByte T c m b
@@ -173,26 +170,26 @@ record-sort S k v = cond-either (λ (r : Record). sortOf r ≡ Says.verdict) (eq
 deselect-sort : (T : Setting) (c : Chip) (m : List ℕ) (loose : Bool) → sortOf (deselect T c m loose .said) ≡ Says.verdict
 deselect-sort T c m loose = cond-either (λ (o : Outcome). sortOf (o .said) ≡ Says.verdict) (c .frame .selected) _ _ (λ _. record-sort (T .sectors) (c .core) _) (λ _. refl)
 
--- an event says what the table has for its kind
-pub says-its-kind : (T : Setting) (c : Chip) (m : List ℕ) (kind body : ℕ) → knownKind kind ≡ true → sortOf (applied T c m kind body .said) ≡ saysOf kind
+-- an event says what the table has for its kind; of what is no kind that is nothing
+pub says-its-kind : (T : Setting) (c : Chip) (m : List ℕ) (kind body : ℕ) → sortOf (applied T c m kind body .said) ≡ saysOf kind
 unfolding kindRow kindRowIn
-says-its-kind T c m kind body known =
+says-its-kind T c m kind body =
     applied-each T c m kind body (λ (o : Outcome). sortOf (o .said) ≡ saysOf kind)
     (λ e. sym (ap saysOf e))
     (λ e. exchange-sort T (c .core) (c .frame) (c .load) m (body % 256) ∙ sym (ap saysOf e))
-    (λ e. deselect-sort T c m false ∙ sym (ap saysOf e))
+    (λ e. deselect-sort T c m (ltb 0 body) ∙ sym (ap saysOf e))
     (λ e. sym (ap saysOf e))
     (λ e. sym (ap saysOf e))
     (λ e. sym (ap saysOf e))
     (λ e. sym (ap saysOf e))
-    (λ e. deselect-sort T c m true ∙ sym (ap saysOf (e known)))
+    (λ none. sym (ap (λ (row : KindRow). row .says) (none .no-row)))
 
 -- and the table gives it room
 sort-room : (kind : ℕ) (r : Record) → sortOf r ≡ saysOf kind → length (recordBytes r) ≤ roomOf kind
 unfolding kindRow kindRowIn
 sort-room kind r =
     kind-each (λ kind. sortOf r ≡ saysOf kind → length (recordBytes r) ≤ roomOf kind)
-    (silent r) (line r) (λ _. recordBytes-most r) (silent r) (silent r) (silent r) (silent r) (λ _. recordBytes-most r)
+    (silent r) (line r) (λ _. recordBytes-most r) (silent r) (silent r) (silent r) (silent r)
     (λ kind o e. subst (λ (w : KindRow). length (recordBytes r) ≤ w .room) (sym (o .no-row)) (silent r (e ∙ ap (λ (w : KindRow). w .says) (o .no-row)))) kind
   where
     isVerdict : Says → Bool
@@ -214,5 +211,5 @@ sort-room kind r =
     line (Verdict v) e = absurd (false≢true (sym (ap isVerdict e)))
     line (InTheWay first last) e = absurd (false≢true (sym (ap isVerdict e)))
 
-pub said-room : (T : Setting) (c : Chip) (m : List ℕ) (kind body : ℕ) → knownKind kind ≡ true → length (recordBytes (applied T c m kind body .said)) ≤ roomOf kind
-said-room T c m kind body known = sort-room kind (applied T c m kind body .said) (says-its-kind T c m kind body known)
+pub said-room : (T : Setting) (c : Chip) (m : List ℕ) (kind body : ℕ) → length (recordBytes (applied T c m kind body .said)) ≤ roomOf kind
+said-room T c m kind body = sort-room kind (applied T c m kind body .said) (says-its-kind T c m kind body)

@@ -5,7 +5,7 @@ use mathlib.Core.List.{List}
 use mathlib.Core.Path.{_≡_, refl, sym, ap, subst, _∙_}
 use native.Mathlib.Omega.{arith}
 use native.Mathlib.Decide.{ℕ-discrete, decLt}
-use lib.Dec.{eqb}
+use lib.Dec.{eqb, ltb}
 use borrow.Author.Tests.{eq-eqb, ne-eqb}
 use Rattle.cells.specs.Choice.{cond-yes, cond-no, cond-either, not-so}
 use Rattle.part.specs.Part.{Setting}
@@ -15,7 +15,6 @@ use Rattle.chip.specs.declared.Chip.{Chip}
 use Rattle.chip.specs.declared.Core.{Core}
 use Rattle.chip.specs.declared.Frame.{Frame}
 use Rattle.chip.specs.declared.Job.{Job}
-use Rattle.chip.specs.declared.JobKind.{JobKind}
 use Rattle.chip.specs.declared.JobKind.the-variants.{Idle, Program}
 use Rattle.chip.specs.Fields.{withDone}
 use Rattle.chip.specs.Job.{isJob, noJob}
@@ -123,11 +122,10 @@ pub event-fate : (T : Setting) (c : Chip) (m : List ℕ) (kind body : ℕ) → j
 event-fate T c m kind body known =
     applied-each T c m kind body (FateOf c)
     (λ _. stays) (λ _. stays)
-    (λ _. deselect-fate T c m false known)
+    (λ _. deselect-fate T c m (ltb 0 body) known)
     (λ _. ticks-fate (T .sectors) 1 (c .core) (c .held))
     (λ _. ticks-fate (T .sectors) body (c .core) (c .held))
-    (λ _. stays) (λ _. gone)
-    (λ _. deselect-fate T c m true known)
+    (λ _. stays) (λ _. gone) (λ _. stays)
 
 -- ---- what follows
 

@@ -4,7 +4,7 @@ use mathlib.Core.Bool.{Bool, true, false, not, _&&_, _||_}
 use mathlib.Core.List.{List}
 use mathlib.Core.Path.{_≡_, refl, sym, subst}
 use native.Mathlib.Omega.{arith}
-use lib.Dec.{eqb}
+use lib.Dec.{eqb, ltb}
 use lib.ListN.{length}
 use Rattle.cells.specs.Choice.{cond-either}
 use Rattle.part.specs.Part.{sectorsIn, Setting}
@@ -90,12 +90,12 @@ module _ (T : Setting) (c : Chip) (m : List ℕ) (some : 1 ≤ T .sectors) (l : 
       (λ _.
       let e : LegalExchange S (exchanged T (c .core) (c .frame) (c .load) m (body % 256)) = exchange-legal T (c .core) (c .frame) (c .load) m (body % 256) some (omega arith) (l .frame-part) (l .tidy-part) in
       record { core-part = l .core-part; frame-part = e .frame-part; tidy-part = e .tidy-part })
-      (λ _. deselect-legal false)
+      (λ _. deselect-legal (ltb 0 body))
       (λ _. tick-legal 1)
       (λ _. tick-legal body)
       (λ _. record { core-part = wp-legal (eqb body 1); frame-part = l .frame-part; tidy-part = l .tidy-part })
       (λ _. record { core-part = power-legal; frame-part = empty-legal S some; tidy-part = empty-tidy })
-      (λ _. deselect-legal true)
+      (λ _. l)
 
 -- A legal state stays legal under every event, on a part of the memory's length.
 pub legal-applied : (T : Setting) (c : Chip) (m : List ℕ) (kind body : ℕ) → T .sectors ≡ sectorsIn (length m) → legal c (length m) ≡ true → legal (applied T c m kind body .chip) (length m) ≡ true

@@ -68,7 +68,7 @@ fn power_up(core: Core) -> Core
     next
 }
 
-// A deselect, clean or loose: the verdict, its effect, and the empty frame left behind.
+// A deselect, loose or not: the verdict, its effect, and the empty frame left behind.
 fn deselect(
     core: Core,
     frame: Frame,
@@ -115,7 +115,7 @@ fn tick(
     }
 }
 
-// One event by its kind on the parts of a chip; the one known kind that is left is the loose deselect.
+// One event by its kind on the parts of a chip. What is no kind does nothing; the refusals keep it off.
 pub fn step(
     core: Core,
     frame: Frame,
@@ -138,7 +138,7 @@ pub fn step(
             let said = e.said;
             stays(core, next, said)
         }
-        Kind::DESELECT => deselect(core, frame, load, held, sectors, false),
+        Kind::DESELECT => deselect(core, frame, load, held, sectors, 0 < body),
         Kind::TICK => tick(core, frame, held, mem, sectors, 1),
         Kind::TICKS => tick(core, frame, held, mem, sectors, body),
         Kind::WP => stays(set_wp(body == 1, core), frame, Record::Nothing),
@@ -147,7 +147,7 @@ pub fn step(
             *held = [255; 256];
             stays(power_up(core), chip::empty_frame(), Record::Nothing)
         }
-        _ => deselect(core, frame, load, held, sectors, true),
+        _ => stays(core, frame, Record::Nothing),
     }
 }
 

@@ -14,7 +14,7 @@ SELECT = 0x01
 abbrev pub EXCHANGE : ℕ
 EXCHANGE = 0x02
 
--- CS goes high on a byte boundary
+-- CS goes high; the body is how many bits of a byte had gone in, 0 on a byte boundary
 abbrev pub DESELECT : ℕ
 DESELECT = 0x03
 
@@ -32,10 +32,6 @@ WP = 0x06
 -- power goes, and comes back
 abbrev pub POWER : ℕ
 POWER = 0x07
-
--- CS goes high with some bits of a byte gone in
-abbrev pub LOOSE : ℕ
-LOOSE = 0x08
 
 -- ---- the table
 
@@ -58,17 +54,16 @@ pub record KindRow : Type 0 where
 abbrev pub row : ℕ → ℕ → ℕ → ℕ → Says → ℕ → KindRow
 row kind body least most says room = record { kind = kind; body = body; least = least; most = most; says = says; room = room }
 
--- the eight kinds (RULES, Events)
+-- the seven kinds (RULES, Events)
 abbrev pub kindRows : List KindRow
 kindRows =
     row SELECT 0 0 0 silent 0
     ∷ row EXCHANGE 1 0 255 line 2
-    ∷ row DESELECT 0 0 0 verdict 3
+    ∷ row DESELECT 1 0 7 verdict 3
     ∷ row TICK 0 0 0 silent 0
     ∷ row TICKS 2 1 65535 silent 0
     ∷ row WP 1 0 1 silent 0
     ∷ row POWER 0 0 0 silent 0
-    ∷ row LOOSE 1 1 7 verdict 3
     ∷ []
 
 -- whether some row has a kind

@@ -21,8 +21,6 @@ impl Kind {
     pub const WP: u64 = 0x06;
 
     pub const POWER: u64 = 0x07;
-
-    pub const LOOSE: u64 = 0x08;
 }
 
 // Whether a number is a kind.
@@ -37,7 +35,6 @@ pub fn is_known(kind: u64) -> bool
         Kind::TICKS => true,
         Kind::WP => true,
         Kind::POWER => true,
-        Kind::LOOSE => true,
         _ => false,
     }
 }
@@ -48,9 +45,9 @@ pub fn body_length(kind: u64) -> usize
 {
     match kind {
         Kind::EXCHANGE => 1,
+        Kind::DESELECT => 1,
         Kind::TICKS => 2,
         Kind::WP => 1,
-        Kind::LOOSE => 1,
         _ => 0,
     }
 }
@@ -61,9 +58,9 @@ pub fn is_in_range(kind: u64, body: u64) -> bool
 {
     match kind {
         Kind::EXCHANGE => body <= 255,
+        Kind::DESELECT => body <= 7,
         Kind::TICKS => (1 <= body) & (body <= 65535),
         Kind::WP => body <= 1,
-        Kind::LOOSE => (1 <= body) & (body <= 7),
         _ => true,
     }
 }
@@ -72,21 +69,18 @@ pub fn is_in_range(kind: u64, body: u64) -> bool
 pub fn yields(kind: u64) -> bool
     ensures { λ r. ⌜ r ≡ yields kind ⌝ }
 {
-    (kind == Kind::EXCHANGE) | (kind == Kind::DESELECT) | (kind == Kind::LOOSE)
+    (kind == Kind::EXCHANGE) | (kind == Kind::DESELECT)
 }
 
-// The room that a kind's record is given, whatever the record turns out to be. Whether there is one
-// is asked first: the look through a script comes here with all that is no exchange, ticks above all.
+// The room that a kind's record is given, whatever the record turns out to be.
 pub fn room_of(kind: u64) -> usize
     ensures { λ r. ⌜ (r ≡ roomOf kind) × (r ≤ mostRoom) ⌝ }
 {
-    if !yields(kind) {
-        return 0;
+    match kind {
+        Kind::EXCHANGE => 2,
+        Kind::DESELECT => 3,
+        _ => 0,
     }
-    if kind == Kind::EXCHANGE {
-        return 2;
-    }
-    3
 }
 
 // The body of the event at an offset of a script.

@@ -27,7 +27,7 @@ use Rattle.script.specs.Run.{World, world}
 use Rattle.demands.specs.Model.{Reply, Model, event, Good, AllGood, Fit, onwardBy, runsBy, workingTicks, workedBy}
 use Rattle.demands.specs.Demand1.{RefusedWhen, Demand1}
 use Rattle.demands.specs.Moments.{gives, verdict-told}
-use Rattle.demands.specs.Demand2.{Demand2, Test, firstOf, among, beginsJob, rulesList, verdictOf, saysVerdict, Closing, on-a-byte, inside-a-byte, Ending, After}
+use Rattle.demands.specs.Demand2.{Demand2, Test, firstOf, among, beginsJob, rulesList, verdictOf, saysVerdict, Ending, After}
 use Rattle.meets.specs.TickRules.{ticking-good}
 use Rattle.demands.specs.Demand3.{Demand3, Ticking, one-tick, many-ticks, AllSpare, NoneEnables, Spared, stepsOf, Outlook}
 
@@ -115,10 +115,10 @@ known-so true e = refl
 known-so false e = absurd (true≢false e)
 
 -- a verdict that is neither 0 nor a judgement is the list's
-listed-as : (n : ℕ) (k : Core) (f : Frame) (loose : Bool) (v : ℕ) → verdictOf n k f loose ≡ v → (0 ≡ v → ⊥) → (f .judgement ≡ v → ⊥) → firstOf (rulesList n k f loose) 1 ≡ v
-listed-as n k f loose v is some unjudged = go (eqb (f .count) 0) (eqb (f .judgement) 0) refl refl
+listed-as : (n : ℕ) (k : Core) (f : Frame) (bits v : ℕ) → verdictOf n k f bits ≡ v → (0 ≡ v → ⊥) → (f .judgement ≡ v → ⊥) → firstOf (rulesList n k f bits) 1 ≡ v
+listed-as n k f bits v is some unjudged = go (eqb (f .count) 0) (eqb (f .judgement) 0) refl refl
   where
-    go : (z j : Bool) → eqb (f .count) 0 ≡ z → eqb (f .judgement) 0 ≡ j → firstOf (rulesList n k f loose) 1 ≡ v
+    go : (z j : Bool) → eqb (f .count) 0 ≡ z → eqb (f .judgement) 0 ≡ j → firstOf (rulesList n k f bits) 1 ≡ v
     go true j e g = absurd (some (sym (cond-yes (eqb (f .count) 0) _ _ e) ∙ is))
     go false false e g = absurd (unjudged (sym (cond-no (eqb (f .count) 0) _ _ e ∙ cond-yes (not (eqb (f .judgement) 0)) _ _ (ap not g)) ∙ is))
     go false true e g = sym (cond-no (eqb (f .count) 0) _ _ e ∙ cond-no (not (eqb (f .judgement) 0)) _ _ (ap not g)) ∙ is
@@ -128,21 +128,21 @@ listed-as n k f loose v is some unjudged = go (eqb (f .count) 0) (eqb (f .judgem
 module _ (M N : Model) (p : Meets M) (q : Meets N) (c : Chip) (m area : List ℕ) where
   -- ---- a deselect
 
-  module _ (fit : Fit c m area) (kind body : ℕ) (loose : Bool) (selected : c .frame .selected ≡ true) (closing : Closing kind body loose) where
+  module _ (fit : Fit c m area) (bits : ℕ) (selected : c .frame .selected ≡ true) (few : bits ≤ 7) where
     abbrev f : Frame
     f = c .frame
 
     abbrev v : ℕ
-    v = verdictOf (length m) (c .core) f loose
+    v = verdictOf (length m) (c .core) f bits
 
-    abbrev e : Ending c m area kind body loose
-    e = record { fit = fit; selected = selected; closing = closing }
+    abbrev e : Ending c m area bits
+    e = record { fit = fit; selected = selected; few = few }
 
     abbrev x : Reply
-    x = M c m area kind body
+    x = M c m area 0x03 bits
 
     abbrev y : Reply
-    y = N c m area kind body
+    y = N c m area 0x03 bits
 
     -- the two leave the same core and the same load of the job
     abbrev Acts : Type 0
@@ -150,10 +150,10 @@ module _ (M N : Model) (p : Meets M) (q : Meets N) (c : Chip) (m area : List ℕ
 
     -- both say the verdict
     says-x : (u : ℕ) → v ≡ u → x .says ≡ saysVerdict (length m) (c .core) u
-    says-x u = gives M u (p .second) c m area kind body loose e
+    says-x u = gives M u (p .second) c m area bits e
 
     says-y : (u : ℕ) → v ≡ u → y .says ≡ saysVerdict (length m) (c .core) u
-    says-y u = gives N u (q .second) c m area kind body loose e
+    says-y u = gives N u (q .second) c m area bits e
 
     -- 82h and another number are not said of it
     not-said : (z : Reply) (u : ℕ) → z .says ≡ saysVerdict (length m) (c .core) v → (v ≡ u → ⊥) → z .says ≡ 0x82 ∷ u ∷ [] → ⊥
@@ -170,18 +170,18 @@ module _ (M N : Model) (p : Meets M) (q : Meets N) (c : Chip) (m area : List ℕ
     both : (u : ℕ) → eqb u 9 ≡ false → (opcode : ℕ) {core : Chip → List ℕ → Core} {held : Chip → List ℕ} → v ≡ u → After M u opcode core held → After N u opcode core held → f .opcode ≡ opcode → Acts
     both u plain opcode is a b of-it =
         let by-number : saysVerdict (length m) (c .core) u ≡ 0x82 ∷ u ∷ [] = cond-no (eqb u 9) _ _ plain in
-        same-act (a c m area kind body loose e of-it (says-x u is ∙ by-number)) (b c m area kind body loose e of-it (says-y u is ∙ by-number))
+        same-act (a c m area bits e of-it (says-x u is ∙ by-number)) (b c m area bits e of-it (says-y u is ∙ by-number))
 
     abbrev reads : ℕ → Bool
     reads = among (0x05 ∷ 0x03 ∷ 0x0B ∷ 0x9F ∷ 0x5A ∷ [])
 
     -- the tests of the list but the last
     abbrev tests : List Test
-    tests = butLast (rulesList (length m) (c .core) f loose)
+    tests = butLast (rulesList (length m) (c .core) f bits)
 
     -- a verdict of 1 or 2 comes from the list, with none of these tests
     from-list : (u : ℕ) → v ≡ u → (0 ≡ u → ⊥) → judgementKnown u ≡ false → isNoneOf u tests ≡ true → NoneApply tests × (_≡_ {A = ℕ} (cond (beginsJob (f .opcode)) 2 1) u)
-    from-list u is some unjudged others = none-apply u tests (cond (beginsJob (f .opcode)) 2 1) others (listed-as (length m) (c .core) f loose u is some (judgement-not u unjudged))
+    from-list u is some unjudged others = none-apply u tests (cond (beginsJob (f .opcode)) 2 1) others (listed-as (length m) (c .core) f bits u is some (judgement-not u unjudged))
 
     -- the commands that are done at once, and those that begin a job
     abbrev atOnce : List ℕ
@@ -271,14 +271,14 @@ module _ (M N : Model) (p : Meets M) (q : Meets N) (c : Chip) (m area : List ℕ
         go (yes one) d = done one
         go (no one) (yes two) = begun two
         go (no one) (no two) =
-            same-act (p .second .other-verdicts c m area kind body loose e (not-said x 1 (says-x v refl) one) (not-said x 2 (says-x v refl) two))
-            (q .second .other-verdicts c m area kind body loose e (not-said y 1 (says-y v refl) one) (not-said y 2 (says-y v refl) two))
+            same-act (p .second .other-verdicts c m area bits e (not-said x 1 (says-x v refl) one) (not-said x 2 (says-x v refl) two))
+            (q .second .other-verdicts c m area bits e (not-said y 1 (says-y v refl) one) (not-said y 2 (says-y v refl) two))
 
     -- a deselect of a frame
     deselects : x .refusal ≡ y .refusal → x ≡ y
     deselects refused =
-        let a = p .second .closes c m area kind body loose e in
-        let b = q .second .closes c m area kind body loose e in
+        let a = p .second .closes c m area bits e in
+        let b = q .second .closes c m area bits e in
         λ i.
         record {
           chip = whole (acts .0 i) ((a .frame-empty ∙ sym (b .frame-empty)) i) ((a .load-blank ∙ sym (b .load-blank)) i) (acts .1 i);
@@ -415,12 +415,12 @@ module _ (M N : Model) (p : Meets M) (q : Meets N) (c : Chip) (m area : List ℕ
     refusals-same : (kind body : ℕ) → M c m area kind body .refusal ≡ N c m area kind body .refusal
     refusals-same kind body = one-number c (length m) (length area) kind body _ _ (p .first .numbers c m area kind body) (q .first .numbers c m area kind body)
 
-    closes-same : (kind body : ℕ) (loose : Bool) → Closing kind body loose → M c m area kind body ≡ N c m area kind body
-    closes-same kind body loose closing = go (c .frame .selected) refl
+    closes-same : (bits : ℕ) → bits ≤ 7 → M c m area 0x03 bits ≡ N c m area 0x03 bits
+    closes-same bits few = go (c .frame .selected) refl
       where
-        go : (s : Bool) → c .frame .selected ≡ s → M c m area kind body ≡ N c m area kind body
-        go true s = deselects fit kind body loose s closing (refusals-same kind body)
-        go false s = p .second .unselected-deselect c m area kind body loose fit closing s ∙ sym (q .second .unselected-deselect c m area kind body loose fit closing s)
+        go : (s : Bool) → c .frame .selected ≡ s → M c m area 0x03 bits ≡ N c m area 0x03 bits
+        go true s = deselects fit bits s few (refusals-same 0x03 bits)
+        go false s = p .second .unselected-deselect c m area bits fit few s ∙ sym (q .second .unselected-deselect c m area bits fit few s)
 
     -- a good event, by its kind
     good-same : (kind : ℕ) → knownKind kind ≡ true → (body : ℕ) → inRange kind body ≡ true → M c m area kind body ≡ N c m area kind body
@@ -429,12 +429,11 @@ module _ (M N : Model) (p : Meets M) (q : Meets N) (c : Chip) (m area : List ℕ
         kind-each (λ kind. knownKind kind ≡ true → (body : ℕ) → inRange kind body ≡ true → M c m area kind body ≡ N c m area kind body)
         (λ _ body _. p .second .selects c m area body fit ∙ sym (q .second .selects c m area body fit))
         (λ _ body i. exchanges fit body (leb-true body 255 (and-right (leb 0 body) (leb body 255) i)))
-        (λ _ body _. closes-same 0x03 body false (on-a-byte body))
+        (λ _ bits i. closes-same bits (leb-true bits 7 (and-right (leb 0 bits) (leb bits 7) i)))
         (λ _ body _. ticks-same fit 0x04 body 1 (one-tick body) (refusals-same 0x04 body))
         (λ _ body i. ticks-same fit 0x05 body body (many-ticks body (leb-true 1 body (and-left (leb 1 body) (leb body 65535) i)) (leb-true body 65535 (and-right (leb 1 body) (leb body 65535) i))) (refusals-same 0x05 body))
         (λ _ body i. let small : body ≤ 1 = leb-true body 1 (and-right (leb 0 body) (leb body 1) i) in p .second .levels c m area body fit small ∙ sym (q .second .levels c m area body fit small))
         (λ _ body _. p .second .power-cut c m area body fit ∙ sym (q .second .power-cut c m area body fit))
-        (λ _ body i. closes-same 0x08 body true (inside-a-byte body (leb-true 1 body (and-left (leb 1 body) (leb body 7) i)) (leb-true body 7 (and-right (leb 1 body) (leb body 7) i))))
         (λ kind none known body i. absurd (false≢true (sym (none .not-known) ∙ known)))
 
   -- The demands leave no choice: whatever the event, the two models answer the same.

@@ -4,7 +4,7 @@ use mathlib.Core.Bool.{Bool, true, false, cond, _&&_}
 use mathlib.Core.List.{List, [], _∷_}
 use mathlib.Core.Path.{_≡_, refl, sym, ap, _∙_}
 use native.Mathlib.Omega.{arith}
-use lib.Dec.{eqb, leb}
+use lib.Dec.{eqb, ltb, leb}
 use lib.ListN.{length}
 use borrow.Author.Tests.{le-leb, eqb-true, ne-eqb}
 use Rattle.cells.specs.Choice.{and-left, and-right, and-both, and-four}
@@ -21,6 +21,7 @@ use Rattle.chip.specs.Chip.{whole, emptyFrame, blankLoad}
 use Rattle.legal.specs.Legal.{isEmpty}
 use Rattle.legal.specs.Legality.{LegalChip, chip-facts, unbegun-empty}
 use Rattle.kinds.specs.Kinds.{knownKind, knownIn, kindRow, kindRowIn}
+use Rattle.kinds.specs.Laws.{deselect-range}
 use Rattle.frame.specs.Frame.{judge, opened, Exchange, exchanged}
 use Rattle.frame.specs.Laws.{exchanged-unselected, exchanged-opcode}
 use Rattle.verdict.specs.Verdict.{jobOf, startOf, verdict}
@@ -29,7 +30,7 @@ use Rattle.verdict.specs.Laws.{nine-finds, acted-nothing, held-stays}
 use Rattle.event.specs.Event.{settleExchange, closes, deselect, applied}
 use Rattle.event.specs.Laws.{deselect-unselected, deselect-selected}
 use Rattle.demands.specs.Model.{Reply, reply, ours, event, Good, Fit}
-use Rattle.demands.specs.Demand2.{Closing, on-a-byte, inside-a-byte, stopOf, saysVerdict, Ending, After, DoneAtOnce, rounded, Begun, JobsBegun, OtherVerdicts, Closes, poweredUp}
+use Rattle.demands.specs.Demand2.{stopOf, saysVerdict, Ending, After, DoneAtOnce, rounded, Begun, JobsBegun, OtherVerdicts, Closes, poweredUp}
 use Rattle.meets.specs.Ours.{told, done-as}
 use Rattle.demands.specs.Moments.{verdict-told}
 use Rattle.meets.specs.Verdicts.{verdict-as, settled-acts, record-says}
@@ -96,52 +97,45 @@ ours-opcode-byte c m area b fit byte selected none =
 
 -- ---- a deselect
 
--- nothing is wrong with a deselect
-pub closing-good : (kind body : ℕ) (loose : Bool) → Closing kind body loose → Good (event kind body)
-unfolding knownKind knownIn kindRow kindRowIn
-closing-good kind body loose (on-a-byte b) = (refl, refl)
-closing-good kind body loose (inside-a-byte bits least most) = (refl, and-both (leb 1 bits) (leb bits 7) (le-leb 1 bits least) (le-leb bits 7 most))
+-- nothing is wrong with a deselect of fewer bits than a byte has
+pub deselect-good : (bits : ℕ) → bits ≤ 7 → Good (event 0x03 bits)
+unfolding knownKind knownIn
+deselect-good bits few = (refl, deselect-range bits ∙ le-leb bits 7 few)
 
--- and it is what the definitions have for a deselect
-pub closing-applied : (T : Setting) (c : Chip) (m : List ℕ) (kind body : ℕ) (loose : Bool) → Closing kind body loose → applied T c m kind body ≡ deselect T c m loose
+-- and it is what the definitions have for one, loose if some bits had gone in
+deselect-as : (c : Chip) (m area : List ℕ) (bits : ℕ) → Fit c m area → bits ≤ 7 → ours c m area 0x03 bits ≡ told (deselect (settingOf (length m) area) c m (ltb 0 bits))
 unfolding applied
-closing-applied T c m kind body loose (on-a-byte b) = refl
-closing-applied T c m kind body loose (inside-a-byte bits least most) = refl
+deselect-as c m area bits fit few =
+    let good : Good (event 0x03 bits) = deselect-good bits few in
+    done-as c m area fit 0x03 bits (good .0) (good .1)
 
-closing-as : (c : Chip) (m area : List ℕ) (kind body : ℕ) (loose : Bool) → Fit c m area → Closing kind body loose → ours c m area kind body ≡ told (deselect (settingOf (length m) area) c m loose)
-closing-as c m area kind body loose fit closing =
-    let good : Good (event kind body) = closing-good kind body loose closing in
-    done-as c m area fit kind body (good .0) (good .1) ∙ ap told (closing-applied (settingOf (length m) area) c m kind body loose closing)
+pub ours-unselected-deselect : (c : Chip) (m area : List ℕ) (bits : ℕ) → Fit c m area → bits ≤ 7 → c .frame .selected ≡ false → ours c m area 0x03 bits ≡ reply c m (0x82 ∷ 0 ∷ []) 0
+ours-unselected-deselect c m area bits fit few unselected = deselect-as c m area bits fit few ∙ ap told (deselect-unselected (settingOf (length m) area) c m (ltb 0 bits) unselected)
 
-pub ours-unselected-deselect : (c : Chip) (m area : List ℕ) (kind body : ℕ) (loose : Bool) → Fit c m area → Closing kind body loose → c .frame .selected ≡ false
-    → ours c m area kind body ≡ reply c m (0x82 ∷ 0 ∷ []) 0
-ours-unselected-deselect c m area kind body loose fit closing unselected =
-    closing-as c m area kind body loose fit closing ∙ ap told (deselect-unselected (settingOf (length m) area) c m loose unselected)
-
-module _ (c : Chip) (m area : List ℕ) (kind body : ℕ) (loose : Bool) (e : Ending c m area kind body loose) where
+module _ (c : Chip) (m area : List ℕ) (bits : ℕ) (e : Ending c m area bits) where
   abbrev S : ℕ
   S = sectorsIn (length m)
 
   abbrev v : ℕ
-  v = verdict S (c .core) (c .frame) loose
+  v = verdict S (c .core) (c .frame) (ltb 0 bits)
 
   abbrev legal-chip : LegalChip c (length m)
   legal-chip = chip-facts c (length m) (e .fit .state-legal)
 
   -- a deselect of a frame is what its verdict does
-  pub closes-as : ours c m area kind body ≡ told (closes (settingOf (length m) area) c m v)
-  closes-as = closing-as c m area kind body loose (e .fit) (e .closing) ∙ ap told (deselect-selected (settingOf (length m) area) c m loose (e .selected))
+  pub closes-as : ours c m area 0x03 bits ≡ told (closes (settingOf (length m) area) c m v)
+  closes-as = deselect-as c m area bits (e .fit) (e .few) ∙ ap told (deselect-selected (settingOf (length m) area) c m (ltb 0 bits) (e .selected))
 
   -- and says what Demand 2 has for it
-  says-as : ours c m area kind body .says ≡ saysVerdict (length m) (c .core) v
+  says-as : ours c m area 0x03 bits .says ≡ saysVerdict (length m) (c .core) v
   says-as =
       ap (λ (r : Reply). r .says) closes-as
-      ∙ record-says (length m) (c .core) v (nine-finds S (c .core) (c .frame) loose (legal-chip .frame-part .judgement-known))
+      ∙ record-says (length m) (c .core) v (nine-finds S (c .core) (c .frame) (ltb 0 bits) (legal-chip .frame-part .judgement-known))
 
-  pub ours-closes : Closes ours c m area kind body loose
+  pub ours-closes : Closes ours c m area bits
   ours-closes =
       record {
-        says = says-as ∙ ap (saysVerdict (length m) (c .core)) (verdict-as (length m) (c .core) (c .frame) loose (legal-chip .length-permitted));
+        says = says-as ∙ ap (saysVerdict (length m) (c .core)) (verdict-as (length m) (c .core) (c .frame) bits (legal-chip .length-permitted));
         frame-empty = ap (λ (r : Reply). r .chip .frame) closes-as;
         load-blank = ap (λ (r : Reply). r .chip .load) closes-as;
         cells-same = ap (λ (r : Reply). r .memory) closes-as;
@@ -149,16 +143,16 @@ module _ (c : Chip) (m area : List ℕ) (kind body : ℕ) (loose : Bool) (e : En
       }
 
   -- the verdict is what the record says
-  pub verdict-said : (x : ℕ) → ours c m area kind body .says ≡ 0x82 ∷ x ∷ [] → v ≡ x
+  pub verdict-said : (x : ℕ) → ours c m area 0x03 bits .says ≡ 0x82 ∷ x ∷ [] → v ≡ x
   verdict-said x said = verdict-told (length m) (c .core) v x (sym says-as ∙ said)
 
   -- the core and the job's load after a verdict of which this is known
-  core-after : (x : ℕ) → ours c m area kind body .says ≡ 0x82 ∷ x ∷ [] → (x ≡ 0 → ⊥)
-      → ours c m area kind body .chip .core ≡ withArmed (eqb (c .frame .opcode) 0x66 && eqb x 1) (acted S (c .core) (c .frame) x)
+  core-after : (x : ℕ) → ours c m area 0x03 bits .says ≡ 0x82 ∷ x ∷ [] → (x ≡ 0 → ⊥)
+      → ours c m area 0x03 bits .chip .core ≡ withArmed (eqb (c .frame .opcode) 0x66 && eqb x 1) (acted S (c .core) (c .frame) x)
   core-after x said some =
-      ap (λ (r : Reply). r .chip .core) closes-as ∙ ap (λ (y : ℕ). settled S (c .core) (c .frame) y) (verdict-said x said) ∙ settled-acts S (c .core) (c .frame) loose x (verdict-said x said) some
+      ap (λ (r : Reply). r .chip .core) closes-as ∙ ap (λ (y : ℕ). settled S (c .core) (c .frame) y) (verdict-said x said) ∙ settled-acts S (c .core) (c .frame) (ltb 0 bits) x (verdict-said x said) some
 
-  held-after : (x : ℕ) → ours c m area kind body .says ≡ 0x82 ∷ x ∷ [] → ours c m area kind body .chip .held ≡ heldAfter (c .frame) x (c .load) (c .held)
+  held-after : (x : ℕ) → ours c m area 0x03 bits .says ≡ 0x82 ∷ x ∷ [] → ours c m area 0x03 bits .chip .held ≡ heldAfter (c .frame) x (c .load) (c .held)
   held-after x said = ap (λ (r : Reply). r .chip .held) closes-as ∙ ap (λ (y : ℕ). heldAfter (c .frame) y (c .load) (c .held)) (verdict-said x said)
 
 -- ---- what a verdict does, row by row
@@ -166,9 +160,9 @@ module _ (c : Chip) (m area : List ℕ) (kind body : ℕ) (loose : Bool) (e : En
 -- verdict 1: what the command changes, and arming, both by its opcode
 at-once : (opcode : ℕ) → After ours 1 opcode (λ c m. withArmed (eqb opcode 0x66 && true) (instantly (c .core) opcode)) (λ c. cond (eqb opcode 0x99) blankLoad (c .held))
 unfolding acted heldAfter
-at-once opcode c m area kind body loose e is-opcode said = (
-  core-after c m area kind body loose e 1 said (λ z. omega arith) ∙ ap (λ (o : ℕ). withArmed (eqb o 0x66 && true) (instantly (c .core) o)) is-opcode,
-  held-after c m area kind body loose e 1 said ∙ ap (λ (o : ℕ). cond (eqb o 0x99) blankLoad (c .held)) is-opcode,
+at-once opcode c m area bits e is-opcode said = (
+  core-after c m area bits e 1 said (λ z. omega arith) ∙ ap (λ (o : ℕ). withArmed (eqb o 0x66 && true) (instantly (c .core) o)) is-opcode,
+  held-after c m area bits e 1 said ∙ ap (λ (o : ℕ). cond (eqb o 0x99) blankLoad (c .held)) is-opcode,
 )
 
 pub ours-done-at-once : DoneAtOnce ours
@@ -185,12 +179,12 @@ begun : (opcode : ℕ)
     (withJob (record { kind = jobOf opcode (c .frame .address); start = startOf (sectorsIn (length m)) (jobOf opcode (c .frame .address)) (c .frame .address); done = 0 }) (c .core)))))
     (λ c. cond (isProgram opcode) (c .load) blankLoad)
 unfolding acted heldAfter
-begun opcode c m area kind body loose e is-opcode said =
+begun opcode c m area bits e is-opcode said =
     let A : ℕ = c .frame .address in
     let S : ℕ = sectorsIn (length m) in (
-      core-after c m area kind body loose e 2 said (λ z. omega arith)
+      core-after c m area bits e 2 said (λ z. omega arith)
           ∙ ap (λ (o : ℕ). withArmed (eqb o 0x66 && false) (withSuspended false (withWaiting false (withJob (record { kind = jobOf o A; start = startOf S (jobOf o A) A; done = 0 }) (c .core))))) is-opcode,
-      held-after c m area kind body loose e 2 said ∙ ap (λ (o : ℕ). cond (isProgram o) (c .load) blankLoad) is-opcode,
+      held-after c m area bits e 2 said ∙ ap (λ (o : ℕ). cond (isProgram o) (c .load) blankLoad) is-opcode,
     )
 
 -- rounded down to each of the three sizes, a number is so many of them
@@ -208,8 +202,8 @@ on-memory : (opcode : ℕ) (kind : JobKind) (size : ℕ) (load : Chip → List �
     → After ours 2 opcode
     (λ c m. withArmed false (withSuspended false (withWaiting false (withJob (record { kind = kind; start = roundedDown size (c .frame .address % lengthOf (sectorsIn (length m))); done = 0 }) (c .core))))) load
     → Begun ours opcode (λ f. kind) (rounded size) load
-on-memory opcode kind size load down row c m area kind′ body loose e is-opcode said =
-    let told-so = row c m area kind′ body loose e is-opcode said in
+on-memory opcode kind size load down row c m area bits e is-opcode said =
+    let told-so = row c m area bits e is-opcode said in
     let whole-sectors : lengthOf (sectorsIn (length m)) ≡ length m = permitted-whole (length m) (chip-facts c (length m) (e .fit .state-legal) .length-permitted) in
     let there : roundedDown size (c .frame .address % lengthOf (sectorsIn (length m))) ≡ rounded size (length m) (c .frame) =
     down (c .frame .address % lengthOf (sectorsIn (length m))) ∙ ap (λ (n : ℕ). rounded size n (c .frame)) whole-sectors in (
@@ -236,16 +230,16 @@ ours-jobs-begun = (
 -- every other verdict
 pub ours-other-verdicts : OtherVerdicts ours
 unfolding settled
-ours-other-verdicts c m area kind body loose e not-told-one not-told-two =
+ours-other-verdicts c m area bits e not-told-one not-told-two =
     let S : ℕ = sectorsIn (length m) in
-    let x : ℕ = verdict S (c .core) (c .frame) loose in
-    let says : ours c m area kind body .says ≡ saysVerdict (length m) (c .core) x = says-as c m area kind body loose e in
+    let x : ℕ = verdict S (c .core) (c .frame) (ltb 0 bits) in
+    let says : ours c m area 0x03 bits .says ≡ saysVerdict (length m) (c .core) x = says-as c m area bits e in
     let not-one : x ≡ 1 → ⊥ = λ one. not-told-one (says ∙ ap (saysVerdict (length m) (c .core)) one) in
     let not-two : x ≡ 2 → ⊥ = λ two. not-told-two (says ∙ ap (saysVerdict (length m) (c .core)) two) in (
-      ap (λ (r : Reply). r .chip .core) (closes-as c m area kind body loose e)
+      ap (λ (r : Reply). r .chip .core) (closes-as c m area bits e)
           ∙ ap (λ (k : Core). cond (eqb (c .frame .count) 0) (c .core) (withArmed (eqb (c .frame .opcode) 0x66 && eqb x 1) k)) (acted-nothing S (c .core) (c .frame) x not-one not-two)
           ∙ ap (λ (b : Bool). cond (eqb (c .frame .count) 0) (c .core) (withArmed b (c .core))) (arms-not (eqb (c .frame .opcode) 0x66) (eqb x 1) (ne-eqb x 1 not-one)),
-      ap (λ (r : Reply). r .chip .held) (closes-as c m area kind body loose e) ∙ held-stays (c .frame) x (c .load) (c .held) not-two (λ one _. not-one one),
+      ap (λ (r : Reply). r .chip .held) (closes-as c m area bits e) ∙ held-stays (c .frame) x (c .load) (c .held) not-two (λ one _. not-one one),
     )
   where
     arms-not : (a b : Bool) → b ≡ false → (a && b) ≡ false

@@ -16,7 +16,6 @@ use Rattle.commands.specs.Table.{rowOf, rowIn, fitsRule, isRead, isProgram}
 use Rattle.part.specs.declared.Protected.the-variants.{NoSector, Sectors}
 use Rattle.part.specs.Protection.{protectedCount, protectedSectors, isProtected}
 use Rattle.chip.specs.declared.Core.{Core}
-use Rattle.chip.specs.declared.Frame.{Frame}
 use Rattle.chip.specs.declared.JobKind.{JobKind}
 use Rattle.chip.specs.Job.{steps, noJob}
 use Rattle.chip.specs.Fields.{withWen, withJob}
@@ -35,13 +34,13 @@ use Rattle.meets.specs.Stepwise.{UnderWay, AllSpare, workedBy, k-steps}
 
 -- ---- how a row is written
 
--- exchanges of these bytes; a frame of them; a list of numbers from 0
+-- exchanges of these bytes; a frame of them, closed on the byte boundary
 abbrev pub exchanges : List ℕ → List ℕ
 exchanges [] = []
 exchanges (b ∷ bs) = EXCHANGE ∷ b ∷ exchanges bs
 
 abbrev pub frame : List ℕ → List ℕ
-frame bs = SELECT ∷ (exchanges bs ++ (DESELECT ∷ []))
+frame bs = SELECT ∷ (exchanges bs ++ (DESELECT ∷ 0 ∷ []))
 
 -- the smallest part, with an empty area
 abbrev pub one : Setting
@@ -158,8 +157,8 @@ abbrev pub ticks : ℕ → Event
 ticks n = record { offset = 0; kind = TICKS; body = n; fault = 0 }
 
 spared : (n : ℕ) (w : World) → AllSpare one (ticks n ∷ []) w
-unfolding AllSpare knownKind knownIn
-spared n w = (record { known = refl; no-power-cut = λ e. omega arith; clean-spares = λ e. absurd (omega arith); loose-spares = λ e. absurd (omega arith) }, tt)
+unfolding AllSpare
+spared n w = (record { no-power-cut = λ e. omega arith; deselect-spares = λ e. absurd (omega arith) }, tt)
 
 -- P5: a cell that holds F0h and is programmed with 0Fh holds no bit any more (RULES, Jobs)
 abbrev pub programming : List ℕ → World

@@ -9,11 +9,12 @@ use native.Mathlib.Nat.{add-zero}
 use native.Mathlib.Numerals.{add-one}
 use native.Mathlib.Decide.{decLt}
 use native.Mathlib.Omega.{arith}
+use lib.Dec.{ltb}
 use Rattle.cells.specs.Choice.{cond-either}
 use Rattle.cells.specs.Stepping.{Steps, laid, Machine}
 use Rattle.part.specs.Part.{Setting}
 use Rattle.commands.specs.Table.{reset}
-use Rattle.kinds.specs.Kinds.{DESELECT, POWER, LOOSE, knownKind}
+use Rattle.kinds.specs.Kinds.{DESELECT, POWER}
 use Rattle.chip.specs.declared.Chip.{Chip}
 use Rattle.chip.specs.declared.Core.{Core}
 use Rattle.chip.specs.declared.Job.{Job}
@@ -53,11 +54,9 @@ LeavesJob T c loose =
     → (verdict (T .sectors) (c .core) (c .frame) loose ≡ 2 → ⊥) × (verdict (T .sectors) (c .core) (c .frame) loose ≡ 1 → c .frame .opcode ≡ reset → ⊥)
 
 -- an event that is no power cut, no reset and begins no job; suspends, resumes, reads, ticks, frames turned away and frames left open all spare it
-pub record Spares (T : Setting) (c : Chip) (kind : ℕ) : Type 0 where
-  pub known : knownKind kind ≡ true
+pub record Spares (T : Setting) (c : Chip) (kind body : ℕ) : Type 0 where
   pub no-power-cut : kind ≡ POWER → ⊥
-  pub clean-spares : kind ≡ DESELECT → LeavesJob T c false
-  pub loose-spares : kind ≡ LOOSE → LeavesJob T c true
+  pub deselect-spares : kind ≡ DESELECT → LeavesJob T c (ltb 0 body)
 
 -- ---- an event that spares the job, and finds none running if it is ticks, changes neither cells nor job
 
@@ -93,20 +92,20 @@ module _ (T : Setting) (c : Chip) (m : List ℕ) where
       }
 
   -- what holds of an event that changes neither, and of ticks, holds of every event that spares the job
-  pub sparing-each : (kind body : ℕ) (P : Outcome → Type 0) → Spares T c kind → ((o : Outcome) → Unchanged c m o → P o) → ((n : ℕ) → P (tick T c m n)) → P (applied T c m kind body)
+  pub sparing-each : (kind body : ℕ) (P : Outcome → Type 0) → Spares T c kind body → ((o : Outcome) → Unchanged c m o → P o) → ((n : ℕ) → P (tick T c m n)) → P (applied T c m kind body)
   sparing-each kind body P s still ticks =
       applied-each T c m kind body P
       (λ _. still _ (record { memory-same = refl; works-none = refl; job-same = refl; held-same = refl; bits-same = refl }))
       (λ _. still _ (record { memory-same = refl; works-none = refl; job-same = refl; held-same = refl; bits-same = refl }))
-      (λ e. still _ (deselect-unchanged false (s .clean-spares e)))
+      (λ e. still _ (deselect-unchanged (ltb 0 body) (s .deselect-spares e)))
       (λ _. ticks 1)
       (λ _. ticks body)
       (λ _. still _ (record { memory-same = refl; works-none = refl; job-same = refl; held-same = refl; bits-same = refl }))
       (λ e. absurd (s .no-power-cut e))
-      (λ e. still _ (deselect-unchanged true (s .loose-spares (e (s .known)))))
+      (λ _. still _ (record { memory-same = refl; works-none = refl; job-same = refl; held-same = refl; bits-same = refl }))
 
   -- With no job running, an event that is no power cut, no reset and begins no job leaves cells, job and load as they were, whatever a bench has lent.
-  pub resting-unchanged : (kind body : ℕ) → Spares T c kind → running (c .core) ≡ false → Unchanged c m (applied T c m kind body)
+  pub resting-unchanged : (kind body : ℕ) → Spares T c kind body → running (c .core) ≡ false → Unchanged c m (applied T c m kind body)
   resting-unchanged kind body s r = sparing-each kind body (Unchanged c m) s (λ o u. u) (λ n. ticks-unchanged n r)
 
 -- ---- where the job stands
@@ -250,7 +249,7 @@ module _ (T : Setting) (kind : JobKind) (start : ℕ) (held : List ℕ) (bits : 
         go true r (no done) (ends all) = ticks-all-go n r (omega arith) all
 
     -- every event that spares the job
-    pub event-goes : (kind′ body : ℕ) → Spares T c kind′ → Goes i m (applied T c m kind′ body)
+    pub event-goes : (kind′ body : ℕ) → Spares T c kind′ body → Goes i m (applied T c m kind′ body)
     event-goes kind′ body s = sparing-each T c m kind′ body (Goes i m) s unchanged-goes tick-goes
 
   -- ---- once the job is over
@@ -274,7 +273,7 @@ module _ (T : Setting) (kind : JobKind) (start : ℕ) (held : List ℕ) (bits : 
     tick-rests : (n : ℕ) → Rests (tick T c m n)
     tick-rests n = unchanged-rests (tick T c m n) (ticks-unchanged T c m n over-rests)
 
-    pub event-rests : (kind′ body : ℕ) → Spares T c kind′ → Rests (applied T c m kind′ body)
+    pub event-rests : (kind′ body : ℕ) → Spares T c kind′ body → Rests (applied T c m kind′ body)
     event-rests kind′ body s = sparing-each T c m kind′ body Rests s unchanged-rests tick-rests
 
   -- ---- the machine
@@ -292,7 +291,7 @@ module _ (T : Setting) (kind : JobKind) (start : ℕ) (held : List ℕ) (bits : 
         worked = λ e w. does T e w .ticks;
         At = λ i w. (i < total kind S) × At i (w .chip);
         Over = λ w. Over (w .chip);
-        Spares = λ e w. Spares T (w .chip) (e .kind);
+        Spares = λ e w. Spares T (w .chip) (e .kind) (e .body);
         goes = λ i e w a s. went i (does T e w) (w .memory) (event-goes i (w .chip) (w .memory) (a .1) (a .0) (e .kind) (e .body) s);
         rests = λ e w o s. event-rests (w .chip) (w .memory) o (e .kind) (e .body) s;
       }

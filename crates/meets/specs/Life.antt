@@ -4,16 +4,15 @@ use Prim.Native.Nat.{ℕ, _<_}
 use mathlib.Core.Bool.{Bool, true, false, _&&_, false≢true}
 use mathlib.Core.List.{List, [], _∷_}
 use mathlib.Core.Path.{_≡_, refl, sym, ap, subst, _∙_}
-use mathlib.Core.Logic.{_⊎_, inl, inr, ⊎-elim}
 use native.Mathlib.Decide.{ℕ-discrete, decLt}
 use native.Mathlib.Omega.{arith}
-use lib.Dec.{eqb}
+use lib.Dec.{eqb, ltb}
 use lib.ListN.{length, getD}
 use borrow.Author.Tests.{eq-eqb, ne-eqb}
 use Rattle.cells.specs.Choice.{cond-yes, cond-no, cond-either, and-right, not-so}
 use Rattle.part.specs.Part.{Setting, settingOf}
 use Rattle.commands.specs.Table.{writeEnable, resetEnable}
-use Rattle.kinds.specs.Kinds.{DESELECT, TICK, TICKS, LOOSE, Says, KindRow, kindRowIn, knownKind, kindRow, saysOf, isSaid}
+use Rattle.kinds.specs.Kinds.{DESELECT, TICK, TICKS, Says, KindRow, kindRowIn, kindRow, saysOf, isSaid}
 use Rattle.kinds.specs.Laws.{kind-each}
 use Rattle.chip.specs.declared.Chip.{Chip}
 use Rattle.chip.specs.declared.Core.{Core}
@@ -22,7 +21,6 @@ use Rattle.chip.specs.declared.Record.{Record}
 use Rattle.chip.specs.declared.Record.the-variants.{Nothing, Floating, Driven, Verdict, InTheWay}
 use Rattle.chip.specs.Record.{recordBytes}
 use Rattle.chip.specs.declared.JobKind.{JobKind}
-use Rattle.chip.specs.declared.JobKind.the-variants.{Idle, WriteStatus, Program, SmallErase, SectorErase, ChipErase}
 use Rattle.chip.specs.Fields.{withArmed}
 use Rattle.chip.specs.Job.{isJob}
 use Rattle.chip.specs.Chip.{bitsOf, blankLoad, running}
@@ -55,12 +53,12 @@ told-verdict (Driven b) v e = let other : _≡_ {A = ℕ} 0x81 0x82 = ap (λ (bs
 told-verdict (Verdict u) v e = ap Verdict (ap (λ (bs : List ℕ). getD bs 1 0) e)
 told-verdict (InTheWay first last) v e = let longer : _≡_ {A = ℕ} 3 2 = ap length e in absurd (omega arith)
 
--- only the two deselects say a verdict
-says-verdict : (kind : ℕ) → saysOf kind ≡ Says.verdict → (kind ≡ DESELECT) ⊎ (kind ≡ LOOSE)
+-- only a deselect says a verdict
+says-verdict : (kind : ℕ) → saysOf kind ≡ Says.verdict → kind ≡ DESELECT
 unfolding kindRow kindRowIn
 says-verdict =
-    kind-each (λ kind. saysOf kind ≡ Says.verdict → (kind ≡ DESELECT) ⊎ (kind ≡ LOOSE))
-    (λ e. silent e) (λ e. line e) (λ _. inl refl) (λ e. silent e) (λ e. silent e) (λ e. silent e) (λ e. silent e) (λ _. inr refl)
+    kind-each (λ kind. saysOf kind ≡ Says.verdict → kind ≡ DESELECT)
+    (λ e. silent e) (λ e. line e) (λ _. refl) (λ e. silent e) (λ e. silent e) (λ e. silent e) (λ e. silent e)
     (λ kind o e. silent (sym (ap (λ (r : KindRow). r .says) (o .no-row)) ∙ e))
   where
     silent : {A : Type 0} → Says.silent ≡ Says.verdict → A
@@ -74,20 +72,12 @@ says-verdict =
     line : {A : Type 0} → Says.line ≡ Says.verdict → A
     line e = absurd (false≢true (sym (ap isLine e)))
 
--- the kind of a deselect, clean or loose, and what an event of that kind does
-abbrev closingKind : Bool → ℕ
-closingKind true = LOOSE
-closingKind false = DESELECT
-
-as-deselect : (T : Setting) (c : Chip) (m : List ℕ) (kind body : ℕ) (loose : Bool) → kind ≡ closingKind loose → applied T c m kind body ≡ deselect T c m loose
+-- an event of that kind is a deselect
+as-deselect : (T : Setting) (c : Chip) (m : List ℕ) (kind body : ℕ) → kind ≡ DESELECT → applied T c m kind body ≡ deselect T c m (ltb 0 body)
 unfolding applied
-as-deselect T c m kind body loose e = ap (λ (k : ℕ). applied T c m k body) e ∙ at loose
-  where
-    at : (loose : Bool) → applied T c m (closingKind loose) body ≡ deselect T c m loose
-    at true = refl
-    at false = refl
+as-deselect T c m kind body e = ap (λ (k : ℕ). applied T c m k body) e
 
--- a frame is closed with this verdict, by one of the two deselects
+-- a frame is closed with this verdict, by a deselect that is loose or not
 pub record ClosedWith (T : Setting) (c : Chip) (m : List ℕ) (v : ℕ) (o : Outcome) : Type 0 where
   pub loose : Bool
   pub verdict-is : verdict (T .sectors) (c .core) (c .frame) loose ≡ v
@@ -102,15 +92,11 @@ module _ (T : Setting) (c : Chip) (m : List ℕ) (v : ℕ) (some : v ≡ 0 → �
       (λ _ e. absurd (some (sym (ap (λ (r : Record). getD (recordBytes r) 1 0) e))))
 
   -- An event that says a verdict other than 0 closes a frame with it.
-  pub says-closed : (kind body : ℕ) → knownKind kind ≡ true → recordBytes (applied T c m kind body .said) ≡ 0x82 ∷ v ∷ [] → ClosedWith T c m v (applied T c m kind body)
-  says-closed kind body known says =
+  pub says-closed : (kind body : ℕ) → recordBytes (applied T c m kind body .said) ≡ 0x82 ∷ v ∷ [] → ClosedWith T c m v (applied T c m kind body)
+  says-closed kind body says =
       let said : applied T c m kind body .said ≡ Verdict v = told-verdict _ v says in
-      ⊎-elim (λ e. at false e said) (λ e. at true e said) (says-verdict kind (sym (says-its-kind T c m kind body known) ∙ ap sortOf said))
-    where
-      at : (loose : Bool) → kind ≡ closingKind loose → applied T c m kind body .said ≡ Verdict v → ClosedWith T c m v (applied T c m kind body)
-      at loose e said =
-          let same : applied T c m kind body ≡ deselect T c m loose = as-deselect T c m kind body loose e in
-          subst (ClosedWith T c m v) (sym same) (deselect-closed loose (sym (ap (λ (o : Outcome). o .said) same) ∙ said))
+      let same : applied T c m kind body ≡ deselect T c m (ltb 0 body) = as-deselect T c m kind body (says-verdict kind (sym (says-its-kind T c m kind body) ∙ ap sortOf said)) in
+      subst (ClosedWith T c m v) (sym same) (deselect-closed (ltb 0 body) (sym (ap (λ (o : Outcome). o .said) same) ∙ said))
 
 -- ---- what verdict 2, and verdict 1 of a reset, leave
 
@@ -158,8 +144,8 @@ pub says-ours : (area : List ℕ) (e : Event) (w : World) → Fit (w .chip) (w .
 says-ours area e w fit good = ap (λ (r : Reply). r .says) (does-ours area e w fit good)
 
 -- spared by what ours says to it, the job is spared by the definitions' verdict
-spares-ours : (area : List ℕ) (e : Event) (w : World) → Fit (w .chip) (w .memory) area → Good e → Spares ours area e w → JobSteps.Spares (settingOf (length (w .memory)) area) (w .chip) (e .kind)
-spares-ours area e w fit good s = record { known = good .0; no-power-cut = s .no-power-cut; clean-spares = spares false; loose-spares = spares true }
+spares-ours : (area : List ℕ) (e : Event) (w : World) → Fit (w .chip) (w .memory) area → Good e → Spares ours area e w → JobSteps.Spares (settingOf (length (w .memory)) area) (w .chip) (e .kind) (e .body)
+spares-ours area e w fit good s = record { no-power-cut = s .no-power-cut; deselect-spares = spares }
   where
     T : Setting
     T = settingOf (length (w .memory)) area
@@ -167,16 +153,15 @@ spares-ours area e w fit good s = record { known = good .0; no-power-cut = s .no
     c : Chip
     c = w .chip
 
-    says : (loose : Bool) (v : ℕ) → (v ≡ 9 → ⊥) → e .kind ≡ closingKind loose → c .frame .selected ≡ true → verdict (T .sectors) (c .core) (c .frame) loose ≡ v
-        → doesBy ours area e w .says ≡ 0x82 ∷ v ∷ []
-    says loose v plain k selected is =
+    says : (v : ℕ) → (v ≡ 9 → ⊥) → e .kind ≡ DESELECT → c .frame .selected ≡ true → verdict (T .sectors) (c .core) (c .frame) (ltb 0 (e .body)) ≡ v → doesBy ours area e w .says ≡ 0x82 ∷ v ∷ []
+    says v plain k selected is =
         says-ours area e w fit good
-        ∙ ap (λ (o : Outcome). recordBytes (o .said)) (as-deselect T c (w .memory) (e .kind) (e .body) loose k ∙ cond-yes (c .frame .selected) _ _ selected)
+        ∙ ap (λ (o : Outcome). recordBytes (o .said)) (as-deselect T c (w .memory) (e .kind) (e .body) k ∙ cond-yes (c .frame .selected) _ _ selected)
         ∙ ap (λ (n : ℕ). recordBytes (recordOf (T .sectors) (c .core) n)) is
         ∙ ap recordBytes (record-plain (T .sectors) (c .core) v plain)
 
-    spares : (loose : Bool) → e .kind ≡ closingKind loose → LeavesJob T c loose
-    spares loose k selected = (λ two. s .begins-none (says loose 2 (λ e. omega arith) k selected two), λ one is. s .no-reset (says loose 1 (λ e. omega arith) k selected one) is)
+    spares : e .kind ≡ DESELECT → LeavesJob T c (ltb 0 (e .body))
+    spares k selected = (λ two. s .begins-none (says 2 (λ e. omega arith) k selected two), λ one is. s .no-reset (says 1 (λ e. omega arith) k selected one) is)
 
 -- and so over a row of events
 pub all-spare-ours : (area : List ℕ) (es : List Event) (w : World) → Fit (w .chip) (w .memory) area → AllGood es → AllSpare ours area es w → Stepwise.AllSpare (settingOf (length (w .memory)) area) es w
@@ -254,12 +239,12 @@ off-event T c m kind body off =
     applied-each T c m kind body Off
     (λ _ _ _. off)
     (λ _ _ _. off)
-    (λ _. closing false)
+    (λ _. closing (ltb 0 body))
     (λ _ _ _. off-ticks (T .sectors) 1 (c .core) off)
     (λ _ _ _. off-ticks (T .sectors) body (c .core) off)
     (λ _ _ _. off)
     (λ _ _ _ _. refl)
-    (λ _. closing true)
+    (λ _ _ _. off)
   where
     Off : Outcome → Type 0
     Off o = (o .said ≡ Verdict 2 → ⊥) → (o .said ≡ Verdict 1 → c .frame .opcode ≡ writeEnable → ⊥) → OffWithoutJob (o .chip .core)

@@ -30,7 +30,6 @@ use Rattle.script.specs.Script.{Event, eventAt, faultAt, walk, eventsFrom, even
 use Rattle.script.specs.Run.{World, world, does, onward, runs}
 use Rattle.demands.specs.Model.{ours, Good, AllGood, Fit, doesBy, onwardBy, runsBy, workedBy}
 use Rattle.demands.specs.Demand1.{RunReply, AllSound, Heard, roomNeeded, ourRun}
-use Rattle.demands.specs.Demand2.{Closing, on-a-byte}
 use Rattle.demands.specs.Demand3.{Spares, AllSpare, stepsOf}
 use Rattle.meets.specs.Ours.{onward-ours, setting-same, fit-onward, runs-ours, fit-runs, worked-ours}
 use Rattle.meets.specs.Life.{told-verdict, says-ours}
@@ -147,12 +146,11 @@ module _ (area : List ℕ) (w : World) (before : List Event) (begins : Event) (f
   fit-begun = subst (λ (v : World). Fit (v .chip) (v .memory) area) (ap (λ (U : Setting). onward U begins w₀) part₀) (fit-onward area begins w₀ fit-found good-begins)
 
   -- A row that passes the test holds a whole life of ours.
-  pub holds-by-test : (life : List Event) → AllGood life → (loose : Bool) → Closing (begins .kind) (begins .body) loose → wholeLife T w before begins life ≡ true → HoldsLife ours area w before begins life
-  holds-by-test life good-life loose closing test =
+  pub holds-by-test : (life : List Event) → AllGood life → begins .kind ≡ 0x03 → wholeLife T w before begins life ≡ true → HoldsLife ours area w before begins life
+  holds-by-test life good-life is-deselect test =
       let t = and-four (w₀ .chip .frame .selected) (verdictIs 2 (does T begins w₀ .said)) (allSparing T life w₁) (eqb (Stepwise.workedBy T life w₁) (total (jobIn w₁ .kind) (T .sectors))) test in
       record {
-        loose = loose;
-        closing = closing;
+        deselect = is-deselect;
         selected = ap (λ (v : World). v .chip .frame .selected) found ∙ t .0;
         says-two =
             ap (λ (v : World). doesBy ours area begins v .says) found
@@ -196,7 +194,7 @@ abbrev pub before : List Event
 before = take 8 (events erasesCut)
 
 abbrev pub begins : Event
-begins = eventAt erasesCut 13
+begins = eventAt erasesCut 14
 
 abbrev pub life : List Event
 life = drop 9 (events erasesCut)
@@ -247,9 +245,8 @@ module _ (m out : List ℕ) (smallest : length m ≡ 65536) (roomy : 33 ≤ leng
   good = good-split before (begins ∷ life) (subst AllGood in-order (all-good erasesCut (events erasesCut) all-sound))
 
   holds : HoldsLife ours [] start before begins life
-  unfolding kindRow kindRowIn
   holds =
-      holds-by-test [] start before begins fit (good .0) (good .1 .0) life (good .1 .1) false (on-a-byte 0)
+      holds-by-test [] start before begins fit (good .0) (good .1 .0) life (good .1 .1) refl
       (subst (λ (n : ℕ). wholeLife (settingOf n []) start before begins life ≡ true) (sym smallest) (passes m))
 
   -- the answer, from the worlds as the definitions have them on the smallest part

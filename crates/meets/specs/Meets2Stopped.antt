@@ -22,9 +22,9 @@ use Rattle.event.specs.Event.{Outcome, applied}
 use Rattle.event.specs.Laws.{deselect-selected}
 use Rattle.script.specs.Run.{World, does}
 use Rattle.demands.specs.Model.{Reply, ours, event, runsBy}
-use Rattle.demands.specs.Demand2.{AllBytes, bytesOf, Closing, opened, stopOf, StoppedFrame}
+use Rattle.demands.specs.Demand2.{AllBytes, bytesOf, opened, stopOf, StoppedFrame}
 use Rattle.meets.specs.Verdicts.{verdict-judged}
-use Rattle.meets.specs.EventRules.{closing-good, closing-applied}
+use Rattle.meets.specs.EventRules.{deselect-good}
 use Rattle.meets.specs.Inside.{GoesOn}
 use Rattle.meets.specs.Opening.{opcodeFrame, Opens, opens-opcode}
 use Rattle.meets.specs.OursFrames.{byte-good, does-as, frame-there}
@@ -58,10 +58,10 @@ judged-verdict : (S : ℕ) (k : Core) (v j : ℕ) (f : Frame) (loose : Bool) →
 judged-verdict S k v j f loose stops at = verdict-judged S k f loose (λ (z : f .count ≡ 0). omega (arith, at .begun, z)) (λ z. stops (sym (at .judged) ∙ z)) ∙ at .judged
 
 -- a deselect of an open frame tells the verdict; a judgement is told by its number
-closing-says : (T : Setting) (w : World) (kind body : ℕ) (loose : Bool) → Closing kind body loose → w .chip .frame .selected ≡ true
-    → recordBytes (does T (event kind body) w .said) ≡ recordBytes (recordOf (T .sectors) (w .chip .core) (verdict (T .sectors) (w .chip .core) (w .chip .frame) loose))
-closing-says T w kind body loose closing selected =
-    ap (λ (o : Outcome). recordBytes (o .said)) (closing-applied T (w .chip) (w .memory) kind body loose closing ∙ deselect-selected T (w .chip) (w .memory) loose selected)
+deselect-says : (T : Setting) (w : World) (bits : ℕ) → w .chip .frame .selected ≡ true
+    → recordBytes (does T (event 0x03 bits) w .said) ≡ recordBytes (recordOf (T .sectors) (w .chip .core) (verdict (T .sectors) (w .chip .core) (w .chip .frame) (ltb 0 bits)))
+unfolding applied
+deselect-says T w bits selected = ap (λ (o : Outcome). recordBytes (o .said)) (deselect-selected T (w .chip) (w .memory) (ltb 0 bits) selected)
 
 -- A frame of ours that is stopped at its opcode byte is as the demand says.
 pub ours-stopped-frame : StoppedFrame ours
@@ -78,9 +78,9 @@ ours-stopped-frame c m area opcode fit unselected byte stops es inside =
       (λ b small-byte.
           ap (λ (q : Reply). q .says) (does-as c m area fit (opcode ∷ []) small f opens es inside (event 0x02 b) (byte-good b small-byte))
           ∙ ap (λ (x : Exchange). recordBytes (x .said)) (floats-on T v stops (bytesOf es) (w .chip .core) (w .chip .frame) (w .chip .load) (w .memory) (b % 256) at)),
-      (λ kind body loose closing.
-          ap (λ (q : Reply). q .says) (does-as c m area fit (opcode ∷ []) small f opens es inside (event kind body) (closing-good kind body loose closing))
-          ∙ closing-says T w kind body loose closing (at .is-open)
-          ∙ ap (λ (q : ℕ). recordBytes (recordOf (T .sectors) (w .chip .core) q)) (judged-verdict (T .sectors) (w .chip .core) v (bytesOf es) (w .chip .frame) loose stops at)
+      (λ bits few.
+          ap (λ (q : Reply). q .says) (does-as c m area fit (opcode ∷ []) small f opens es inside (event 0x03 bits) (deselect-good bits few))
+          ∙ deselect-says T w bits (at .is-open)
+          ∙ ap (λ (q : ℕ). recordBytes (recordOf (T .sectors) (w .chip .core) q)) (judged-verdict (T .sectors) (w .chip .core) v (bytesOf es) (w .chip .frame) (ltb 0 bits) stops at)
           ∙ ap recordBytes (record-plain (T .sectors) (w .chip .core) v (λ nine. false≢true (sym (ap judgementKnown nine) ∙ judge-known (c .core) opcode)))),
     )

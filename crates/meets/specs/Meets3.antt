@@ -1,6 +1,6 @@
 -- Ours meets Demand 3: what is proved of the definitions (`Stepwise`, `Life`), read for the model.
 use Prim.Native.Nat.{ℕ, _+_, _<_, _≤_}
-use mathlib.Core.Bool.{Bool, true, false, false≢true}
+use mathlib.Core.Bool.{true, false, false≢true}
 use mathlib.Core.List.{List, [], _∷_}
 use mathlib.Core.Path.{_≡_, refl, sym, ap, subst, _∙_}
 use mathlib.Core.Logic.{⊎-elim}
@@ -24,7 +24,7 @@ use Rattle.demands.specs.Demand3.{Started, UnderWay, AllSpare, NoneEnables, ste
 use Rattle.meets.specs.Ours.{fit-next, runs-ours, fit-runs, ticks-ours, worked-ours}
 use Rattle.meets.specs.Life.{ClosedWith, says-closed, closed-memory, two-starts, reset-drops, does-ours, says-ours, all-spare-ours, event-rests-cells, OffWithoutJob, off-event}
 use Rattle.meets.specs.JobSteps.{AtStep, JobOver}
-use Rattle.meets.specs.EventRules.{closing-good, ours-jobs-begun}
+use Rattle.meets.specs.EventRules.{deselect-good, ours-jobs-begun}
 use Rattle.meets.specs.TickRules.{ours-idle-ticks, ours-ticks-keep}
 use Rattle.meets.specs.Stepwise.{k-steps, all-steps, outside-stays}
 use Rattle.meets.specs.Stepwise as Stepwise
@@ -34,16 +34,16 @@ use Rattle.meets.specs.Stepwise as Stepwise
 -- the frame that a good event closes, by what ours says
 closed-by : (area : List ℕ) (e : Event) (w : World) (v : ℕ) → Fit (w .chip) (w .memory) area → Good e → (v ≡ 0 → ⊥) → doesBy ours area e w .says ≡ 0x82 ∷ v ∷ []
     → ClosedWith (settingOf (length (w .memory)) area) (w .chip) (w .memory) v (does (settingOf (length (w .memory)) area) e w)
-closed-by area e w v fit good some says = says-closed _ (w .chip) (w .memory) v some (e .kind) (e .body) (good .0) (sym (says-ours area e w fit good) ∙ says)
+closed-by area e w v fit good some says = says-closed _ (w .chip) (w .memory) v some (e .kind) (e .body) (sym (says-ours area e w fit good) ∙ says)
 
 -- ---- the start and the count
 
 -- a deselect that says 82h 02h starts a job, and the working ticks of an event are those that found one running
-starts-ours : (c : Chip) (m area : List ℕ) (kind body : ℕ) (loose : Bool) → Ending c m area kind body loose → ours c m area kind body .says ≡ 0x82 ∷ 2 ∷ [] → Started c m (ours c m area kind body)
-starts-ours c m area kind body loose end says =
-    let e : Event = event kind body in
+starts-ours : (c : Chip) (m area : List ℕ) (bits : ℕ) → Ending c m area bits → ours c m area 0x03 bits .says ≡ 0x82 ∷ 2 ∷ [] → Started c m (ours c m area 0x03 bits)
+starts-ours c m area bits end says =
+    let e : Event = event 0x03 bits in
     let w : World = world c m [] 0 in
-    let good : Good e = closing-good kind body loose (end .closing) in
+    let good : Good e = deselect-good bits (end .few) in
     subst (Started c m) (sym (does-ours area e w (end .fit) good))
     (two-starts _ c m _ (chip-facts c (length m) (end .fit .state-legal) .frame-part .judgement-known) (closed-by area e w 2 (end .fit) good (λ z. omega arith) says))
 

@@ -1,13 +1,13 @@
 -- The hypotheses of the theorems are met: for each kind of them a closed example. Demand 3's are met in `Examples` (P5, P9) and `LifeExample` (`cut-and-ended`).
 use Prim.Native.Nat.{ℕ, _/_, _%_}
 use mathlib.Core.Bool.{Bool, true, false}
-use mathlib.Core.List.{List, [], _∷_}
+use mathlib.Core.List.{List, [], _∷_, _++_}
 use mathlib.Core.Path.{_≡_, refl, ap}
 use native.Mathlib.Omega.{arith}
 use lib.ListN.{length, replicate}
 use Rattle.part.specs.Part.{permitted, sectorsIn, setting}
 use Rattle.part.specs.Protection.{protectedCount, protectedSectors, isProtected}
-use Rattle.commands.specs.Table.{rowOf, rowIn, fitsRule}
+use Rattle.commands.specs.Table.{rowOf, rowIn, fitsRule, isRead, isProgram}
 use Rattle.chip.specs.declared.Chip.{Chip}
 use Rattle.chip.specs.declared.Core.{Core}
 use Rattle.chip.specs.declared.Frame.{Frame}
@@ -16,12 +16,15 @@ use Rattle.chip.specs.declared.JobKind.the-variants.{WriteStatus, Program, Smal
 use Rattle.chip.specs.Fields.{withWen, withSuspended, withWaiting, withDeep, withArmed, withJob, withSelected, withOpcode, withPlace, withCount}
 use Rattle.chip.specs.Chip.{whole, emptyFrame, blankLoad, resting, fresh}
 use Rattle.legal.specs.Legal.{legalJob, legalCore, legalFrame, isEmpty, isBlank, legal}
-use Rattle.kinds.specs.Kinds.{SELECT, EXCHANGE, DESELECT, TICK, WP, LOOSE, knownIn, kindRowIn, knownKind, kindRow}
+use Rattle.kinds.specs.Kinds.{SELECT, EXCHANGE, DESELECT, TICK, WP, knownIn, kindRowIn, knownKind, kindRow}
+use Rattle.frame.specs.Frame.{judge, taken, exchanged}
+use Rattle.verdict.specs.Verdict.{jobOf, commandVerdict, listed, verdict, recordOf}
+use Rattle.verdict.specs.Effect.{instantly, acted, settled, heldAfter}
 use Rattle.event.specs.Event.{applied}
 use Rattle.event.specs.Alone.{refusal}
 use Rattle.script.specs.Run.{world, runs}
 use Rattle.script.specs.Run as Run
-use Rattle.script.specs.Script.{faultAt, eventAt, walk, eventsFrom, events, firstBad, room}
+use Rattle.script.specs.Script.{faultAt, eventAt, walk, eventsFrom, events, refusalOf, firstBad, room}
 use Rattle.demands.specs.Demand2.{Rows, stopOf, verdictOf, Quiet, Ready, FreeAt}
 
 -- a frame of that opcode with so many bytes, selected and not judged
@@ -85,46 +88,74 @@ abbrev refuses : ℕ → ℕ → ℕ
 refuses kind body = refusal (fresh 0x00) 65536 0 kind body
 
 -- the least and the greatest body of each kind are taken, and what lies next to them is not (RULES, Events)
-pub ranges-met : (refuses 0x02 0 ≡ 0) × (refuses 0x02 255 ≡ 0) × (refuses 0x02 256 ≡ 6) × (refuses 0x05 0 ≡ 6) × (refuses 0x05 1 ≡ 0) × (refuses 0x05 65535 ≡ 0) × (refuses 0x05 65536 ≡ 6)
-    × (refuses 0x06 0 ≡ 0) × (refuses 0x06 1 ≡ 0) × (refuses 0x06 2 ≡ 6) × (refuses 0x08 0 ≡ 6) × (refuses 0x08 1 ≡ 0) × (refuses 0x08 7 ≡ 0) × (refuses 0x08 8 ≡ 6)
+pub ranges-met : (refuses 0x02 0 ≡ 0) × (refuses 0x02 255 ≡ 0) × (refuses 0x02 256 ≡ 6) × (refuses 0x03 0 ≡ 0) × (refuses 0x03 7 ≡ 0) × (refuses 0x03 8 ≡ 6) × (refuses 0x03 256 ≡ 6)
+    × (refuses 0x05 0 ≡ 6) × (refuses 0x05 1 ≡ 0) × (refuses 0x05 65535 ≡ 0) × (refuses 0x05 65536 ≡ 6) × (refuses 0x06 0 ≡ 0) × (refuses 0x06 1 ≡ 0) × (refuses 0x06 2 ≡ 6)
 unfolding refusal legal legalCore legalJob legalFrame isEmpty isBlank permitted fresh knownKind knownIn kindRow kindRowIn
 ranges-met = (refl, refl, refl, refl, refl, refl, refl, refl, refl, refl, refl, refl, refl, refl)
 
--- a kind without a body takes any number for one, and no number beside 1 to 8 is a kind (RULES, Events)
-pub bodiless-met : (body : ℕ) → (refuses 0x01 body ≡ 0) × (refuses 0x03 body ≡ 0) × (refuses 0x04 body ≡ 0) × (refuses 0x07 body ≡ 0) × (refuses 0x00 body ≡ 5) × (refuses 0x09 body ≡ 5) × (refuses 0x101 body ≡ 5)
+-- a kind without a body takes any number for one, and no number beside 1 to 7 is a kind (RULES, Events)
+pub bodiless-met : (body : ℕ) → (refuses 0x01 body ≡ 0) × (refuses 0x04 body ≡ 0) × (refuses 0x07 body ≡ 0) × (refuses 0x00 body ≡ 5) × (refuses 0x08 body ≡ 5) × (refuses 0x09 body ≡ 5) × (refuses 0x103 body ≡ 5)
 unfolding refusal legal legalCore legalJob legalFrame isEmpty isBlank permitted fresh knownKind knownIn kindRow kindRowIn
 bodiless-met body = (refl, refl, refl, refl, refl, refl, refl)
 
+-- a deselect on the byte boundary, and one with three bits loose
+abbrev clean : List ℕ
+clean = DESELECT ∷ 0 ∷ []
+
+abbrev loose : List ℕ
+loose = DESELECT ∷ 3 ∷ []
+
 -- `run-refused-when`: so does each number of a run; 65,537 ticks are too many bytes, and a deselect needs three of output
-pub run-refusals-met : (Run.refusal (fresh 0x00) 65537 0 [] 0 .number ≡ 1) × (Run.refusal (fresh 0x00) 65536 257 [] 0 .number ≡ 13) × (Run.refusal counted-to-7 65536 0 [] 0 .number ≡ 2) × (Run.refusal (fresh 0x00) 65536 0 (replicate 65537 TICK) 0 .number ≡ 3) × (Run.refusal (fresh 0x00) 65536 0 (DESELECT ∷ []) 2 .number ≡ 7)
-    × (Run.refusal (fresh 0x00) 65536 256 (DESELECT ∷ []) 3 .number ≡ 0)
+pub run-refusals-met : (Run.refusal (fresh 0x00) 65537 0 [] 0 .number ≡ 1) × (Run.refusal (fresh 0x00) 65536 257 [] 0 .number ≡ 13) × (Run.refusal counted-to-7 65536 0 [] 0 .number ≡ 2) × (Run.refusal (fresh 0x00) 65536 0 (replicate 65537 TICK) 0 .number ≡ 3) × (Run.refusal (fresh 0x00) 65536 0 clean 2 .number ≡ 7)
+    × (Run.refusal (fresh 0x00) 65536 256 clean 3 .number ≡ 0)
 unfolding Run.refusal firstBad room eventsFrom walk faultAt legal legalCore legalJob legalFrame isEmpty isBlank permitted fresh knownKind knownIn kindRow kindRowIn
 run-refusals-met = (refl, refl, refl, refl, refl, refl)
 
--- the room of each kind of record: two bytes for an exchange, three for a deselect, clean or loose, though verdict 0 takes two of them (RULES, Records; Refusals)
-pub room-met : (Run.refusal (fresh 0x00) 65536 0 (EXCHANGE ∷ 0x00 ∷ []) 1 .number ≡ 7) × (Run.refusal (fresh 0x00) 65536 0 (EXCHANGE ∷ 0x00 ∷ []) 2 .number ≡ 0) × (Run.refusal (fresh 0x00) 65536 0 (LOOSE ∷ 1 ∷ []) 2 .number ≡ 7)
-    × (Run.refusal (fresh 0x00) 65536 0 (LOOSE ∷ 1 ∷ []) 3 .number ≡ 0) × ((m : List ℕ) → runs (setting 1 []) (events (DESELECT ∷ [])) (world (fresh 0x00) m [] 0) .written ≡ 0x82 ∷ 0 ∷ [])
+-- the room of each kind of record: two bytes for an exchange, three for a deselect, whatever its body, though verdict 0 takes two of them (RULES, Records; Refusals)
+pub room-met : (Run.refusal (fresh 0x00) 65536 0 (EXCHANGE ∷ 0x00 ∷ []) 1 .number ≡ 7) × (Run.refusal (fresh 0x00) 65536 0 (EXCHANGE ∷ 0x00 ∷ []) 2 .number ≡ 0) × (Run.refusal (fresh 0x00) 65536 0 loose 2 .number ≡ 7)
+    × (Run.refusal (fresh 0x00) 65536 0 loose 3 .number ≡ 0) × ((m : List ℕ) → runs (setting 1 []) (events clean) (world (fresh 0x00) m [] 0) .written ≡ 0x82 ∷ 0 ∷ [])
 unfolding Run.refusal runs applied firstBad room eventsFrom walk faultAt legal legalCore legalJob legalFrame isEmpty isBlank permitted fresh knownKind knownIn kindRow kindRowIn
 room-met = (refl, refl, refl, refl, λ m. refl)
 
 -- `pieces`, `first-bad-decides`: a script without a bad event, and one for each fault
-pub scripts-met : (firstBad (events (SELECT ∷ EXCHANGE ∷ 0x06 ∷ DESELECT ∷ [])) .number ≡ 0) × (firstBad (events (TICK ∷ EXCHANGE ∷ [])) .number ≡ 4) × (firstBad (events (TICK ∷ 9 ∷ [])) .number ≡ 5) × (firstBad (events (WP ∷ 2 ∷ [])) .number ≡ 6)
+pub scripts-met : (firstBad (events (SELECT ∷ EXCHANGE ∷ 0x06 ∷ clean)) .number ≡ 0) × (firstBad (events (TICK ∷ EXCHANGE ∷ [])) .number ≡ 4) × (firstBad (events (TICK ∷ 8 ∷ [])) .number ≡ 5) × (firstBad (events (WP ∷ 2 ∷ [])) .number ≡ 6)
 unfolding firstBad eventsFrom walk faultAt knownKind knownIn kindRow kindRowIn
 scripts-met = (refl, refl, refl, refl)
 
+-- what refuses a script, with its offset
+abbrev Bad : List ℕ → ℕ → ℕ → Type 0
+Bad s number offset = firstBad (events s) ≡ refusalOf number offset
+
+-- a deselect in a script: as the last byte 4, with eight bits 6, with seven good; 08h is 5, and as the last byte too; 03h 03h is one deselect; a script from before, without
+-- the bodies, ends inside its last deselect (RULES, Old scripts)
+pub deselects-met : Bad (TICK ∷ DESELECT ∷ []) 4 1 × Bad (TICK ∷ DESELECT ∷ 8 ∷ []) 6 1 × Bad (TICK ∷ DESELECT ∷ 7 ∷ []) 0 0 × Bad (TICK ∷ 8 ∷ 3 ∷ []) 5 1 × Bad (TICK ∷ 8 ∷ []) 5 1
+    × (length (events (DESELECT ∷ DESELECT ∷ [])) ≡ 1) × Bad (SELECT ∷ EXCHANGE ∷ 0x06 ∷ DESELECT ∷ SELECT ∷ EXCHANGE ∷ 0x05 ∷ EXCHANGE ∷ 0x00 ∷ DESELECT ∷ []) 4 9
+unfolding firstBad eventsFrom walk faultAt knownKind knownIn kindRow kindRowIn
+deselects-met = (refl, refl, refl, refl, refl, refl, refl)
+
+-- a write enable that ends loose is verdict 4, on the boundary 1; a status read is verdict 0 either way (RULES, Verdicts)
+abbrev says : List ℕ → List ℕ → List ℕ
+says s m = runs (setting 1 []) (events s) (world (fresh 0x00) m [] 0) .written
+
+pub loose-met : (m : List ℕ)
+    → (says (SELECT ∷ EXCHANGE ∷ 0x06 ∷ loose) m ≡ 0x80 ∷ 0x82 ∷ 4 ∷ []) × (says (SELECT ∷ EXCHANGE ∷ 0x06 ∷ clean) m ≡ 0x80 ∷ 0x82 ∷ 1 ∷ [])
+    × (says (SELECT ∷ EXCHANGE ∷ 0x05 ∷ loose) m ≡ 0x80 ∷ 0x82 ∷ 0 ∷ []) × (says (SELECT ∷ EXCHANGE ∷ 0x05 ∷ clean) m ≡ 0x80 ∷ 0x82 ∷ 0 ∷ [])
+unfolding runs applied exchanged taken judge rowOf rowIn fitsRule isRead isProgram verdict recordOf listed commandVerdict jobOf settled acted instantly heldAfter fresh eventsFrom walk faultAt knownKind knownIn kindRow kindRowIn
+loose-met m = (refl, refl, refl, refl)
+
 -- `room-cut`, `bad-first`: two pieces for which an output has room, one by one, and has none for the whole; a piece that ends in an event, which the next completes
-pub cut-met : (Run.refusal (fresh 0x00) 65536 0 (DESELECT ∷ []) 3 .number ≡ 0) × (Run.refusal (fresh 0x00) 65536 0 (DESELECT ∷ DESELECT ∷ []) 3 .number ≡ 7) × (firstBad (events (TICK ∷ EXCHANGE ∷ [])) .number ≡ 4) × (firstBad (events (TICK ∷ EXCHANGE ∷ 0x06 ∷ [])) .number ≡ 0)
+pub cut-met : (Run.refusal (fresh 0x00) 65536 0 clean 3 .number ≡ 0) × (Run.refusal (fresh 0x00) 65536 0 (clean ++ clean) 3 .number ≡ 7) × (firstBad (events (TICK ∷ EXCHANGE ∷ [])) .number ≡ 4) × (firstBad (events (TICK ∷ EXCHANGE ∷ 0x06 ∷ [])) .number ≡ 0)
 unfolding Run.refusal firstBad room eventsFrom walk faultAt legal legalCore legalJob legalFrame isEmpty isBlank permitted fresh knownKind knownIn kindRow kindRowIn
 cut-met = (refl, refl, refl, refl)
 
 -- the table of kinds, worked through on bytes: each kind once, its ticks 102h with the high byte first (RULES, Events)
 abbrev each-kind : List ℕ
-each-kind = 0x01 ∷ 0x02 ∷ 0x9F ∷ 0x03 ∷ 0x04 ∷ 0x05 ∷ 0x01 ∷ 0x02 ∷ 0x06 ∷ 0x01 ∷ 0x07 ∷ 0x08 ∷ 0x07 ∷ []
+each-kind = 0x01 ∷ 0x02 ∷ 0x9F ∷ 0x03 ∷ 0x07 ∷ 0x04 ∷ 0x05 ∷ 0x01 ∷ 0x02 ∷ 0x06 ∷ 0x01 ∷ 0x07 ∷ []
 
--- nothing is wrong with it; it has an exchange to say, of two bytes, and two deselects, of three each (RULES, Refusals)
-pub kinds-met : (firstBad (events each-kind) .number ≡ 0) × (room (events each-kind) ≡ 8) × (eventAt each-kind 5 .body ≡ 258)
+-- nothing is wrong with its seven events; it has an exchange to say, of two bytes, and a deselect, of three (RULES, Refusals)
+pub kinds-met : (firstBad (events each-kind) .number ≡ 0) × (length (events each-kind) ≡ 7) × (room (events each-kind) ≡ 5) × (eventAt each-kind 6 .body ≡ 258)
 unfolding firstBad room eventsFrom walk faultAt knownKind knownIn kindRow kindRowIn
-kinds-met = (refl, refl, refl)
+kinds-met = (refl, refl, refl, refl)
 
 -- ---- verdicts 1 and 2
 
@@ -147,9 +178,9 @@ asleep = withDeep true resting
 abbrev armed : Core → Core
 armed = withArmed true
 
--- on a memory of 65,536 cells a legal state with this core and a frame of that opcode and so many bytes; its clean deselect has this verdict
+-- on a memory of 65,536 cells a legal state with this core and a frame of that opcode and so many bytes; its deselect on the byte boundary has this verdict
 abbrev Gives : ℕ → Core → ℕ → ℕ → Type 0
-Gives number k opcode count = (legal (whole k (framed opcode count) blankLoad blankLoad) 65536 ≡ true) × (verdictOf 65536 k (framed opcode count) false ≡ number)
+Gives number k opcode count = (legal (whole k (framed opcode count) blankLoad blankLoad) 65536 ≡ true) × (verdictOf 65536 k (framed opcode count) 0 ≡ number)
 
 -- `DoneAtOnce`, `JobsBegun`: each command comes to its verdict 1 or 2 (RULES, Verdicts)
 abbrev At-once : Type 0

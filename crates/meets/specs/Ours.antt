@@ -1,6 +1,6 @@
 -- Ours, where nothing refuses: on a legal chip a good event does what the definitions say, and a row of them what `runs` says.
-use Prim.Native.Nat.{ℕ, _+_, _%_, _<_, _-_, min}
-use mathlib.Core.Bool.{Bool, true, false, cond}
+use Prim.Native.Nat.{ℕ, _+_, _<_, _-_, min}
+use mathlib.Core.Bool.{Bool, true, false, cond, false≢true}
 use mathlib.Core.List.{List, [], _∷_, _++_}
 use mathlib.Core.Path.{_≡_, refl, sym, ap, subst, _∙_}
 use native.Mathlib.Decide.{decLt}
@@ -18,12 +18,13 @@ use Rattle.chip.specs.Record.{recordBytes}
 use Rattle.legal.specs.Legal.{legal}
 use Rattle.legal.specs.Legality.{chip-facts, LegalCore}
 use Rattle.kinds.specs.Kinds.{kindRow, kindRowIn, knownKind, inRange}
+use Rattle.kinds.specs.Laws.{kind-each}
 use Rattle.job.specs.Tick.{worked, ticksLeft}
 use Rattle.job.specs.Laws.{worked-rest, worked-go, worked-over}
 use Rattle.job.specs.Legality.{running-job}
-use Rattle.event.specs.Event.{Outcome, exchangeByte, tick, setWp, applied}
+use Rattle.event.specs.Event.{Outcome, applied}
 use Rattle.event.specs.Alone.{bodyUsed, refusal, happens}
-use Rattle.event.specs.Laws.{applied-each, answer-done, memory-done, said-done}
+use Rattle.event.specs.Laws.{answer-done, memory-done, said-done}
 use Rattle.event.specs.Legality.{legal-applied}
 use Rattle.event.specs.Keeps.{length-applied, works-none}
 use Rattle.script.specs.Script.{Event}
@@ -41,28 +42,9 @@ told o = reply (o .chip) (o .memory) (recordBytes (o .said)) (o .ticks)
 -- an event uses its body as it is, or has none
 used-same : (T : Setting) (c : Chip) (m : List ℕ) (kind body : ℕ) → knownKind kind ≡ true → applied T c m kind (bodyUsed kind body) ≡ applied T c m kind body
 unfolding applied bodyUsed kindRow kindRowIn
-used-same T c m kind body known =
-    applied-each T c m kind (bodyUsed kind body) (λ (o : Outcome). o ≡ applied T c m kind body)
-    (λ e. sym (ap from e))
-    (λ e. ap (λ (k : ℕ). exchanges (bodyUsed k body)) e ∙ sym (ap from e))
-    (λ e. sym (ap from e))
-    (λ e. sym (ap from e))
-    (λ e. ap (λ (k : ℕ). ticks (bodyUsed k body)) e ∙ sym (ap from e))
-    (λ e. ap (λ (k : ℕ). levels (bodyUsed k body)) e ∙ sym (ap from e))
-    (λ e. sym (ap from e))
-    (λ e. sym (ap from (e known)))
-  where
-    from : ℕ → Outcome
-    from k = applied T c m k body
-
-    exchanges : ℕ → Outcome
-    exchanges b = exchangeByte T c m (b % 256)
-
-    ticks : ℕ → Outcome
-    ticks n = tick T c m n
-
-    levels : ℕ → Outcome
-    levels b = setWp c m b
+used-same T c m kind body =
+    kind-each (λ k. knownKind k ≡ true → applied T c m k (bodyUsed k body) ≡ applied T c m k body) (λ _. refl) (λ _. refl) (λ _. refl) (λ _. refl) (λ _. refl) (λ _. refl) (λ _. refl)
+    (λ k none known. absurd (false≢true (sym (none .not-known) ∙ known))) kind
 
 module _ (c : Chip) (m area : List ℕ) (fit : Fit c m area) (kind body : ℕ) (known : knownKind kind ≡ true) (ranged : inRange kind body ≡ true) where
   abbrev T : Setting

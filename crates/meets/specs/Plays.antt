@@ -40,7 +40,7 @@ pub plays-select : Plays (0x01 ∷ []) (event 0x01 0 ∷ [])
 unfolding eventsFrom walk firstBad faultAt knownKind knownIn kindRow kindRowIn runs room
 plays-select = record { clean = refl; asks = refl; goes = λ T w. refl }
 
-pub plays-deselect : Plays (0x03 ∷ []) (event 0x03 0 ∷ [])
+pub plays-deselect : Plays (0x03 ∷ 0x00 ∷ []) (event 0x03 0 ∷ [])
 unfolding eventsFrom walk firstBad faultAt knownKind knownIn kindRow kindRowIn runs room
 plays-deselect = record { clean = refl; asks = refl; goes = λ T w. refl }
 

@@ -1,7 +1,7 @@
 -- What can refuse a script that the program runs: one of at most 4,096 bytes, fresh from status 00h, on one sector with an empty area and 12,288 bytes of output
 -- (RULES, The program). Only 4, 5 and 6 can.
 use Prim.Native.Nat.{ℕ, zero, suc, _+_, _*_, _≤_}
-use mathlib.Core.Bool.{cond, _||_, true≢false}
+use mathlib.Core.Bool.{cond, true≢false}
 use mathlib.Core.List.{List, [], _∷_}
 use mathlib.Core.Path.{_≡_, sym, ap, _∙_}
 use native.Mathlib.Omega.{arith}
@@ -25,10 +25,10 @@ room-most s (suc fuel) at =
     cond-either (λ (es : List Event). roomNeeded es ≤ 3 * suc fuel) (leb (length s) at) [] (eventAt s at ∷ walk fuel s (nextAt s at)) (λ _. omega arith)
     (λ _. more (eventAt s at .kind) (room-most s fuel (nextAt s at)))
   where
-    more : (kind : ℕ) {rest : ℕ} → rest ≤ 3 * fuel → cond (eqb kind 0x02) 2 (cond (eqb kind 0x03 || eqb kind 0x08) 3 0) + rest ≤ 3 * suc fuel
+    more : (kind : ℕ) {rest : ℕ} → rest ≤ 3 * fuel → cond (eqb kind 0x02) 2 (cond (eqb kind 0x03) 3 0) + rest ≤ 3 * suc fuel
     more kind {rest} h =
         cond-either (λ (room : ℕ). room + rest ≤ 3 * suc fuel) (eqb kind 0x02) _ _ (λ _. omega arith)
-        (λ _. cond-either (λ (room : ℕ). room + rest ≤ 3 * suc fuel) (eqb kind 0x03 || eqb kind 0x08) _ _ (λ _. omega arith) (λ _. omega arith))
+        (λ _. cond-either (λ (room : ℕ). room + rest ≤ 3 * suc fuel) (eqb kind 0x03) _ _ (λ _. omega arith) (λ _. omega arith))
 
 -- so three times the script's length is room enough
 pub room-enough : (s : List ℕ) → roomNeeded (events s) ≤ 3 * length s

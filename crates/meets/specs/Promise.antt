@@ -378,8 +378,8 @@ exchanges-as (b ∷ bs) = ap (λ (s : List ℕ). 0x02 ∷ b ∷ s) (exchanges-as
 piece-as : (A : ℕ) (bs : List ℕ) → pieceScript (piece A bs) ≡ pageScript A bs
 unfolding exchangesOf
 piece-as A bs =
-    ap (λ (s : List ℕ). 0x01 ∷ 0x02 ∷ 0x06 ∷ 0x03 ∷ 0x01 ∷ 0x02 ∷ 0x02 ∷ 0x02 ∷ A / 65536 % 256 ∷ 0x02 ∷ A / 256 % 256 ∷ 0x02 ∷ A % 256 ∷ s)
-    (append-assoc (exchangesOf bs) (0x03 ∷ []) (0x05 ∷ 0x00 ∷ 0x10 ∷ []) ∙ ap (λ (s : List ℕ). s ++ (0x03 ∷ 0x05 ∷ 0x00 ∷ 0x10 ∷ [])) (exchanges-as bs))
+    ap (λ (s : List ℕ). 0x01 ∷ 0x02 ∷ 0x06 ∷ 0x03 ∷ 0x00 ∷ 0x01 ∷ 0x02 ∷ 0x02 ∷ 0x02 ∷ A / 65536 % 256 ∷ 0x02 ∷ A / 256 % 256 ∷ 0x02 ∷ A % 256 ∷ s)
+    (append-assoc (exchangesOf bs) (0x03 ∷ 0x00 ∷ []) (0x05 ∷ 0x00 ∷ 0x10 ∷ []) ∙ ap (λ (s : List ℕ). s ++ (0x03 ∷ 0x00 ∷ 0x05 ∷ 0x00 ∷ 0x10 ∷ [])) (exchanges-as bs))
 
 -- the script of some bytes is that of their first page, and that of the rest
 pages-as : (A : ℕ) (bs : List ℕ) → 0 < length bs

@@ -17,7 +17,7 @@ use Rattle.chip.specs.declared.Record.the-variants.{Nothing}
 use Rattle.legal.specs.Legal.{legal}
 use Rattle.kinds.specs.Kinds.{knownKind, inRange}
 use Rattle.kinds.specs.Body.{bodyAt, nextAt}
-use Rattle.kinds.specs.Laws.{yields-as, room-as}
+use Rattle.kinds.specs.Laws.{room-as}
 use Rattle.event.specs.Alone as Alone
 use Rattle.event.specs.Laws as EventLaws
 use Rattle.script.specs.Script.{Event, faultAt, eventAt, Refusal, refusalOf, events, eventsFrom, walk, firstBad, room}
@@ -193,12 +193,7 @@ pub room-needed : (es : List Event) → room es ≡ roomNeeded es
 unfolding room roomNeeded
 room-needed [] = refl
 room-needed (e ∷ es) =
-    ap (λ (n : ℕ). n + room es) (room-as (e .kind) ∙ ap (λ (b : Bool). cond b (cond (eqb (e .kind) 0x02) 2 3) 0) (yields-as (e .kind)) ∙ in-order (eqb (e .kind) 0x02) (eqb (e .kind) 0x03) (eqb (e .kind) 0x08))
-    ∙ ap (λ (n : ℕ). cond (eqb (e .kind) 0x02) 2 (cond (eqb (e .kind) 0x03 || eqb (e .kind) 0x08) 3 0) + n) (room-needed es)
-  where
-    in-order : (a b c : Bool) → _≡_ {A = ℕ} (cond (a || b || c) (cond a 2 3) 0) (cond a 2 (cond (b || c) 3 0))
-    in-order true b c = refl
-    in-order false b c = refl
+    ap (λ (n : ℕ). n + room es) (room-as (e .kind)) ∙ ap (λ (n : ℕ). cond (eqb (e .kind) 0x02) 2 (cond (eqb (e .kind) 0x03) 3 0) + n) (room-needed es)
 
 -- ---- a script run
 

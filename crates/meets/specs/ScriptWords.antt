@@ -38,13 +38,11 @@ kinds-in-numbers =
       length-05 = refl;
       length-06 = refl;
       length-07 = refl;
-      length-08 = refl;
       range-02 = upto 255;
+      range-03 = upto 7;
       range-05 = between 1 65535;
       range-06 = upto 1;
-      range-08 = between 1 7;
       any-01 = λ body. refl;
-      any-03 = λ body. refl;
       any-04 = λ body. refl;
       any-07 = λ body. refl;
     }

@@ -5,7 +5,7 @@ use mathlib.Core.Path.{_≡_, refl}
 use lib.ListN.{getD, replicate}
 use Rattle.part.specs.Part.{setting}
 use Rattle.part.specs.Area.{ownArea}
-use Rattle.kinds.specs.Kinds.{SELECT, TICK, LOOSE, knownIn, kindRowIn, knownKind, kindRow}
+use Rattle.kinds.specs.Kinds.{SELECT, DESELECT, TICK, knownIn, kindRowIn, knownKind, kindRow}
 use Rattle.commands.specs.Table.{rowOf, rowIn, fitsRule, isRead, isProgram}
 use Rattle.part.specs.Protection.{protectedCount, protectedSectors}
 use Rattle.chip.specs.Chip.{fresh}
@@ -88,7 +88,7 @@ Q5 =
     × (writtenOn 1 ownArea (erases ++ sfdpFrame 0x00 0x00 0x00 1) m ≡ begun ++ floats 6)
     × (writtenOn 1 ownArea (erases ++ (frame (0xB0 ∷ []) ++ sfdpFrame 0x00 0x00 0x00 1)) m ≡ begun ++ (0x80 ∷ 0x82 ∷ 1 ∷ floats 6))
     × (writtenOn 1 ownArea (erases ++ (frame (0xB0 ∷ []) ++ (TICK ∷ sfdpFrame 0x00 0x00 0x00 1))) m ≡ begun ++ (0x80 ∷ 0x82 ∷ 1 ∷ floats 7))
-    × (writtenOn 1 ownArea (SELECT ∷ (exchanges (0x5A ∷ 0x00 ∷ []) ++ (LOOSE ∷ 3 ∷ []))) m ≡ 0x80 ∷ 0x80 ∷ 0x82 ∷ 0 ∷ [])
+    × (writtenOn 1 ownArea (SELECT ∷ (exchanges (0x5A ∷ 0x00 ∷ []) ++ (DESELECT ∷ 3 ∷ []))) m ≡ 0x80 ∷ 0x80 ∷ 0x82 ∷ 0 ∷ [])
 
 q5 : Q5
 unfolding runs eventsFrom walk faultAt knownKind knownIn kindRow kindRowIn applied exchanged taken judge fresh rowOf rowIn isProgram verdict recordOf listed isRead commandVerdict jobVerdict jobOf fitsRule settled acted heldAfter instantly protectedSectors protectedCount ticksCore tickCore ownArea

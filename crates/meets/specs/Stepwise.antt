@@ -31,7 +31,7 @@ pub record UnderWay (T : Setting) (kind : JobKind) (start : ℕ) (held : List �
 -- no event of the list is a reset, a power cut or begins another job, each judged in the world that it finds
 unfoldable pub AllSpare : Setting → List Event → World → Type 0
 AllSpare T [] w = Unit {0}
-AllSpare T (e ∷ es) w = Spares T (w .chip) (e .kind) × AllSpare T es (onward T e w)
+AllSpare T (e ∷ es) w = Spares T (w .chip) (e .kind) (e .body) × AllSpare T es (onward T e w)
 
 -- the ticks among the events that found the job running: the working ticks of the run
 unfoldable pub workedBy : Setting → List Event → World → ℕ

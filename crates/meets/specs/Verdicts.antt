@@ -5,7 +5,7 @@ use mathlib.Core.List.{[], _∷_}
 use mathlib.Core.Path.{_≡_, refl, sym, ap, subst, _∙_}
 use native.Mathlib.Decide.{ℕ-discrete}
 use native.Mathlib.Omega.{arith}
-use lib.Dec.{eqb}
+use lib.Dec.{eqb, ltb}
 use borrow.Author.Tests.{ne-eqb}
 use Rattle.cells.specs.Choice.{cond-yes, cond-no, not-so}
 use Rattle.part.specs.Part.{permitted, sectorsIn, lengthOf, page, smallSector, sector, roundedDown}
@@ -15,11 +15,11 @@ use Rattle.commands.specs.Table.{rowOf, fitsRule, isRead, isProgram}
 use Rattle.chip.specs.declared.Core.{Core}
 use Rattle.chip.specs.declared.Frame.{Frame}
 use Rattle.chip.specs.Fields.{withArmed}
-use Rattle.chip.specs.Job.{isJob, hasCells}
+use Rattle.chip.specs.Job.{isJob}
 use Rattle.chip.specs.Chip.{running, suspendable}
 use Rattle.chip.specs.Record.{recordBytes}
 use Rattle.frame.specs.Frame.{judge}
-use Rattle.verdict.specs.Verdict.{jobOf, startOf, pointless, jobVerdict, commandVerdict, listed, verdict, recordOf}
+use Rattle.verdict.specs.Verdict.{jobOf, startOf, jobVerdict, commandVerdict, listed, verdict, recordOf}
 use Rattle.verdict.specs.Effect.{acted, settled}
 use Rattle.verdict.specs.Laws.{record-plain, record-nine}
 use Rattle.demands.specs.Demand2.{among, inOneSector, ofTheChip, changesCells, beginsJob, verdictOf, saysVerdict}
@@ -117,17 +117,17 @@ read-among : (opcode : ℕ) → isRead opcode ≡ among (0x05 ∷ 0x03 ∷ 0x0B 
 unfolding isRead
 read-among opcode = five-tests (eqb opcode 0x05) (eqb opcode 0x03) (eqb opcode 0x0B) (eqb opcode 0x9F) (eqb opcode 0x5A)
 
--- The verdict is the judgement, or the first of the list that applies.
-pub verdict-as : (n : ℕ) (k : Core) (f : Frame) (loose : Bool) → permitted n ≡ true → verdict (sectorsIn n) k f loose ≡ verdictOf n k f loose
+-- The verdict is the judgement, or the first of the list that applies; it is loose if some bits of a byte had gone in.
+pub verdict-as : (n : ℕ) (k : Core) (f : Frame) (bits : ℕ) → permitted n ≡ true → verdict (sectorsIn n) k f (ltb 0 bits) ≡ verdictOf n k f bits
 unfolding verdict listed commandVerdict judge
-verdict-as n k f loose p =
+verdict-as n k f bits p =
     ap (λ (v : ℕ). cond (eqb (f .count) 0) 0 (cond (not (eqb (f .judgement) 0)) (f .judgement) v))
     (ap (above (isRead (f .opcode)) suspendless) (job-part n p k (f .address) (f .opcode))
     ∙ ap (λ (i : Bool). above i suspendless (inList n p k (f .address) (f .opcode))) (read-among (f .opcode))
     ∙ ap (λ (s : Bool). above (among (0x05 ∷ 0x03 ∷ 0x0B ∷ 0x9F ∷ 0x5A ∷ []) (f .opcode)) s (inList n p k (f .address) (f .opcode))) (none-or-waits (eqb (f .opcode) 0xB0) (suspendable k) (k .waiting))
     ∙ go (rowOf (f .opcode) .known) (k .deep && not (eqb (f .opcode) 0xAB)) (running k && not (rowOf (f .opcode) .running)) (k .suspended && not (rowOf (f .opcode) .suspended))
     (eqb (f .opcode) 0xB0 && not (suspendable k)) (eqb (f .opcode) 0xB0 && k .waiting) (eqb (f .opcode) 0x30 && not (k .suspended)) (eqb (f .opcode) 0x99 && not (k .armed))
-    (among (0x05 ∷ 0x03 ∷ 0x0B ∷ 0x9F ∷ 0x5A ∷ []) (f .opcode)) (loose || not (fitsRule (rowOf (f .opcode) .rule) (f .count))) (inList n p k (f .address) (f .opcode)))
+    (among (0x05 ∷ 0x03 ∷ 0x0B ∷ 0x9F ∷ 0x5A ∷ []) (f .opcode)) (ltb 0 bits || not (fitsRule (rowOf (f .opcode) .rule) (f .count))) (inList n p k (f .address) (f .opcode)))
   where
     -- a suspend with nothing to act on: there is no program or erase running, or it waits already
     suspendless : Bool
@@ -143,7 +143,7 @@ verdict-as n k f loose p =
     above read suspends-none v =
         cond (not (eqb (judge k (f .opcode)) 0)) (judge k (f .opcode))
         (cond read 0
-        (cond (loose || not (fitsRule (rowOf (f .opcode) .rule) (f .count))) 4
+        (cond (ltb 0 bits || not (fitsRule (rowOf (f .opcode) .rule) (f .count))) 4
         (cond (suspends-none || eqb (f .opcode) 0x30 && not (k .suspended) || eqb (f .opcode) 0x99 && not (k .armed)) 11 v)))
 
     go : (a d r s p₀ p₁ p₂ p₃ i b : Bool) (v : ℕ)

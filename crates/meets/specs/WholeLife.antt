@@ -1,24 +1,26 @@
 -- A script that holds a job's whole life: the run's own memory is the job's whole image on the memory that the job found, its chip has no job, and its working ticks
 -- are those before and the job's steps. Of any runner over any model that meet the demands (`whole-life`), and of `script::run` (`script-whole-life`).
-use Prim.Native.Nat.{ℕ, _+_}
-use mathlib.Core.Bool.{Bool, true}
+use Prim.Native.Nat.{ℕ, _+_, _≤_}
+use mathlib.Core.Bool.{true}
 use mathlib.Core.List.{List, [], _∷_, _++_}
 use mathlib.Core.Path.{_≡_, refl, sym, ap, subst, _∙_}
 use native.Mathlib.Nat.{add-zero, zero-add, add-assoc}
 use lib.ListN.{length}
+use borrow.Author.Tests.{leb-true}
 use Rattle.part.specs.Part.{sectorsIn}
 use Rattle.chip.specs.declared.Chip.{Chip}
 use Rattle.chip.specs.declared.Job.{Job}
 use Rattle.chip.specs.Job.{total, wholeImage, noJob}
 use Rattle.chip.specs.Chip.{bitsOf}
 use Rattle.legal.specs.Legality.{chip-facts}
+use Rattle.kinds.specs.Kinds.{inRange}
+use Rattle.kinds.specs.Laws.{deselect-range}
 use Rattle.script.specs.Script.{Event, events}
 use Rattle.script.specs.declared.Ran.{Ran}
 use Rattle.script.specs.Run.{World, world}
 use Rattle.script.specs.Run as Run
-use Rattle.demands.specs.Model.{Model, ours, Good, AllGood, Fit, doesBy, onwardBy, runsBy, workingTicks, workedBy}
+use Rattle.demands.specs.Model.{Reply, Model, ours, event, Good, AllGood, Fit, doesBy, onwardBy, runsBy, workingTicks, workedBy}
 use Rattle.demands.specs.Demand1.{Demand1, RunReply, Runner, Demand1Run, ran, ourRun, runner-is-ours}
-use Rattle.demands.specs.Demand2.{Closing, on-a-byte, inside-a-byte}
 use Rattle.demands.specs.Demand3.{Started, UnderWay, AllSpare, bitsAfter, stepsOf, Outlook, Demand3}
 use Rattle.meets.specs.Ours.{finds-none}
 use Rattle.meets.specs.OursFrames.{runsBy-add}
@@ -33,8 +35,7 @@ jobIn w = w .chip .core .job
 
 -- from a world on: some events, then a deselect that begins a job, then events that spare it, with as many working ticks as it has steps
 pub record HoldsLife (M : Model) (area : List ℕ) (w : World) (before : List Event) (begins : Event) (life : List Event) : Type 0 where
-  pub loose : Bool
-  pub closing : Closing (begins .kind) (begins .body) loose
+  pub deselect : begins .kind ≡ 0x03
   pub selected : runsBy M area before w .chip .frame .selected ≡ true
   pub says-two : doesBy M area begins (runsBy M area before w) .says ≡ 0x82 ∷ 2 ∷ []
   pub spared : AllSpare M area life (onwardBy M area begins (runsBy M area before w))
@@ -76,12 +77,8 @@ module _ (M : Model) (kept : LegalityKept M) (D : Demand3 M) (area : List ℕ) w
       (rest .0, rest .1 ∙ ap (λ (n : ℕ). w .ticks + n + workedBy M area es next) (D .counts area e w fit (good .0)) ∙ add-assoc (w .ticks) _ _)
 
   -- a deselect has no working tick
-  closing-rests : (e : Event) (w : World) (loose : Bool) → Closing (e .kind) (e .body) loose → workingTicks w e ≡ 0
-  closing-rests e w loose h = go h
-    where
-      go : {kind body : ℕ} {loose : Bool} → Closing kind body loose → workingTicks w (record { offset = 0; kind = kind; body = body; fault = 0 }) ≡ 0
-      go (on-a-byte body) = finds-none (sectorsIn (length (w .memory))) (w .chip .core)
-      go (inside-a-byte bits least most) = finds-none (sectorsIn (length (w .memory))) (w .chip .core)
+  deselect-rests : (e : Event) (w : World) → e .kind ≡ 0x03 → workingTicks w e ≡ 0
+  deselect-rests e w is = ap (λ (kind : ℕ). workingTicks w (event kind (e .body))) is ∙ finds-none (sectorsIn (length (w .memory))) (w .chip .core)
 
   module _ (w : World) (fit : Fit (w .chip) (w .memory) area) (before : List Event) (begins : Event) (life : List Event) (good : AllGood (before ++ (begins ∷ life)))
       (h : HoldsLife M area w before begins life) where
@@ -111,7 +108,11 @@ module _ (M : Model) (kept : LegalityKept M) (D : Demand3 M) (area : List ℕ) w
 
     -- the job starts, stands at its step 0, and lives
     started : Started (w₀ .chip) (w₀ .memory) (doesBy M area begins w₀)
-    started = D .starts (w₀ .chip) (w₀ .memory) area (begins .kind) (begins .body) (h .loose) (record { fit = fit-found; selected = h .selected; closing = h .closing }) (h .says-two)
+    started =
+        let does : ℕ → Reply = λ kind. M (w₀ .chip) (w₀ .memory) area kind (begins .body) in
+        let few : begins .body ≤ 7 = leb-true _ _ (sym (deselect-range (begins .body)) ∙ ap (λ (kind : ℕ). inRange kind (begins .body)) (sym (h .deselect)) ∙ good-begins .0 .1) in
+        subst (λ (kind : ℕ). Started (w₀ .chip) (w₀ .memory) (does kind)) (sym (h .deselect))
+        (D .starts (w₀ .chip) (w₀ .memory) area (begins .body) (record { fit = fit-found; selected = h .selected; few = few }) (ap (λ (kind : ℕ). does kind .says) (sym (h .deselect)) ∙ h .says-two))
 
     under-way : UnderWay area (jobIn w₁ .kind) (jobIn w₁ .start) (w₁ .chip .held) 0 w₁
     under-way =
@@ -138,7 +139,7 @@ module _ (M : Model) (kept : LegalityKept M) (D : Demand3 M) (area : List ℕ) w
     life-ticks : w₂ .ticks ≡ w₀ .ticks + stepsOf (jobIn w₁ .kind) w₀
     life-ticks =
         row-kept life w₁ fit-begun (good-begins .1) .1
-        ∙ ap (λ (n : ℕ). w₀ .ticks + n + workedBy M area life w₁) (D .counts area begins w₀ fit-found (good-begins .0) ∙ closing-rests begins w₀ (h .loose) (h .closing))
+        ∙ ap (λ (n : ℕ). w₀ .ticks + n + workedBy M area life w₁) (D .counts area begins w₀ fit-found (good-begins .0) ∙ deselect-rests begins w₀ (h .deselect))
         ∙ ap (λ (n : ℕ). n + workedBy M area life w₁) (add-zero (w₀ .ticks))
         ∙ ap (λ (n : ℕ). w₀ .ticks + n) (h .all-ticks ∙ ap (λ (m : List ℕ). total (jobIn w₁ .kind) (sectorsIn (length m))) (started .cells-same))
 

@@ -28,11 +28,11 @@ use Rattle.script.specs.Script.{Event, faultAt, walk, eventsFrom, firstBad, roo
 use Rattle.script.specs.Run.{World, world}
 use Rattle.script.specs.Run as Run
 use Rattle.demands.specs.Model.{Model, ours, event, sends, address, AllGood, Fit, runsBy, workedBy}
-use Rattle.demands.specs.Demand1.{Demand1, roomNeeded, Demand1Run}
+use Rattle.demands.specs.Demand1.{Demand1, AllSound, roomNeeded, Demand1Run}
 use Rattle.demands.specs.Moments.{Demand2Gives, Demand2Does, Demand2Begins, Demand2LeavesWen, Demand2Reads, Demand2Loads, Demand2Stops, Demand2Status, Demand3Starts, Demand3At, Demand3End, Demand3Counts, Demand3Keeps, Demand3Reports}
-use Rattle.demands.specs.Demand2.{Ending, Quiet, Ready, AllInside, bytesOf, AllBytes, on-a-byte, SaysStatus}
+use Rattle.demands.specs.Demand2.{Ending, Quiet, Ready, AllInside, bytesOf, AllBytes, SaysStatus}
 use Rattle.demands.specs.Demand3.{Spares, AllSpare, one-tick, Spared}
-use Rattle.refuted.specs.Wrong.{ignoresAll, refusesEvents, refusesCommands, readsBlank, ticksIdle, wholeJobAtOnce, inventsTicks, laysFromPageStart, laysFromAddress, storesBytes, nineTenCostWen, spoiltLoads, answersLate, keepsNine, swapsEnds, endsLate, tellsTarget, chipEraseTellsAll, deselects, twoADeselect, suspendsAtOnce, waitUncounted, waitsTwo, showsSusEarly, suspendsTwice, markSurvivesReset, markSurvivesEnd, firstReads, firstLoads, secondLoads, secondWen, thirdErases, thirdSuspends}
+use Rattle.refuted.specs.Wrong.{ignoresAll, refusesEvents, refusesCommands, readsBlank, ticksIdle, wholeJobAtOnce, inventsTicks, laysFromPageStart, laysFromAddress, storesBytes, nineTenCostWen, spoiltLoads, answersLate, keepsNine, swapsEnds, endsLate, tellsTarget, chipEraseTellsAll, deselects, twoADeselect, suspendsAtOnce, waitUncounted, waitsTwo, showsSusEarly, suspendsTwice, markSurvivesReset, markSurvivesEnd, boundaryIsLoose, takesEight, cutsTheBody, knows08h, bodied, bodyUncounted, firstReads, firstLoads, secondLoads, secondWen, thirdErases, thirdSuspends}
 
 -- ---- the moments
 
@@ -106,8 +106,8 @@ fitting c x l = record { state-legal = ap (legal c) (length-cells x) ∙ l; area
     length-cells : (x : ℕ) → length (cells x) ≡ 65536
     length-cells x = refl
 
-ending : (c : Chip) → legal c 65536 ≡ true → c .frame .selected ≡ true → Ending c (cells 0) [] 0x03 0 false
-ending c l s = record { fit = fitting c 0 l; selected = s; closing = on-a-byte 0 }
+ending : (c : Chip) → legal c 65536 ≡ true → c .frame .selected ≡ true → Ending c (cells 0) [] 0
+ending c l s = record { fit = fitting c 0 l; selected = s; few = omega arith }
 
 quiet : (k : Core) → legal (unselected k) 65536 ≡ true → running k ≡ false → k .deep ≡ false → Quiet (unselected k) (cells 0) []
 quiet k l r d = record { fit = fitting (unselected k) 0 l; resting = r; awake = d; unselected = refl }
@@ -182,12 +182,12 @@ pub wrong-as-a-whole : WrongAsAWhole
 unfolding answerOf memoryOf saidOf happens refusal bodyUsed legal legalCore legalJob legalFrame isEmpty isBlank permitted knownKind knownIn kindRow kindRowIn applied exchanged taken judge rowOf rowIn isProgram verdict recordOf listed isRead commandVerdict jobVerdict jobOf fitsRule settled acted heldAfter instantly protectedSectors protectedCount ticksCore tickCore tickLoad ticksLoad tickMemory ticksMemory worked sweep image imageFrom runsBy workedBy AllGood AllSpare AllInside AllBytes bytesOf
 wrong-as-a-whole =
     record {
-      ignores-all = λ d. false≢true (ap (λ (k : Core). k .wen) (d .0 enabling (cells 0) [] 0x03 0 false (ending enabling refl refl) refl refl .0));
-      ignores-jobs = λ d. false≢true (ap (λ (k : Core). isJob (k .job .kind)) (d .1 .1 .1 .0 beginning (cells 0) [] 0x03 0 false (ending beginning refl refl) refl refl .0));
+      ignores-all = λ d. false≢true (ap (λ (k : Core). k .wen) (d .0 enabling (cells 0) [] 0 (ending enabling refl refl) refl refl .0));
+      ignores-jobs = λ d. false≢true (ap (λ (k : Core). isJob (k .job .kind)) (d .1 .1 .1 .0 beginning (cells 0) [] 0 (ending beginning refl refl) refl refl .0));
       refuses-events = λ d. absurd (false≢true (sym (d .numbers (unselected resting) (cells 0) [] 0x04 0 .five .0 refl .3)));
-      refuses-deselects = λ d. silent (d enabling (cells 0) [] 0x03 0 false (ending enabling refl refl) refl);
-      refuses-commands = λ d. absurd (omega (arith, second-byte (d enabling (cells 0) [] 0x03 0 false (ending enabling refl refl) refl)));
-      refuses-jobs = λ d. absurd (omega (arith, second-byte (d beginning (cells 0) [] 0x03 0 false (ending beginning refl refl) refl)));
+      refuses-deselects = λ d. silent (d enabling (cells 0) [] 0 (ending enabling refl refl) refl);
+      refuses-commands = λ d. absurd (omega (arith, second-byte (d enabling (cells 0) [] 0 (ending enabling refl refl) refl)));
+      refuses-jobs = λ d. absurd (omega (arith, second-byte (d beginning (cells 0) [] 0 (ending beginning refl refl) refl)));
       reads-blank = λ d. absurd (omega (arith, second-byte (d (unselected resting) (cells 0) [] (quiet resting refl refl refl) .low-power 0 (omega arith) .byte-driven [] tt 0 (omega arith))));
       ticks-idle = λ d. absurd (omega (arith, ap (λ (m : List ℕ). getD m 0 0) (d [] SmallErase 0 blankLoad 0 erasure (event 0x05 1 ∷ []) (erasure-ticked ticksIdle 1 refl refl) refl)));
       ticks-idle-image = λ d. absurd (omega (arith, ap (λ (m : List ℕ). getD m 0 0) (d [] SmallErase 0 blankLoad erasure (event 0x05 16 ∷ []) (erasure-ticked ticksIdle 16 refl refl) refl)));
@@ -217,7 +217,7 @@ abbrev spoiling : World
 spoiling = world (whole (withSuspended true programming) (sent 0x02 0 5) blankLoad low) (cells 0xF0) [] 0
 
 abbrev spoiled : List Event
-spoiled = event 0x08 3 ∷ event 0x01 0 ∷ event 0x02 0x30 ∷ event 0x03 0 ∷ event 0x05 1 ∷ []
+spoiled = event 0x03 3 ∷ event 0x01 0 ∷ event 0x02 0x30 ∷ event 0x03 0 ∷ event 0x05 1 ∷ []
 
 -- the bytes of the early read, and the tick that ends the job
 abbrev early : List Event
@@ -231,8 +231,8 @@ look-right =
       lays-from-page-start = λ d. absurd (omega (arith, d (unselected enabled) (cells 0) [] ready refl .program 0x02 250 0 (counted 1 259) refl refl (omega arith) (all-bytes 0 260) refl .1 .last-stay 4 (omega arith) (omega arith)));
       lays-from-address = λ d. absurd (omega (arith, d (unselected enabled) (cells 0) [] ready refl .program 0x02 250 0 (counted 1 259) refl refl (omega arith) (all-bytes 0 260) refl .1 .last-stay 4 (omega arith) (omega arith)));
       stores-bytes = λ d. absurd (omega (arith, ap (λ (m : List ℕ). getD m 0 0) (d [] Program 0 low 0 program (event 0x05 1 ∷ []) (program-ticked storesBytes 1 refl refl) refl)));
-      nine-costs-wen = λ d. false≢true (d (protected 0x20 4) (cells 0) [] 0x03 0 false (ending (protected 0x20 4) refl refl) refl);
-      ten-costs-wen = λ d. false≢true (d locked (cells 0) [] 0x03 0 false (ending locked refl refl) refl);
+      nine-costs-wen = λ d. false≢true (d (protected 0x20 4) (cells 0) [] 0 (ending (protected 0x20 4) refl refl) refl);
+      ten-costs-wen = λ d. false≢true (d locked (cells 0) [] 0 (ending locked refl refl) refl);
       spoilt-loads = λ d. absurd (omega (arith, ap (λ (m : List ℕ). getD m 0 0) (d [] Program 0 low 0 spoiling spoiled spoiled-spared refl)));
       answers-late = λ d. absurd (omega (arith, first-byte (d (unselected (erasing 15)) (cells 0) [] 0x03 (fitting (unselected (erasing 15)) 0 refl) refl (omega arith) (λ e. omega (arith, e)) early inside .0 0 (omega arith))));
     }
@@ -272,8 +272,8 @@ all-protected = within (withLevel 2 enabled) (sent 0x20 0x010000 4)
 abbrev top-protected : Chip
 top-protected = within (withLevel 1 enabled) (sent 0x60 0 1)
 
-ending-there : (c : Chip) → legal c 131072 ≡ true → c .frame .selected ≡ true → Ending c two-sectors [] 0x03 0 false
-ending-there c l s = record { fit = record { state-legal = ap (legal c) long ∙ l; area-short = omega arith }; selected = s; closing = on-a-byte 0 }
+ending-there : (c : Chip) → legal c 131072 ≡ true → c .frame .selected ≡ true → Ending c two-sectors [] 0
+ending-there c l s = record { fit = record { state-legal = ap (legal c) long ∙ l; area-short = omega arith }; selected = s; few = omega arith }
   where
     long : length two-sectors ≡ 131072
     long = refl
@@ -294,12 +294,12 @@ pub in-the-way : InTheWay
 unfolding answerOf memoryOf saidOf happens refusal bodyUsed legal legalCore legalJob legalFrame isEmpty isBlank permitted knownKind knownIn kindRow kindRowIn applied exchanged taken judge rowOf rowIn isProgram verdict recordOf listed isRead commandVerdict jobVerdict jobOf fitsRule settled acted heldAfter instantly protectedSectors protectedCount ticksCore tickCore tickLoad ticksLoad tickMemory ticksMemory worked sweep image imageFrom runsBy workedBy AllGood AllSpare AllInside AllBytes bytesOf deselects Run.answerOf Run.refusal firstBad room roomNeeded eventsFrom walk faultAt
 in-the-way =
     record {
-      keeps-nine = λ d. absurd (omega (arith, first-byte (d all-protected two-sectors [] 0x03 0 false (ending-there all-protected refl refl) refl)));
-      swaps-ends = λ d. absurd (omega (arith, second-of-three (d all-protected two-sectors [] 0x03 0 false (ending-there all-protected refl refl) refl)));
-      ends-late = λ d. absurd (omega (arith, third-byte (d all-protected two-sectors [] 0x03 0 false (ending-there all-protected refl refl) refl)));
-      tells-target = λ d. absurd (omega (arith, second-of-three (d all-protected two-sectors [] 0x03 0 false (ending-there all-protected refl refl) refl)));
-      chip-erase-tells-all = λ d. absurd (omega (arith, second-of-three (d top-protected two-sectors [] 0x03 0 false (ending-there top-protected refl refl) refl)));
-      two-a-deselect = λ d. absurd (omega (arith, d .numbers (unselected resting) (cells 0) [] (0x03 ∷ []) (0 ∷ 0 ∷ []) .none .0 refl .2));
+      keeps-nine = λ d. absurd (omega (arith, first-byte (d all-protected two-sectors [] 0 (ending-there all-protected refl refl) refl)));
+      swaps-ends = λ d. absurd (omega (arith, second-of-three (d all-protected two-sectors [] 0 (ending-there all-protected refl refl) refl)));
+      ends-late = λ d. absurd (omega (arith, third-byte (d all-protected two-sectors [] 0 (ending-there all-protected refl refl) refl)));
+      tells-target = λ d. absurd (omega (arith, second-of-three (d all-protected two-sectors [] 0 (ending-there all-protected refl refl) refl)));
+      chip-erase-tells-all = λ d. absurd (omega (arith, second-of-three (d top-protected two-sectors [] 0 (ending-there top-protected refl refl) refl)));
+      two-a-deselect = λ d. absurd (omega (arith, d .numbers (unselected resting) (cells 0) [] (0x03 ∷ 0x00 ∷ []) (0 ∷ 0 ∷ []) .none .0 refl .2));
     }
   where
     second-of-three : {t t′ a a′ b b′ : ℕ} → t ∷ a ∷ b ∷ [] ≡ t′ ∷ a′ ∷ b′ ∷ [] → a ≡ a′
@@ -339,17 +339,42 @@ pub the-wait : TheWait
 unfolding answerOf memoryOf saidOf happens refusal bodyUsed legal legalCore legalJob legalFrame isEmpty isBlank permitted knownKind knownIn kindRow kindRowIn applied exchanged taken judge rowOf rowIn isProgram verdict recordOf listed isRead commandVerdict jobVerdict jobOf fitsRule settled acted heldAfter instantly protectedSectors protectedCount ticksCore tickCore tickLoad ticksLoad tickMemory ticksMemory worked sweep image imageFrom runsBy workedBy AllGood AllSpare AllInside AllBytes bytesOf statusByte
 the-wait =
     record {
-      suspends-at-once = λ d. false≢true (ap (λ (k : Core). k .waiting) (d .1 .1 .0 suspending (cells 0) [] 0x03 0 false (ending suspending refl refl) refl refl .0));
+      suspends-at-once = λ d. false≢true (ap (λ (k : Core). k .waiting) (d .1 .1 .0 suspending (cells 0) [] 0 (ending suspending refl refl) refl refl .0));
       wait-uncounted = λ d. absurd (omega (arith, d [] (event 0x05 1) (world (unselected (waiting 1)) (cells 0) [] 0) (fitting (unselected (waiting 1)) 0 refl) (refl, refl)));
       waits-two = λ d. absurd (omega (arith, d [] (event 0x05 2) (world (unselected (waiting 1)) (cells 0) [] 0) (fitting (unselected (waiting 1)) 0 refl) (refl, refl)));
       shows-sus-early = λ d. sus-shown (d (unselected (waiting 1)) (cells 0) [] (fitting (unselected (waiting 1)) 0 refl) refl refl [] tt 0 (omega arith) .1);
-      suspends-twice = λ d. absurd (omega (arith, second-byte (d suspending-twice (cells 0) [] 0x03 0 false (ending suspending-twice refl refl) refl)));
-      mark-survives-reset = λ d. false≢true (sym (ap (λ (k : Core). k .waiting) (d .1 .1 .1 .1 .1 .1 .1 .0 resetting (cells 0) [] 0x03 0 false (ending resetting refl refl) refl refl .0)));
+      suspends-twice = λ d. absurd (omega (arith, second-byte (d suspending-twice (cells 0) [] 0 (ending suspending-twice refl refl) refl)));
+      mark-survives-reset = λ d. false≢true (sym (ap (λ (k : Core). k .waiting) (d .1 .1 .1 .1 .1 .1 .1 .0 resetting (cells 0) [] 0 (ending resetting refl refl) refl refl .0)));
       mark-survives-end = λ d. false≢true (sym (d (unselected (waiting 15)) (cells 0) [] 0x04 0 1 (fitting (unselected (waiting 15)) 0 refl) (one-tick 0) .wait-over));
     }
   where
     sus-shown : SaysStatus (waiting 1) (0x81 ∷ 67 ∷ []) → ⊥
     sus-shown s = absurd (omega (arith, second-byte (s .driven), s .bits .sus))
+
+-- ---- wrong deselects
+
+pub record TheDeselect : Type 0 where
+  -- a write enable that ends on the byte boundary gets verdict 4 and not 1
+  pub boundary-is-loose : Demand2Gives 1 boundaryIsLoose → ⊥
+  -- eight bits are no refusal, and 256 are none
+  pub takes-eight : Demand1 takesEight → ⊥
+  pub cuts-the-body : Demand1 cutsTheBody → ⊥
+  -- 08h with three bits is done
+  pub knows-08h : Demand1 knows08h → ⊥
+  -- a script that is one 03h is done
+  pub body-uncounted : Demand1Run ours bodyUncounted → ⊥
+
+-- The demands refute them.
+pub the-deselect : TheDeselect
+unfolding answerOf memoryOf saidOf happens refusal bodyUsed legal legalCore legalJob legalFrame isEmpty isBlank permitted knownKind knownIn kindRow kindRowIn applied rowOf rowIn verdict recordOf listed isRead fitsRule judge AllSound bodied Run.answerOf Run.refusal firstBad room eventsFrom walk faultAt
+the-deselect =
+    record {
+      boundary-is-loose = λ d. absurd (omega (arith, second-byte (d enabling (cells 0) [] 0 (ending enabling refl refl) refl)));
+      takes-eight = λ d. false≢true (d .numbers (unselected resting) (cells 0) [] 0x03 8 .none .0 refl .4);
+      cuts-the-body = λ d. false≢true (d .numbers (unselected resting) (cells 0) [] 0x03 256 .none .0 refl .4);
+      knows-08h = λ d. false≢true (d .numbers (unselected resting) (cells 0) [] 0x08 3 .none .0 refl .3);
+      body-uncounted = λ d. absurd (omega (arith, d .numbers (unselected resting) (cells 0) [] (0x03 ∷ []) (0 ∷ 0 ∷ 0 ∷ []) .none .0 refl .1 .0 .whole));
+    }
 
 -- ---- our three earlier versions
 
@@ -372,7 +397,7 @@ earlier-versions =
       first-reads = λ d. absurd (omega (arith, second-byte (d (unselected resting) (cells 0) [] (quiet resting refl refl refl) .low-power 65535 (omega arith) .byte-driven (event 0x02 0 ∷ []) (((refl, refl), refl), tt) 0 (omega arith))));
       first-loads = λ d. absurd (omega (arith, d (unselected enabled) (cells 0) [] ready refl .program 0x02 255 1 (2 ∷ []) refl refl (omega arith) (omega arith, (omega arith, tt)) refl .1 .last-stay 1 (omega arith) (omega arith)));
       second-loads = λ d. absurd (omega (arith, d (unselected enabled) (cells 0) [] ready refl .program 0x02 250 0 (counted 1 259) refl refl (omega arith) (all-bytes 0 260) refl .1 .last-stay 256 (omega arith) (omega arith)));
-      second-wen = λ d. false≢true (d (protected 0x02 5) (cells 0) [] 0x03 0 false (ending (protected 0x02 5) refl refl) refl);
-      third-erases = λ d. false≢true (d beginning (cells 0) [] 0x03 0 false (ending beginning refl refl) refl .a-job);
-      third-suspends = λ d. absurd (omega (arith, second-byte (d suspending (cells 0) [] 0x03 0 false (ending suspending refl refl) refl)));
+      second-wen = λ d. false≢true (d (protected 0x02 5) (cells 0) [] 0 (ending (protected 0x02 5) refl refl) refl);
+      third-erases = λ d. false≢true (d beginning (cells 0) [] 0 (ending beginning refl refl) refl .a-job);
+      third-suspends = λ d. absurd (omega (arith, second-byte (d suspending (cells 0) [] 0 (ending suspending refl refl) refl)));
     }

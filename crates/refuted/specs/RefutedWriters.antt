@@ -24,7 +24,7 @@ use Rattle.writer.specs.Writer.{cut, pieces, exchangesOf, scriptOf}
 use Rattle.demands.specs.Demand1.{ourRun}
 use Rattle.demands.specs.Demand2.{AllBytes, Ready}
 use Rattle.demands.specs.Programming.{Programmable, Programs}
-use Rattle.refuted.specs.WrongWriters.{overTheEdge, butLast, losesTheLast, tooShort, fifteenTicks, allAt, addressStays, withAllLeft, bytesBeyond, enablesForNone}
+use Rattle.refuted.specs.WrongWriters.{overTheEdge, butLast, losesTheLast, tooShort, fifteenTicks, bodiless, leavesBodiesOut, allAt, addressStays, withAllLeft, bytesBeyond, enablesForNone}
 
 -- ---- the moment
 
@@ -70,6 +70,8 @@ pub record WrongWriters : Type 0 where
   pub address-stays : Programs addressStays ourRun → ⊥
   -- the last step of the page is not done: cell 255 is as it was
   pub fifteen-ticks : Programs fifteenTicks ourRun → ⊥
+  -- the run ends at a byte that is no kind: cell 255 is as it was
+  pub leaves-bodies-out : Programs leavesBodiesOut ourRun → ⊥
   -- the first page takes the second byte too: cell 0 is not as it was
   pub bytes-beyond : Programs bytesBeyond ourRun → ⊥
   -- no bytes, and yet a script
@@ -77,13 +79,14 @@ pub record WrongWriters : Type 0 where
 
 -- The promise refutes them.
 pub wrong-writers : WrongWriters
-unfolding fresh memoryOf worldAfter refusal legal legalCore legalJob legalFrame isEmpty isBlank permitted knownKind knownIn kindRow kindRowIn applied exchanged taken judge rowOf rowIn isProgram verdict recordOf listed isRead commandVerdict jobVerdict jobOf fitsRule settled acted heldAfter instantly protectedSectors protectedCount ticksCore tickCore tickLoad ticksLoad tickMemory ticksMemory worked sweep runs firstBad room eventsFrom walk faultAt cut pieces exchangesOf scriptOf butLast tooShort allAt withAllLeft
+unfolding fresh memoryOf worldAfter refusal legal legalCore legalJob legalFrame isEmpty isBlank permitted knownKind knownIn kindRow kindRowIn applied exchanged taken judge rowOf rowIn isProgram verdict recordOf listed isRead commandVerdict jobVerdict jobOf fitsRule settled acted heldAfter instantly protectedSectors protectedCount ticksCore tickCore tickLoad ticksLoad tickMemory ticksMemory worked sweep runs firstBad room eventsFrom walk faultAt cut pieces exchangesOf scriptOf butLast tooShort bodiless allAt withAllLeft
 wrong-writers =
     record {
       over-the-edge = λ d. absurd (omega (arith, d .programs chip blank [] 0xFF (0 ∷ 0 ∷ []) output two-bytes (omega arith) .cells-and 1 (omega arith)));
       loses-the-last = λ d. absurd (omega (arith, d .programs chip blank [] 0xFF (0 ∷ 0 ∷ []) output two-bytes (omega arith) .cells-and 1 (omega arith)));
       address-stays = λ d. absurd (omega (arith, d .programs chip blank [] 0xFF (0 ∷ 0 ∷ []) output two-bytes (omega arith) .cells-and 1 (omega arith)));
       fifteen-ticks = λ d. absurd (omega (arith, d .programs chip blank [] 0xFF (0 ∷ []) output one-byte (omega arith) .cells-and 0 (omega arith)));
+      leaves-bodies-out = λ d. absurd (omega (arith, d .programs chip blank [] 0xFF (0 ∷ []) output one-byte (omega arith) .cells-and 0 (omega arith)));
       bytes-beyond = λ d. absurd (omega (arith, d .programs chip blank [] 0xFF (0 ∷ 0 ∷ []) output two-bytes (omega arith) .others-same 0 (inl (omega arith))));
       enables-for-none = λ d. absurd (omega (arith, ap length (d .none-for-none 0)));
     }

@@ -2,10 +2,11 @@
 use Prim.Native.Nat.{ℕ, zero, suc, _+_, _*_, _/_, _%_, _-_, min}
 use mathlib.Core.Bool.{Bool, true, false, cond, not, _&&_, _||_}
 use mathlib.Core.List.{List, [], _∷_, _++_}
-use lib.Dec.{eqb, ltb}
+use lib.Dec.{eqb, ltb, leb}
 use lib.ListN.{length, getD, take, replicate}
 use Rattle.cells.specs.Cells.{Rule, sweep, later}
 use Rattle.part.specs.Part.{sectorsIn}
+use Rattle.kinds.specs.Kinds.{bodyLength}
 use Rattle.chip.specs.declared.Chip.{Chip}
 use Rattle.chip.specs.declared.Core.{Core}
 use Rattle.chip.specs.declared.Job.{Job}
@@ -18,7 +19,7 @@ use Rattle.script.specs.declared.Ran.{Ran}
 use Rattle.script.specs.Script.{Event, events}
 use Rattle.script.specs.Run.{answerOf, memoryOf, outputOf}
 use Rattle.demands.specs.Model.{Reply, Model, ours}
-use Rattle.demands.specs.Demand1.{Runner}
+use Rattle.demands.specs.Demand1.{Runner, ourRun}
 
 -- ---- how a model is changed
 
@@ -216,7 +217,7 @@ chipEraseTellsAll = tells (λ c m says. cond (ofChip c) (0x83 ∷ 0 ∷ (sectors
 -- a run that asks for two bytes of output a deselect: for one byte less each than ours
 unfoldable pub deselects : List Event → ℕ
 deselects [] = 0
-deselects (e ∷ es) = cond (eqb (e .kind) 0x03 || eqb (e .kind) 0x08) 1 0 + deselects es
+deselects (e ∷ es) = cond (eqb (e .kind) 0x03) 1 0 + deselects es
 
 abbrev pub twoADeselect : Runner
 twoADeselect c m area s out =
@@ -282,6 +283,37 @@ abbrev pub markSurvivesEnd : Model
 markSurvivesEnd =
     except (λ c kind says. onWait c kind)
     (λ c m area kind body. let r : Reply = ours c m area kind body in cond (isJob (r .chip .core .job .kind)) r (marked r))
+
+-- ---- wrong deselects
+
+-- ours with another body at 03h
+abbrev pub deselecting : (ℕ → ℕ) → Model
+deselecting other c m area kind body = ours c m area kind (cond (eqb kind 0x03) (other body) body)
+
+-- the byte boundary is taken for one loose bit
+abbrev pub boundaryIsLoose : Model
+boundaryIsLoose = deselecting (λ bits. cond (eqb bits 0) 1 bits)
+
+-- eight loose bits are accepted
+abbrev pub takesEight : Model
+takesEight = deselecting (λ bits. cond (eqb bits 8) 7 bits)
+
+-- of a large body the low byte is looked at
+abbrev pub cutsTheBody : Model
+cutsTheBody = deselecting (λ bits. bits % 256)
+
+-- 08h with 1 to 7 bits is still a loose deselect
+abbrev pub knows08h : Model
+knows08h c m area kind body = ours c m area (cond (eqb kind 0x08 && leb 1 body && leb body 7) 0x03 kind) body
+
+-- a run that takes 03h for an event of one byte: a 00h is put in behind each of them; the number says how many bytes of a body are still to come
+unfoldable pub bodied : ℕ → List ℕ → List ℕ
+bodied n [] = []
+bodied zero (kind ∷ s) = kind ∷ cond (eqb kind 0x03) (0 ∷ bodied 0 s) (bodied (bodyLength kind) s)
+bodied (suc n) (b ∷ s) = b ∷ bodied n s
+
+abbrev pub bodyUncounted : Runner
+bodyUncounted c m area s out = ourRun c m area (bodied 0 s) out
 
 -- ---- our three earlier versions
 

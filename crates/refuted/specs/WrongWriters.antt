@@ -5,7 +5,8 @@ use mathlib.Core.List.{List, [], _∷_, _++_}
 use lib.Dec.{eqb}
 use lib.ListN.{length, drop}
 use Rattle.commands.specs.Table.{writeEnable, pageProgram}
-use Rattle.writer.specs.Writer.{Piece, piece, pieces, frameOf, addressBytes, ticksOf, scriptOf, programScript}
+use Rattle.kinds.specs.Kinds.{SELECT, DESELECT}
+use Rattle.writer.specs.Writer.{Piece, piece, pieces, exchangesOf, frameOf, addressBytes, ticksOf, programTicks, scriptOf, programScript}
 use Rattle.demands.specs.Programming.{Writer}
 
 -- some bytes in one piece, over page edges
@@ -28,6 +29,17 @@ tooShort (p ∷ ps) = frameOf (writeEnable ∷ []) ++ frameOf (pageProgram ∷ (
 
 abbrev pub fifteenTicks : Writer
 fifteenTicks A bs = tooShort (pieces A bs)
+
+-- a deselect without its body
+abbrev pub unclosed : List ℕ → List ℕ
+unclosed bs = SELECT ∷ (exchangesOf bs ++ (DESELECT ∷ []))
+
+unfoldable pub bodiless : List Piece → List ℕ
+bodiless [] = []
+bodiless (p ∷ ps) = unclosed (writeEnable ∷ []) ++ unclosed (pageProgram ∷ (addressBytes (p .address) ++ p .bytes)) ++ ticksOf programTicks ++ bodiless ps
+
+abbrev pub leavesBodiesOut : Writer
+leavesBodiesOut A bs = bodiless (pieces A bs)
 
 -- every piece at the address of the first
 unfoldable pub allAt : ℕ → List Piece → List Piece

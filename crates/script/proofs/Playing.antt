@@ -61,7 +61,7 @@ module _ {T : Setting} {s : List ℕ} {c₀ : Chip} {m₀ out₀ : List ℕ} {c 
     -- and its record finds room
     pub finds-room : (o : Outcome) → o ≡ applied T c m (getD s at 0) (bodyAt s at) → pos + length (recordBytes (o .said)) ≤ length out
     finds-room o e =
-        let r : length (recordBytes (applied T c m (getD s at 0) (bodyAt s at) .said)) ≤ roomOf (getD s at 0) = said-room T c m (getD s at 0) (bodyAt s at) (good .known) in
+        let r : length (recordBytes (applied T c m (getD s at 0) (bodyAt s at) .said)) ≤ roomOf (getD s at 0) = said-room T c m (getD s at 0) (bodyAt s at) in
         let q : length (recordBytes (o .said)) ≡ length (recordBytes (applied T c m (getD s at 0) (bodyAt s at) .said)) = ap (λ (x : Outcome). length (recordBytes (x .said))) e in
         omega (arith, i .fits, room-more s at more)
 
@@ -84,7 +84,7 @@ module _ {T : Setting} {s : List ℕ} {c₀ : Chip} {m₀ out₀ : List ℕ} {c 
               ∙ drop-drop k pos out₀
               ∙ ap (λ (q : ℕ). drop q out₀) (sym (st .end));
           fits =
-              let r : length (recordBytes (applied T c m (getD s at 0) (bodyAt s at) .said)) ≤ roomOf (getD s at 0) = said-room T c m (getD s at 0) (bodyAt s at) (good .known) in
+              let r : length (recordBytes (applied T c m (getD s at 0) (bodyAt s at) .said)) ≤ roomOf (getD s at 0) = said-room T c m (getD s at 0) (bodyAt s at) in
               let q : length (recordBytes (o .said)) ≡ length (recordBytes (applied T c m (getD s at 0) (bodyAt s at) .said)) = ap (λ (x : Outcome). length (recordBytes (x .said))) e in
               omega (arith, i .fits, room-more s at more, st .end);
           memory = lm ∙ i .memory;

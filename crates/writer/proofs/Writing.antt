@@ -57,7 +57,7 @@ module _ {A : ℕ} {bs t₀ t : List ℕ} {p done : ℕ} (w : Writing A bs t₀ 
         ∙ ap (λ (rest : List ℕ). pieceScript (piece (A + done) front) ++ programScript (A + next) rest) (drop-drop (next - done) done bs ∙ ap (λ (k : ℕ). drop k bs) there)
 
     -- and have room where the whole script has
-    pub piece-fits : scriptLength A (length bs) ≤ length t₀ → p + (17 + 2 * length front) ≤ length t
+    pub piece-fits : scriptLength A (length bs) ≤ length t₀ → p + (19 + 2 * length front) ≤ length t
     piece-fits fit =
         omega
         (arith, left .end, same-room, length-script A bs, ap length piece-first, length-append (pieceScript (piece (A + done) front)) (programScript (A + next) (drop next bs)), length-piece (piece (A + done) front))

@@ -11,8 +11,8 @@ use lib.Seq.{take-suc, take-all}
 use borrow.Author.Tests.{ne-eqb}
 use Rattle.cells.specs.Choice.{cond-no}
 use Rattle.commands.specs.Table.{writeEnable, pageProgram}
-use Rattle.kinds.specs.Kinds.{EXCHANGE, DESELECT}
-use Rattle.writer.specs.Writer.{Piece, piece, leftInPage, cut, pieces, exchangesOf, frameOf, addressBytes, ticksOf, programTicks, pieceScript, scriptOf, programScript, pieceCount, scriptLength}
+use Rattle.kinds.specs.Kinds.{EXCHANGE}
+use Rattle.writer.specs.Writer.{Piece, piece, leftInPage, cut, pieces, exchangesOf, cleanDeselect, frameOf, addressBytes, ticksOf, programTicks, pieceScript, scriptOf, programScript, pieceCount, scriptLength}
 
 -- ---- the pieces
 
@@ -79,18 +79,18 @@ length-exchanges (b ∷ bs) = omega (arith, length-exchanges bs)
 
 -- ---- how long the script is
 
--- a frame has two bytes more than its exchanges
-pub length-frame : (bs : List ℕ) → length (frameOf bs) ≡ 2 * length bs + 2
-length-frame bs = omega (arith, length-append (exchangesOf bs) (DESELECT ∷ []), length-exchanges bs)
+-- a frame has three bytes more than its exchanges
+pub length-frame : (bs : List ℕ) → length (frameOf bs) ≡ 2 * length bs + 3
+length-frame bs = omega (arith, length-append (exchangesOf bs) cleanDeselect, length-exchanges bs)
 
 -- the two frames of a piece
-pub length-frames : (A : ℕ) (bs : List ℕ) → length (frameOf (writeEnable ∷ []) ++ frameOf (pageProgram ∷ (addressBytes A ++ bs))) ≡ 14 + 2 * length bs
+pub length-frames : (A : ℕ) (bs : List ℕ) → length (frameOf (writeEnable ∷ []) ++ frameOf (pageProgram ∷ (addressBytes A ++ bs))) ≡ 16 + 2 * length bs
 length-frames A bs =
     let enable : List ℕ = frameOf (writeEnable ∷ []) in
     let program : List ℕ = frameOf (pageProgram ∷ (addressBytes A ++ bs)) in
     omega (arith, length-append enable program, length-frame (writeEnable ∷ []), length-frame (pageProgram ∷ (addressBytes A ++ bs)))
 
-pub length-piece : (p : Piece) → length (pieceScript p) ≡ 17 + 2 * length (p .bytes)
+pub length-piece : (p : Piece) → length (pieceScript p) ≡ 19 + 2 * length (p .bytes)
 length-piece p =
     omega
     (arith, length-append (frameOf (writeEnable ∷ []) ++ frameOf (pageProgram ∷ (addressBytes (p .address) ++ p .bytes))) (ticksOf programTicks), length-frames (p .address) (p .bytes))
@@ -131,7 +131,7 @@ sizes (suc fuel) A (b ∷ bs) few =
 pub count-pieces : (A : ℕ) (bs : List ℕ) → length (pieces A bs) ≡ pieceCount A (length bs)
 count-pieces A bs = sizes (length bs) A bs (omega arith) .0
 
--- The script has 17 bytes a piece, and 2 a byte.
+-- The script has 19 bytes a piece, and 2 a byte.
 pub length-script : (A : ℕ) (bs : List ℕ) → length (programScript A bs) ≡ scriptLength A (length bs)
 length-script A bs = sizes (length bs) A bs (omega arith) .1
 
@@ -140,9 +140,9 @@ pub pieces-most : (A n : ℕ) → n ≤ 4096 → pieceCount A n ≤ 17
 pieces-most A zero few = omega arith
 pieces-most A (suc n) few = omega (arith, count-some A (suc n) (omega arith))
 
--- The longest script has 8,481 bytes, far fewer than the 65,536 that a run takes; and there is one of that length.
-pub longest-is : (A : ℕ) (bs : List ℕ) → length bs ≤ 4096 → (length (programScript A bs) ≤ 8481) × (8481 < 65536)
+-- The longest script has 8,515 bytes, far fewer than the 65,536 that a run takes; and there is one of that length.
+pub longest-is : (A : ℕ) (bs : List ℕ) → length bs ≤ 4096 → (length (programScript A bs) ≤ 8515) × (8515 < 65536)
 longest-is A bs few = (omega (arith, length-script A bs, pieces-most A (length bs) few), omega arith)
 
-pub longest-met : (A : ℕ) (bs : List ℕ) → length bs ≡ 4096 → (A % 256 ≡ 0 → ⊥) → length (programScript A bs) ≡ 8481
+pub longest-met : (A : ℕ) (bs : List ℕ) → length bs ≡ 4096 → (A % 256 ≡ 0 → ⊥) → length (programScript A bs) ≡ 8515
 longest-met A bs is off = length-script A bs ∙ ap (scriptLength A) is ∙ omega (arith, count-some A 4096 (omega arith), off)

@@ -40,9 +40,13 @@ unfoldable pub exchangesOf : List ℕ → List ℕ
 exchangesOf [] = []
 exchangesOf (b ∷ bs) = EXCHANGE ∷ b ∷ exchangesOf bs
 
+-- a deselect on the byte boundary: no bit is loose
+abbrev pub cleanDeselect : List ℕ
+cleanDeselect = DESELECT ∷ 0 ∷ []
+
 -- a frame of these bytes: a select, the exchanges, a deselect
 abbrev pub frameOf : List ℕ → List ℕ
-frameOf bs = SELECT ∷ (exchangesOf bs ++ (DESELECT ∷ []))
+frameOf bs = SELECT ∷ (exchangesOf bs ++ cleanDeselect)
 
 -- an address as three bytes, the high one first
 abbrev pub addressBytes : ℕ → List ℕ
@@ -77,9 +81,9 @@ programScript A bs = scriptOf (pieces A bs)
 abbrev pub pieceCount : ℕ → ℕ → ℕ
 pieceCount A n = cond (eqb n 0) 0 ((A % page + n - 1) / page + 1)
 
--- the script's length: 17 bytes a piece, and 2 a byte
+-- the script's length: 19 bytes a piece, and 2 a byte
 abbrev pub scriptLength : ℕ → ℕ → ℕ
-scriptLength A n = 17 * pieceCount A n + 2 * n
+scriptLength A n = 19 * pieceCount A n + 2 * n
 
 -- the room that a run asks for its records: 16 bytes a piece, and 2 a byte
 abbrev pub scriptRoom : ℕ → ℕ → ℕ

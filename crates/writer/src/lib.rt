@@ -4,7 +4,7 @@ ghost use mathlib.Core.List.{[], _∷_, _++_};
 ghost use Prim.Native.Nat.{_+_, _*_, _≤_, min};
 ghost use lib.ListN.{length};
 ghost use Rattle.cells.specs.Put.{Put};
-ghost use Rattle.writer.specs.Writer.{piece, leftInPage, exchangesOf, frameOf, ticksOf, pieceScript, programScript, pieceCount, scriptLength, longestData, refusal, answerOf, outputOf};
+ghost use Rattle.writer.specs.Writer.{piece, leftInPage, exchangesOf, cleanDeselect, frameOf, ticksOf, pieceScript, programScript, pieceCount, scriptLength, longestData, refusal, answerOf, outputOf};
 use commands::Command;
 use kinds::Kind;
 use part::Part;
@@ -13,7 +13,7 @@ use part::Part;
 pub const LONGEST_DATA: usize = 4096;
 
 // The length of the longest script, 4,096 bytes in 17 pieces: an output of that length has room for every script (`longest-is`).
-pub const LONGEST_SCRIPT: usize = 8481;
+pub const LONGEST_SCRIPT: usize = 8515;
 
 // The ticks that a page program takes, one a step.
 const PROGRAM_TICKS: u16 = 16;
@@ -40,16 +40,25 @@ fn put_exchanges(out: &mut [u8], at: usize, bytes: &[u8]) -> usize
     end
 }
 
+// Puts a deselect on the byte boundary: no bit is loose.
+fn put_deselect(out: &mut [u8], at: usize) -> usize
+    requires { ⌜ at + 2 ≤ length (now out) ⌝ }
+    ensures { λ r. ⌜ Put (now (out .entry)) at cleanDeselect r (now (out .exit)) ⌝ }
+{
+    out[at] = Kind::DESELECT as u8;
+    out[at + 1] = 0;
+    at + 2
+}
+
 // Puts a frame: a select, the exchanges of a command and of its bytes, a deselect.
 fn put_frame(out: &mut [u8], at: usize, command: &[u8], bytes: &[u8]) -> usize
-    requires { ⌜ at + (2 * (length (now command) + length (now bytes)) + 2) ≤ length (now out) ⌝ }
+    requires { ⌜ at + (2 * (length (now command) + length (now bytes)) + 3) ≤ length (now out) ⌝ }
     ensures { λ r. ⌜ Put (now (out .entry)) at (frameOf (now (command .entry) ++ now (bytes .entry))) r (now (out .exit)) ⌝ }
 {
     out[at] = Kind::SELECT as u8;
     let data = put_exchanges(out, at + 1, command);
     let end = put_exchanges(out, data, bytes);
-    out[end] = Kind::DESELECT as u8;
-    end + 1
+    put_deselect(out, end)
 }
 
 // Puts an event of n ticks, the high byte of their number first.
@@ -65,7 +74,7 @@ fn put_ticks(out: &mut [u8], at: usize, n: u16) -> usize
 
 // Puts what programs some bytes of one page: a write enable, the page program, its ticks.
 fn put_piece(out: &mut [u8], at: usize, address: usize, bytes: &[u8]) -> usize
-    requires { ⌜ at + (17 + 2 * length (now bytes)) ≤ length (now out) ⌝ }
+    requires { ⌜ at + (19 + 2 * length (now bytes)) ≤ length (now out) ⌝ }
     ensures { λ r. ⌜ Put (now (out .entry)) at (pieceScript (piece address (now (bytes .entry)))) r (now (out .exit)) ⌝ }
 {
     let program = put_frame(out, at, &[Command::WRITE_ENABLE], &[]);
@@ -117,12 +126,12 @@ fn piece_count(address: usize, count: usize) -> usize
     (address % Part::PAGE + count - 1) / Part::PAGE + 1
 }
 
-// The length of the script for some bytes from an address on: 17 bytes a piece, and 2 a byte.
+// The length of the script for some bytes from an address on: 19 bytes a piece, and 2 a byte.
 fn script_length(address: usize, count: usize) -> usize
     requires { ⌜ count ≤ longestData ⌝ }
     ensures { λ r. ⌜ r ≡ scriptLength address count ⌝ }
 {
-    17 * piece_count(address, count) + 2 * count
+    19 * piece_count(address, count) + 2 * count
 }
 
 // What refuses the writer, in the order of the definition; 0 for nothing.

@@ -46,8 +46,8 @@ empty-frame-requires c κs = search needs
 stays-requires-4 : tie.Need-stays-requires-4
 stays-requires-4 c κs = search needs
 
-deselect-requires-2 : tie.Need-deselect-requires-2
-deselect-requires-2 c κs = search needs
+stays-requires-5 : tie.Need-stays-requires-5
+stays-requires-5 c κs = search needs
 
 returns : tie.Need-returns
 unfolding applied
@@ -91,9 +91,7 @@ returns-7 c = rw (c .before .before .before .before .before .match .keys7, c .st
 returns-8 : tie.Need-returns-8
 unfolding applied
 returns-8 c =
-    rw
-    (ne-eqb _ _ (c .before .before .before .match .rest .0 .0 .0 .0 .0 .0 .1), ne-eqb _ _ (c .before .before .before .match .rest .0 .0 .0 .0 .0 .1), ne-eqb _ _ (c .before .before .before .match .rest .0 .0 .0 .0 .1), ne-eqb _ _ (c .before .before .before .match .rest .0 .0 .0 .1), ne-eqb _ _ (c .before .before .before .match .rest .0 .0 .1), ne-eqb _ _ (c .before .before .before .match .rest .0 .1), ne-eqb _ _ (c .before .before .before .match .rest .1))
-    (c .deselect2 .ensures (c .before .before .before .before .before .before .args .area .now) _)
+    rw (ne-eqb _ _ (c .before .match .rest .0 .0 .0 .0 .0 .0 .1), ne-eqb _ _ (c .before .match .rest .0 .0 .0 .0 .0 .1), ne-eqb _ _ (c .before .match .rest .0 .0 .0 .0 .1), ne-eqb _ _ (c .before .match .rest .0 .0 .0 .1), ne-eqb _ _ (c .before .match .rest .0 .0 .1), ne-eqb _ _ (c .before .match .rest .0 .1), ne-eqb _ _ (c .before .match .rest .1), c .stays5 .ensures)
 
 pub step-spec : {M : Type 1} → statement M
 step-spec =
@@ -112,7 +110,7 @@ step-spec =
     power-up-requires
     empty-frame-requires
     stays-requires-4
-    deselect-requires-2
+    stays-requires-5
     returns
     same-length
     returns-2

@@ -1,4 +1,4 @@
--- `kinds::yields` meets its contract. The three tests joined are what the rows say (`yields-as`).
+-- `kinds::yields` meets its contract. The two tests joined are what the rows say (`yields-as`).
 use mathlib.Core.Path.{sym}
 use Rattle.kinds.specs.Laws.{yields-as}
 use Rattle.kinds.proofs.yields.Statement.{statement}

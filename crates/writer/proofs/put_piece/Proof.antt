@@ -33,13 +33,13 @@ slice-aggregate-put-frame-3 c = search needs
 
 put-frame-requires-2 : tie.Need-put-frame-requires-2
 put-frame-requires-2 c κs =
-    let fit : c .before .before .before .before .before .before .before .before .before .before .args .at + 4 + (2 * (4 + length (c .before .before .before .before .before .before .before .before .before .before .args .bytes .now)) + 2) ≤ length (c .before .before .before .before .before .before .before .before .before .before .args .out .now) = omega (arith, c .before .before .before .before .before .before .before .before .before .before .pre) in
-    room-behind 4 (2 * (4 + length (c .before .before .before .before .before .before .before .before .before .before .args .bytes .now)) + 2) (c .before .before .before .before .put-frame .ensures) (length-frame (writeEnable ∷ [])) fit
+    let fit : c .before .before .before .before .before .before .before .before .before .before .args .at + 5 + (2 * (4 + length (c .before .before .before .before .before .before .before .before .before .before .args .bytes .now)) + 3) ≤ length (c .before .before .before .before .before .before .before .before .before .before .args .out .now) = omega (arith, c .before .before .before .before .before .before .before .before .before .before .pre) in
+    room-behind 5 (2 * (4 + length (c .before .before .before .before .before .before .before .before .before .before .args .bytes .now)) + 3) (c .before .before .before .before .put-frame .ensures) (length-frame (writeEnable ∷ [])) fit
 
 put-ticks-requires : tie.Need-put-ticks-requires
 put-ticks-requires c κs =
-    let fit : c .before .before .before .before .before .before .before .before .before .before .before .before .before .before .args .at + (14 + 2 * length (c .before .before .before .before .before .before .before .before .before .before .before .before .before .before .args .bytes .now)) + 3 ≤ length (c .before .before .before .before .before .before .before .before .before .before .before .before .before .before .args .out .now) = omega (arith, c .before .before .before .before .before .before .before .before .before .before .before .before .before .before .pre) in
-    room-behind (14 + 2 * length (c .before .before .before .before .before .before .before .before .before .before .before .before .before .before .args .bytes .now)) 3 (put-then (c .before .before .before .before .before .before .before .before .put-frame .ensures) (c .before .before .before .put-frame2 .ensures)) (length-frames (c .before .before .before .before .before .before .before .before .before .before .before .before .before .before .args .address) (c .before .before .before .before .before .before .before .before .before .before .before .before .before .before .args .bytes .now)) fit
+    let fit : c .before .before .before .before .before .before .before .before .before .before .before .before .before .before .args .at + (16 + 2 * length (c .before .before .before .before .before .before .before .before .before .before .before .before .before .before .args .bytes .now)) + 3 ≤ length (c .before .before .before .before .before .before .before .before .before .before .before .before .before .before .args .out .now) = omega (arith, c .before .before .before .before .before .before .before .before .before .before .before .before .before .before .pre) in
+    room-behind (16 + 2 * length (c .before .before .before .before .before .before .before .before .before .before .before .before .before .before .args .bytes .now)) 3 (put-then (c .before .before .before .before .before .before .before .before .put-frame .ensures) (c .before .before .before .put-frame2 .ensures)) (length-frames (c .before .before .before .before .before .before .before .before .before .before .before .before .before .before .args .address) (c .before .before .before .before .before .before .before .before .before .before .before .before .before .before .args .bytes .now)) fit
 
 same-length : tie.Need-same-length
 same-length c = put-length (put-then (put-then (c .before .before .before .before .before .before .before .before .before .before .before .put-frame .ensures) (c .before .before .before .before .before .before .put-frame2 .ensures)) (c .before .before .put-ticks .ensures))
