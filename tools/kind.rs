@@ -6,7 +6,7 @@
 pub const SELECT: u64 = 0x01;
 /// A byte goes in, and one may come out.
 pub const EXCHANGE: u64 = 0x02;
-/// CS goes high on a byte boundary.
+/// CS goes high; the body is the number of bits of a byte that had gone in, 0 on a byte boundary.
 pub const DESELECT: u64 = 0x03;
 /// One tick.
 pub const TICK: u64 = 0x04;
@@ -16,5 +16,3 @@ pub const TICKS: u64 = 0x05;
 pub const WP_LEVEL: u64 = 0x06;
 /// Power is cut and comes back.
 pub const POWER_CUT: u64 = 0x07;
-/// CS goes high inside a byte.
-pub const LOOSE_DESELECT: u64 = 0x08;

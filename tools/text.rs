@@ -7,15 +7,15 @@
 //! select               01h
 //! send 02 00 FA        02h and the byte, once for each byte
 //! send 05 +4           the same, and then four more exchanges of 00, to read four bytes
-//! deselect             03h
+//! deselect             03h and 0: no bit is loose
+//! loose 3              03h and the number of bits, 1 to 7
 //! tick                 04h
 //! ticks 16             05h and the count, high byte first
 //! wp low, wp high      06h and 0 or 1
 //! power                07h: power cut and power-up
-//! loose 3              08h and the number of bits, 1 to 7
 //! frame 03 00 00 00 +4 shorthand: select, the exchanges as after send, deselect
 //! program 0000FE A1 A2 shorthand: what it takes to program these bytes from the address on
-//! bytes 09 FF          these script bytes as they stand, for scripts that are to be refused
+//! bytes 08 03          these script bytes as they stand, for scripts that are to be refused
 //! repeat 10 tick       shorthand: the rest of the line that many times
 //! ```
 //!
@@ -33,8 +33,10 @@ use crate::kind;
 
 /// The largest count of ticks, reads and repeats.
 const LARGEST_COUNT: usize = 65_535;
-/// The largest number of bits that a loose deselect may have seen of a byte.
+/// The largest number of bits that may be loose at a deselect.
 const LARGEST_BITS: usize = 7;
+/// The body of a deselect on a byte boundary.
+const NO_BITS: u8 = 0;
 /// The most bytes that come of a text: far more than a run takes, and a stop to a slip in a count.
 const LONGEST_SCRIPT: usize = 1 << 20;
 /// The words that a line may start with.
@@ -102,13 +104,13 @@ fn words_of_line(line: &str) -> Vec<&str> {
 fn events_of_words(words: &[&str]) -> Result<Vec<u8>, String> {
     match words {
         ["select"] => Ok(event(kind::SELECT, &[])),
-        ["deselect"] => Ok(event(kind::DESELECT, &[])),
+        ["deselect"] => Ok(event(kind::DESELECT, &[NO_BITS])),
         ["tick"] => Ok(event(kind::TICK, &[])),
         ["power"] => Ok(event(kind::POWER_CUT, &[])),
         ["wp", "low"] => Ok(event(kind::WP_LEVEL, &[0])),
         ["wp", "high"] => Ok(event(kind::WP_LEVEL, &[1])),
         ["ticks", count] => Ok(ticks(number(count, LARGEST_COUNT)? as u16)),
-        ["loose", bits] => Ok(event(kind::LOOSE_DESELECT, &[number(bits, LARGEST_BITS)? as u8])),
+        ["loose", bits] => Ok(event(kind::DESELECT, &[number(bits, LARGEST_BITS)? as u8])),
         ["send", words @ ..] if !words.is_empty() => Ok(exchanges(&sent(words)?)),
         ["frame", words @ ..] if !words.is_empty() => Ok(frame(&sent(words)?)),
         ["program", start, words @ ..] => program(address(start)?, &bytes(words)?),
@@ -133,9 +135,9 @@ fn exchanges(sent: &[u8]) -> Vec<u8> {
     sent.iter().flat_map(|byte| event(kind::EXCHANGE, &[*byte])).collect()
 }
 
-/// A select, the exchanges and a deselect.
+/// A select, the exchanges and a deselect on the byte boundary.
 fn frame(sent: &[u8]) -> Vec<u8> {
-    [event(kind::SELECT, &[]), exchanges(sent), event(kind::DESELECT, &[])].concat()
+    [event(kind::SELECT, &[]), exchanges(sent), event(kind::DESELECT, &[NO_BITS])].concat()
 }
 
 /// The script that programs the bytes from the address on, or why not: too many for one line, or
@@ -238,6 +240,10 @@ fn misuse(word: &str) -> String {
 mod tests {
     use super::*;
 
+    /// The script bytes of a piece beside its data: two frames of three bytes and their exchanges,
+    /// one of the write enable and four of the page program, and the ticks.
+    const PIECE: usize = (3 + 2) + (3 + 2 * 4) + 3;
+
     /// Asserts the script bytes of a good text.
     fn gives(text: &str, script: &[u8]) {
         assert_eq!(script_of_text(text), Ok(script.to_vec()), "{text:?}");
@@ -262,12 +268,12 @@ mod tests {
     fn each_kind_has_a_word() {
         gives("select", &[0x01]);
         gives("send 06", &[0x02, 0x06]);
-        gives("deselect", &[0x03]);
+        gives("deselect", &[0x03, 0]);
         gives("tick", &[0x04]);
         gives("ticks 16", &[0x05, 0x00, 0x10]);
         gives("wp low\nwp high", &[0x06, 0, 0x06, 1]);
         gives("power", &[0x07]);
-        gives("loose 3", &[0x08, 3]);
+        gives("loose 3", &[0x03, 3]);
     }
 
     #[test]
@@ -279,7 +285,7 @@ mod tests {
 
     #[test]
     fn frame_selects_sends_and_deselects() {
-        gives("frame 06\nframe 05 +1", &[1, 2, 6, 3, 1, 2, 5, 2, 0, 3]);
+        gives("frame 06\nframe 05 +1", &[1, 2, 6, 3, 0, 1, 2, 5, 2, 0, 3, 0]);
     }
 
     #[test]
@@ -287,19 +293,19 @@ mod tests {
         gives("ticks 1", &[0x05, 0x00, 0x01]);
         gives("ticks 258", &[0x05, 0x01, 0x02]);
         gives("ticks 65535", &[0x05, 0xFF, 0xFF]);
-        gives("loose 1\nloose 7", &[0x08, 1, 0x08, 7]);
+        gives("loose 1\nloose 7", &[0x03, 1, 0x03, 7]);
     }
 
     #[test]
     fn program_cuts_at_a_page_edge() {
         let first = [
-            1, 2, 0x06, 3, // write enable
-            1, 2, 0x02, 2, 0x00, 2, 0x00, 2, 0xFE, 2, 0xA1, 2, 0xA2, 3, // A1 A2 at 0000FE
+            1, 2, 0x06, 3, 0, // write enable
+            1, 2, 0x02, 2, 0x00, 2, 0x00, 2, 0xFE, 2, 0xA1, 2, 0xA2, 3, 0, // A1 A2 at 0000FE
             5, 0x00, 0x10, // 16 ticks
         ];
         let second = [
-            1, 2, 0x06, 3, // write enable
-            1, 2, 0x02, 2, 0x00, 2, 0x01, 2, 0x00, 2, 0xA3, 3, // A3 at 000100
+            1, 2, 0x06, 3, 0, // write enable
+            1, 2, 0x02, 2, 0x00, 2, 0x01, 2, 0x00, 2, 0xA3, 3, 0, // A3 at 000100
             5, 0x00, 0x10, // 16 ticks
         ];
         gives("program 0000FE A1 A2", &first);
@@ -322,14 +328,14 @@ mod tests {
     fn program_makes_no_empty_piece() {
         gives("program 0000FE", &[]);
         gives("program FFFFFF", &[]);
-        gives_length(&program_line("0000FE", 2), 17 + 2 * 2);
-        gives_length(&program_line("000100", PAGE), 17 + 2 * PAGE);
-        gives_length(&program_line("0000FF", 1 + PAGE), 2 * 17 + 2 * (1 + PAGE));
+        gives_length(&program_line("0000FE", 2), PIECE + 2 * 2);
+        gives_length(&program_line("000100", PAGE), PIECE + 2 * PAGE);
+        gives_length(&program_line("0000FF", 1 + PAGE), 2 * PIECE + 2 * (1 + PAGE));
     }
 
     #[test]
     fn program_is_repeated_like_any_line() {
-        let once = [1, 2, 6, 3, 1, 2, 2, 2, 0, 2, 0, 2, 0, 2, 0x5A, 3, 5, 0, 16];
+        let once = [1, 2, 6, 3, 0, 1, 2, 2, 2, 0, 2, 0, 2, 0, 2, 0x5A, 3, 0, 5, 0, 16];
         gives("repeat 2 program 000000 5A", &[once, once].concat());
         gives("repeat 2 program 000000", &[]);
         says("repeat 2 program", "line 1: \"program\" takes an address and bytes");
@@ -337,8 +343,8 @@ mod tests {
 
     #[test]
     fn program_takes_4096_bytes() {
-        gives_length(&program_line("000000", 4_096), 16 * 17 + 2 * 4_096);
-        gives_length(&program_line("000001", 4_096), 17 * 17 + 2 * 4_096);
+        gives_length(&program_line("000000", 4_096), 16 * PIECE + 2 * 4_096);
+        gives_length(&program_line("000001", 4_096), 17 * PIECE + 2 * 4_096);
         for address in ["000000", "FFFFFF"] {
             let reason = "line 1: \"program\" takes at most 4096 bytes, not 4097";
             says(&program_line(address, 4_097), reason);
@@ -347,8 +353,8 @@ mod tests {
 
     #[test]
     fn program_stops_at_the_last_address() {
-        gives_length("program FFFFFF A1", 17 + 2);
-        gives_length(&program_line("FFF000", 4_096), 16 * 17 + 2 * 4_096);
+        gives_length("program FFFFFF A1", PIECE + 2);
+        gives_length(&program_line("FFF000", 4_096), 16 * PIECE + 2 * 4_096);
         says("program FFFFFF A1 A2", "line 1: 2 bytes from FFFFFF on run past FFFFFF");
         says("program fffffe A1 A2 A3", "line 1: 3 bytes from FFFFFE on run past FFFFFF");
         says(&program_line("FFF001", 4_096), "line 1: 4096 bytes from FFF001 on run past FFFFFF");
@@ -372,20 +378,21 @@ mod tests {
 
     #[test]
     fn raw_bytes_stand_as_they_are() {
-        gives("bytes 09 FF", &[0x09, 0xFF]);
+        gives("bytes 08 03", &[0x08, 0x03]);
+        gives("bytes 03", &[0x03]);
     }
 
     #[test]
     fn repeat_repeats_the_rest_of_the_line() {
         gives("repeat 3 tick", &[4, 4, 4]);
-        gives("repeat 2 frame 06", &[1, 2, 6, 3, 1, 2, 6, 3]);
+        gives("repeat 2 frame 06", &[1, 2, 6, 3, 0, 1, 2, 6, 3, 0]);
     }
 
     #[test]
     fn comments_blanks_and_line_ends_are_skipped() {
         gives("", &[]);
         gives("# all comment\n\n   \t\n", &[]);
-        gives("  select\t# comment\r\ndeselect#comment\r\n", &[0x01, 0x03]);
+        gives("  select\t# comment\r\ndeselect#comment\r\n", &[0x01, 0x03, 0]);
     }
 
     #[test]
@@ -393,6 +400,7 @@ mod tests {
         says("select\n\n# three\nslect", &format!("line 4: \"slect\" is none of {WORDS}"));
         says("Select", &format!("line 1: \"Select\" is none of {WORDS}"));
         says("tick 3", "line 1: \"tick\" takes nothing after it");
+        says("deselect 0", "line 1: \"deselect\" takes nothing after it");
         says("ticks", "line 1: \"ticks\" takes one count, 1 to 65535");
         says("ticks 1 2", "line 1: \"ticks\" takes one count, 1 to 65535");
         says("loose", "line 1: \"loose\" takes one number of bits, 1 to 7");

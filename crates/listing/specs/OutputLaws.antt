@@ -106,7 +106,7 @@ read-lines T tail (e ∷ es) w (known, more) = go (read-lines T tail es (onward 
 
     -- what the event says is of the sort that its kind has
     sort : isSaid (sortOf said) ≡ yields (e .kind)
-    sort = ap isSaid (says-its-kind T (w .chip) (w .memory) (e .kind) (e .body) known)
+    sort = ap isSaid (says-its-kind T (w .chip) (w .memory) (e .kind) (e .body))
 
     back : yields (e .kind) ≡ true → recordAt out p ≡ said
     back y =

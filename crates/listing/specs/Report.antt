@@ -18,11 +18,11 @@ use Rattle.listing.specs.Text.{lineOf, partLine, doneLine, refusedLine, 
 abbrev pub longestScript : ℕ
 longestScript = 4096
 
--- the room for its records: each of its bytes may be a deselect, with the longest one
+-- the room for its records: the longest record for each of its bytes, though an event that says something has two (`program-refusals`)
 abbrev pub outputRoom : ℕ
 outputRoom = longestRecord * longestScript
 
--- the room for what is printed of it: for each of its bytes more than the longest line (`report-fits`)
+-- the room for what is printed of it: for each of its bytes more than the longest line, and so room for the first line and the last (`report-fits`)
 abbrev pub textRoom : ℕ
 textRoom = 16 * longestScript
 

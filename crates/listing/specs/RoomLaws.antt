@@ -1,10 +1,10 @@
 -- How long what is printed can be: a record's word and its line, the lines of a run, and the whole text, for which there is room.
 use Prim.Native.Nat.{ℕ, zero, suc, _+_, _*_, _<_, _≤_}
-use mathlib.Core.Bool.{Bool, true, false, cond}
+use mathlib.Core.Bool.{Bool, true, cond}
 use mathlib.Core.List.{List, [], _∷_}
 use mathlib.Core.Path.{_≡_, refl, sym, ap, _∙_}
 use native.Mathlib.Omega.{arith}
-use lib.Dec.{eqb, leb}
+use lib.Dec.{eqb, ltb, leb}
 use lib.ListN.{length, replicate, length-append, length-replicate}
 use borrow.Author.Tests.{leb-false}
 use Rattle.cells.specs.Choice.{cond-either}
@@ -94,7 +94,7 @@ module _ (T : Setting) (c : Chip) (m : List ℕ) (same : T .sectors ≡ sectorsI
   said-small : (kind body : ℕ) → SmallSaid (applied T c m kind body)
   said-small kind body =
       applied-each T c m kind body SmallSaid
-      (λ _. tt) (λ _. exchange-small _) (λ _. deselect-small false) (λ _. tt) (λ _. tt) (λ _. tt) (λ _. tt) (λ _. deselect-small true)
+      (λ _. tt) (λ _. exchange-small _) (λ _. deselect-small (ltb 0 body)) (λ _. tt) (λ _. tt) (λ _. tt) (λ _. tt) (λ _. tt)
 
 -- ---- the lines of a run
 

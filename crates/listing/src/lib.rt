@@ -16,8 +16,8 @@ use part::Part;
 // The longest script that is run.
 pub const LONGEST: usize = 4096;
 
-// Room for all that is printed of a script: a line has 14 bytes at the most, a byte of the script one line at the most,
-// and the first and the last line fit in the rest (`report-fits`).
+// Room for all that is printed of a script: a line has 14 bytes at the most, there are no more lines than bytes of the
+// script, and the first and the last line fit in the rest (`report-fits`).
 pub const ROOM: usize = 16 * LONGEST;
 
 // The record that stands at a place of a run's output.
