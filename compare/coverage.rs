@@ -5,6 +5,7 @@ use crate::areas::LONGEST_TAKEN;
 use crate::case::{room, Case, Start, Step, LENGTHS};
 use crate::class::Class;
 use crate::commands::{COMMANDS, EMPTY, UNKNOWN, UNSELECTED};
+use crate::deselect_coverage::DeselectCoverage;
 use crate::event::{events_of, kind, Event, LONGEST};
 use crate::expected::{Expected, NOTHING};
 use crate::image::{Edit, FLAGS};
@@ -106,6 +107,7 @@ pub struct Coverage {
     waits: WaitCoverage,
     situations: Tally,
     areas: AreaCoverage,
+    deselects: DeselectCoverage,
     protection: ProtectionCoverage,
     programmings: ProgrammingCoverage,
     over_top: [[u64; 2]; 6],
@@ -131,6 +133,7 @@ impl Coverage {
             waits: WaitCoverage::new(),
             situations: Tally::new(&SITUATIONS),
             areas: AreaCoverage::new(),
+            deselects: DeselectCoverage::new(),
             protection: ProtectionCoverage::new(),
             programmings: ProgrammingCoverage::new(),
             over_top: [[0; 2]; 6],
@@ -198,6 +201,7 @@ impl Coverage {
             Step::HandOver | Step::OwnArea => return 0,
         };
         self.note_answer(before, step, entry, answer.refusal, length);
+        self.deselects.note_step(&before.chip, step, entry, answer);
         match step {
             Step::Run { script, spare, .. } if answer.refusal == 7 => {
                 self.note_short_room(before, script, *spare, length);
@@ -209,6 +213,7 @@ impl Coverage {
                 let (after, records) = self.replay(before.clone(), &events, length);
                 self.note_run(&before.chip, script, *spare, &after.chip);
                 self.protection.note_room(&events, &records, *spare, 0);
+                self.deselects.note_room(&events, *spare, 0);
                 events.len() as u64
             }
             Step::Event { event, .. } => {
@@ -292,6 +297,7 @@ impl Coverage {
             records.push(answer.record);
         }
         self.protection.note_room(&events, &records, spare, 7);
+        self.deselects.note_room(&events, spare, 7);
     }
 
     /// Applies events to the chip once more, over a memory whose content does not matter, and gives
@@ -313,10 +319,7 @@ impl Coverage {
             match event.0 {
                 kind::SELECT => self.saw("select while selected", before.selected),
                 kind::EXCHANGE => self.note_exchange(before, answer.record, length),
-                kind::DESELECT | kind::LOOSE_DESELECT => {
-                    let loose = event.0 == kind::LOOSE_DESELECT;
-                    self.note_deselect(before, answer.record, loose, length)
-                }
+                kind::DESELECT => self.note_deselect(before, answer.record, event.1, length),
                 kind::TICK | kind::TICKS => self.note_ticks(before, *event, after, answer.ticks),
                 kind::WP_LEVEL => self.waits.note_wp(before, after),
                 kind::POWER_CUT => self.close_frame(),
@@ -405,11 +408,19 @@ impl Coverage {
         self.saw("last step inside a frame", inside && ticks > 0 && after.job.is_none());
     }
 
-    /// Takes note of a deselect and its verdict.
-    fn note_deselect(&mut self, before: &Chip, record: Record, loose: bool, length: usize) {
+    /// The verdict that a deselect on the byte boundary would give.
+    fn clean_verdict(&mut self, before: &Chip, length: usize) -> Option<u8> {
+        let (mut chip, memory) = (before.clone(), &mut self.memory[..length]);
+        verdict_of(model::event(&mut chip, memory, &[], kind::DESELECT, 0).record)
+    }
+
+    /// Takes note of a deselect with some bits loose, or none, and of its verdict.
+    fn note_deselect(&mut self, before: &Chip, record: Record, bits: u64, length: usize) {
         let Some(verdict) = verdict_of(record) else { return };
+        let clean = if bits > 0 { self.clean_verdict(before, length) } else { None };
         let frame = &before.frame;
-        self.areas.note_deselect(before, loose, verdict);
+        self.areas.note_deselect(before, bits > 0, verdict);
+        self.deselects.note_deselect(before, bits, verdict, clean.unwrap_or(verdict));
         self.protection.note_deselect(before, record, length, self.frame_lent);
         let row = if !before.selected {
             UNSELECTED
@@ -487,6 +498,7 @@ impl Coverage {
     pub fn report(&self) -> usize {
         let mut faults = self.report_verdicts();
         faults += self.report_refusals();
+        faults += self.deselects.report(&ENTRIES);
         faults += self.areas.report(&ENTRIES);
         faults += self.protection.report(&ENTRIES);
         faults += self.programmings.report();

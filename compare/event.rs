@@ -1,7 +1,5 @@
 // Events as numbers, and the scripts that are made of them.
 
-use crate::model;
-
 #[path = "../tools/kind.rs"]
 pub mod kind;
 
@@ -11,19 +9,31 @@ pub const LONGEST: usize = 65_536;
 /// An event as numbers: its kind and its body.
 pub type Event = (u64, u64);
 
-/// The events of a frame: a select, an exchange for each byte, and a deselect.
+/// The events of a frame: a select, an exchange for each byte, and a deselect on the byte boundary.
 pub fn frame_of(bytes: impl IntoIterator<Item = u8>) -> Vec<Event> {
     let sent = bytes.into_iter().map(|byte| (kind::EXCHANGE, u64::from(byte)));
     [(kind::SELECT, 0)].into_iter().chain(sent).chain([(kind::DESELECT, 0)]).collect()
+}
+
+/// The bytes that the body of an event has in a script, if its kind is known. The harness has a
+/// table of its own, so that it does not learn from the model where an event ends.
+pub fn body_length(kind: u64) -> Option<usize> {
+    match kind {
+        kind::SELECT | kind::TICK | kind::POWER_CUT => Some(0),
+        kind::EXCHANGE | kind::DESELECT | kind::WP_LEVEL => Some(1),
+        kind::TICKS => Some(2),
+        _ => None,
+    }
 }
 
 /// The first event of a script and the bytes after it; none at the end, or where the first event
 /// is bad, being of an unknown kind or without its whole body.
 fn first_event(script: &[u8]) -> Option<(Event, &[u8])> {
     let (kind, rest) = script.split_first()?;
-    let (body, rest) = rest.split_at_checked(model::body_length(*kind)?)?;
+    let kind = u64::from(*kind);
+    let (body, rest) = rest.split_at_checked(body_length(kind)?)?;
     let body = body.iter().fold(0, |value, byte| value << 8 | u64::from(*byte));
-    Some(((u64::from(*kind), body), rest))
+    Some(((kind, body), rest))
 }
 
 /// A script as its events, and its bytes from the first bad event on.
@@ -41,18 +51,18 @@ pub fn script_of(events: &[Event]) -> Vec<u8> {
     let mut script = Vec::new();
     for (kind, body) in events {
         script.push(*kind as u8);
-        let length = model::body_length(*kind as u8).unwrap_or(0);
+        let length = body_length(*kind).unwrap_or(0);
         script.extend_from_slice(&body.to_be_bytes()[8 - length..]);
     }
     script
 }
 
 /// The room that a run asks for an event of a kind: a deselect gets that of the longest record,
-/// whatever its verdict turns out to be.
+/// whatever its body says and its verdict turns out to be.
 pub fn room_of(kind: u64) -> i64 {
     match kind {
         kind::EXCHANGE => 2,
-        kind::DESELECT | kind::LOOSE_DESELECT => 3,
+        kind::DESELECT => 3,
         _ => 0,
     }
 }

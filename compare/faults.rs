@@ -14,10 +14,12 @@ use crate::side::{
     record_bytes, Answer, Loan, Side, GUARD, MEMORY_AREA, NO_RECORD, OUTPUT_AREA, SFDP_AREA,
 };
 use crate::writer::{self, Written};
-use crate::{text, wrong_reader, wrong_room, wrong_sectors, wrong_wait, wrong_writer};
+use crate::{
+    text, wrong_deselect, wrong_reader, wrong_room, wrong_sectors, wrong_wait, wrong_writer,
+};
 
 /// The faults that have no file of their own, in words; the first five are errors that look right.
-const FAULTS: [&str; 31] = [
+const FAULTS: [&str; 30] = [
     "a load is laid down from the page start",
     "a program stores its bytes where cells only lose bits",
     "verdict 9 or 10 clears WEN",
@@ -31,7 +33,6 @@ const FAULTS: [&str; 31] = [
     "an event that is refused by 6 disarms",
     "a frame's address of 2^24 counts as legal",
     "an event with a kind above 255 is taken modulo 256",
-    "a loose deselect is taken as a deselect",
     "a power cut raises WP",
     "a script of 65,536 bytes is refused",
     "a flag of 2 is taken as 1",
@@ -51,10 +52,11 @@ const FAULTS: [&str; 31] = [
     "the part's own area has zeros for its third header",
 ];
 
-/// The number of the first fault of the wait, of verdict 9's records, of the room, of the reader,
-/// and of the script writer, and the number of the text form's.
+/// The number of the first fault of the wait, of deselects, of verdict 9's records, of the room, of
+/// the reader, and of the script writer, and the number of the text form's.
 const WAIT: usize = FAULTS.len();
-const SECTORS: usize = WAIT + wrong_wait::FAULTS.len();
+const DESELECTS: usize = WAIT + wrong_wait::FAULTS.len();
+const SECTORS: usize = DESELECTS + wrong_deselect::FAULTS.len();
 const ROOM: usize = SECTORS + wrong_sectors::FAULTS.len();
 const READER: usize = ROOM + wrong_room::FAULTS.len();
 const WRITER: usize = READER + wrong_reader::FAULTS.len();
@@ -64,6 +66,7 @@ const TEXT: usize = WRITER + wrong_writer::TEXT;
 pub fn all_faults() -> impl Iterator<Item = &'static str> {
     let files = [
         &wrong_wait::FAULTS[..],
+        &wrong_deselect::FAULTS,
         &wrong_sectors::FAULTS,
         &wrong_room::FAULTS,
         &wrong_reader::FAULTS,
@@ -117,7 +120,7 @@ impl WrongCopy {
     /// Takes the numbers of the chip as it now is, with the fault.
     fn take_numbers(&mut self) {
         self.image = self.expected.image();
-        if self.has(20) && self.image.kind == 2 {
+        if self.has(19) && self.image.kind == 2 {
             let done = 16 * self.image.done as usize;
             self.image.held[..done].fill(0xFF);
         }
@@ -130,8 +133,8 @@ impl WrongCopy {
         }
         let known = LENGTHS.contains(&memory);
         match self.fault {
-            Some(27) if known && !self.expected.chip.legal(memory) => Some(2),
-            Some(28) => Some(13),
+            Some(26) if known && !self.expected.chip.legal(memory) => Some(2),
+            Some(27) => Some(13),
             _ => None,
         }
     }
@@ -139,7 +142,7 @@ impl WrongCopy {
     /// The length of the area as the copy sees it, with the fault.
     fn area_length(&self, loan: Loan) -> usize {
         match loan.area {
-            257 if self.has(29) => LONGEST_TAKEN,
+            257 if self.has(28) => LONGEST_TAKEN,
             length => length,
         }
     }
@@ -151,7 +154,6 @@ impl WrongCopy {
         }
         let (kind, body) = match kind {
             256.. if self.has(12) => (kind % 256, body),
-            kind::LOOSE_DESELECT if self.has(13) && (1..=7).contains(&body) => (kind::DESELECT, 0),
             kind::TICKS if self.has(6) && body > 2 && body < 65_536 => (kind, body - 1),
             _ => (kind, body),
         };
@@ -161,8 +163,12 @@ impl WrongCopy {
         }
         let (memory, area) = (&mut self.memory[..loan.memory], &self.sfdp[GUARD..][..area_length]);
         let EventAnswer { refusal, mut record, ticks } = match self.fault {
-            Some(fault @ WAIT..SECTORS) => {
+            Some(fault @ WAIT..DESELECTS) => {
                 wrong_wait::event(fault - WAIT, &mut self.expected, memory, area, (kind, body))
+            }
+            Some(fault @ DESELECTS..SECTORS) => {
+                let (fault, expected) = (fault - DESELECTS, &mut self.expected);
+                wrong_deselect::event(fault, expected, memory, area, (kind, body))
             }
             _ => self.expected.event(memory, area, (kind, body)),
         };
@@ -200,7 +206,7 @@ impl WrongCopy {
             }
             (Record::None, Some(1)) if ticks => self.store(job),
             (Record::None, Some(5)) if ticks => chip.wen |= job.is_some(),
-            (Record::None, Some(14)) if kind == kind::POWER_CUT => chip.wp_high = true,
+            (Record::None, Some(13)) if kind == kind::POWER_CUT => chip.wp_high = true,
             _ => {}
         }
     }
@@ -218,13 +224,13 @@ impl WrongCopy {
     fn spoil_leftovers(&mut self, before: &Expected, kind: u64, record: Record) {
         let Chip { job, frame, .. } = &before.chip;
         let kept = match (record, self.fault) {
-            (Record::None, Some(17)) => {
+            (Record::None, Some(16)) => {
                 matches!(kind, kind::TICK | kind::TICKS) && self.expected.chip.job.is_none()
             }
-            (Record::Verdict(2), Some(18)) => {
+            (Record::Verdict(2), Some(17)) => {
                 matches!(frame.opcode, 0x20 | 0xD7 | 0xD8 | 0x60 | 0xC7)
             }
-            (Record::Verdict(1), Some(19)) => frame.opcode == 0x99 && job.is_none(),
+            (Record::Verdict(1), Some(18)) => frame.opcode == 0x99 && job.is_none(),
             _ => false,
         };
         if kept {
@@ -262,15 +268,15 @@ impl WrongCopy {
         let (place, next) = (frame.read_place as usize, &mut self.expected.chip.frame.read_place);
         let area = &mut self.sfdp[GUARD..];
         match self.fault {
-            Some(21) => *next %= loan.memory as u32,
-            Some(22) if dummy => return Record::Driven(0xFF),
-            Some(23) if dummy => {
+            Some(20) => *next %= loan.memory as u32,
+            Some(21) if dummy => return Record::Driven(0xFF),
+            Some(22) if dummy => {
                 *next = (*next + 1) % (1 << 24);
                 return Record::Driven(area[..loan.area].get(place).copied().unwrap_or(0xFF));
             }
-            Some(24) if driven && loan.area > 0 => return Record::Driven(area[place % loan.area]),
-            Some(25) if driven && *next == 0 => *next = 1 << 24,
-            Some(26) if driven => area[loan.area] = 0,
+            Some(23) if driven && loan.area > 0 => return Record::Driven(area[place % loan.area]),
+            Some(24) if driven && *next == 0 => *next = 1 << 24,
+            Some(25) if driven => area[loan.area] = 0,
             _ => {}
         }
         record
@@ -283,7 +289,7 @@ impl WrongCopy {
         let mut needed = 0;
         for (kind, body) in events_of(script).0 {
             let record = model::event(&mut chip, memory, area, kind, body).record;
-            needed += wrong_room::room_of(fault, kind, record);
+            needed += wrong_room::room_of(fault, (kind, body), record);
         }
         needed
     }
@@ -313,6 +319,34 @@ impl WrongCopy {
         }
         Answer::to_run(0, 0, written as u64, ticks)
     }
+
+    /// Runs a script, with the fault.
+    fn run_script(&mut self, loan: Loan, script: &[u8], room: usize) -> Answer {
+        if let Some(refusal) = self.early_refusal(loan) {
+            return Answer::to_run(refusal, 0, 0, 0);
+        }
+        let told = self.room_told(loan, script, room);
+        let (mut chip, mut output) = (self.expected.chip.clone(), vec![0; told]);
+        let area = &self.sfdp[GUARD..][..self.area_length(loan)];
+        let memory = &mut self.scratch[..loan.memory];
+        let answer = model::run(&mut chip, memory, area, script, &mut output);
+        let mut refusal = answer.refusal;
+        if self.has(14) && script.len() == LONGEST && refusal == 0 {
+            refusal = 3;
+        }
+        if refusal != 0 {
+            if self.has(8) && refusal >= 4 && room > 0 {
+                self.output[room - 1] = 0;
+            }
+            return Answer::to_run(refusal, answer.offset as u64, 0, 0);
+        }
+        let answer = self.run_events(loan, script);
+        if self.has(9) && (answer.written as usize) < room {
+            self.output[answer.written as usize] = 0;
+        }
+        self.take_numbers();
+        answer
+    }
 }
 
 /// The chip that numbers would mean if a flag of 2 were 1.
@@ -330,10 +364,10 @@ impl Side for WrongCopy {
 
     fn put(&mut self, chip: &Chip, image: &Image) -> Result<(), String> {
         self.expected = Expected::lent(chip, image);
-        if self.has(16) && image.flags.contains(&2) {
+        if self.has(15) && image.flags.contains(&2) {
             self.expected.chip = lenient_chip(chip, image);
         }
-        if let Some(fault @ WAIT..SECTORS) = self.fault {
+        if let Some(fault @ WAIT..DESELECTS) = self.fault {
             wrong_wait::overlook(fault - WAIT, &mut self.expected.chip);
         }
         self.image = *image;
@@ -360,30 +394,12 @@ impl Side for WrongCopy {
     }
 
     fn run(&mut self, loan: Loan, script: &[u8], room: usize) -> Result<Answer, String> {
-        if let Some(refusal) = self.early_refusal(loan) {
-            return Ok(Answer::to_run(refusal, 0, 0, 0));
-        }
-        let told = self.room_told(loan, script, room);
-        let (mut chip, mut output) = (self.expected.chip.clone(), vec![0; told]);
-        let area = &self.sfdp[GUARD..][..self.area_length(loan)];
-        let memory = &mut self.scratch[..loan.memory];
-        let answer = model::run(&mut chip, memory, area, script, &mut output);
-        let mut refusal = answer.refusal;
-        if self.has(15) && script.len() == LONGEST && refusal == 0 {
-            refusal = 3;
-        }
-        if refusal != 0 {
-            if self.has(8) && refusal >= 4 && room > 0 {
-                self.output[room - 1] = 0;
-            }
-            return Ok(Answer::to_run(refusal, answer.offset as u64, 0, 0));
-        }
-        let answer = self.run_events(loan, script);
-        if self.has(9) && (answer.written as usize) < room {
-            self.output[answer.written as usize] = 0;
-        }
-        self.take_numbers();
-        Ok(answer)
+        let Some(fault @ DESELECTS..SECTORS) = self.fault else {
+            return Ok(self.run_script(loan, script, room));
+        };
+        let taken = wrong_deselect::script_taken(fault - DESELECTS, script);
+        let answer = self.run_script(loan, &taken.bytes, room);
+        Ok(wrong_deselect::run_answer(fault - DESELECTS, script, &taken, answer))
     }
 
     fn find(&mut self, area: usize, identity: u8) -> Result<Found, String> {
@@ -396,7 +412,7 @@ impl Side for WrongCopy {
 
     fn own_area(&mut self) -> Result<[u8; CONTENT.len()], String> {
         let mut area = CONTENT;
-        if self.has(30) {
+        if self.has(29) {
             area[0x18..0x20].fill(0);
         }
         Ok(area)

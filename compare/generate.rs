@@ -74,10 +74,10 @@ impl<'a> Writer<'a> {
         self.put(kind::DESELECT, 0);
     }
 
-    /// Ends a frame loosely.
+    /// Ends a frame with one to seven bits loose.
     pub fn end_loose(&mut self) {
         let bits = 1 + self.rng.below(7) as u64;
-        self.put(kind::LOOSE_DESELECT, bits);
+        self.put(kind::DESELECT, bits);
     }
 
     /// Ends a frame in one of the two ways.

@@ -4,7 +4,7 @@ use crate::area_scenes::any_scene;
 use crate::case::{Content, Start, LENGTHS};
 use crate::class::{Class, ALL_JOBS, LONG_JOBS};
 use crate::commands::{Command, COMMANDS, UNKNOWN};
-use crate::event::{frame_of, kind, script_of, LONGEST};
+use crate::event::{events_of, frame_of, kind, script_of, Event, LONGEST};
 use crate::generate::Writer;
 use crate::image::Edit;
 use crate::session::{Outcome, Session};
@@ -14,6 +14,7 @@ impl Session<'_> {
     /// Does what is planned; what takes long comes last, so that most faults are found early.
     pub fn planned(&mut self) -> Outcome {
         self.fresh_states()?;
+        self.deselects()?;
         self.waits()?;
         self.areas()?;
         self.script_writer()?;
@@ -118,10 +119,10 @@ impl Session<'_> {
         self.close()
     }
 
-    /// Empty frames, and deselects of both kinds and an exchange without a frame.
+    /// Empty frames, and deselects with and without loose bits and an exchange without a frame.
     fn without_opcode(&mut self) -> Outcome {
         let (select, deselect) = ((kind::SELECT, 0), (kind::DESELECT, 0));
-        let (three_loose, seven_loose) = ((kind::LOOSE_DESELECT, 3), (kind::LOOSE_DESELECT, 7));
+        let (three_loose, seven_loose) = ((kind::DESELECT, 3), (kind::DESELECT, 7));
         self.open_fresh(LENGTHS[0], 0)?;
         self.one_by_one(&[select, deselect, deselect])?;
         self.one_by_one(&[select, three_loose, seven_loose, (kind::EXCHANGE, 0)])?;
@@ -245,8 +246,8 @@ impl Session<'_> {
     /// Scripts of 65,536 bytes and more, and the rooms about what they ask for.
     fn limits(&mut self, length: usize) -> Outcome {
         self.open_fresh(length, 0)?;
-        for kind in [kind::TICK, kind::DESELECT] {
-            self.long_scripts_of(kind)?;
+        for event in [(kind::TICK, 0), (kind::DESELECT, 0), (kind::DESELECT, 7)] {
+            self.long_scripts_of(event)?;
         }
         self.long_and_bad()?;
         for extra in [0, 1, 2, LONGEST] {
@@ -255,21 +256,26 @@ impl Session<'_> {
         self.close()
     }
 
-    /// Scripts about the longest, of one kind of event that has no body.
-    fn long_scripts_of(&mut self, kind: u64) -> Outcome {
-        for (bytes, spare) in [(LONGEST, -1), (LONGEST, 0), (LONGEST - 1, 5), (LONGEST + 1, 0)] {
-            self.run(script_of(&vec![(kind, 0); bytes]), spare)?;
+    /// Scripts about the longest, of one event over and over: just too long, of the longest length
+    /// in the exact room and in a byte less, and just shorter, where an event of two bytes goes
+    /// without its body at the end.
+    fn long_scripts_of(&mut self, event: Event) -> Outcome {
+        let bytes = script_of(&[event]).repeat(LONGEST + 1);
+        for (length, spare) in [(LONGEST, -1), (LONGEST, 0), (LONGEST - 1, 5), (LONGEST + 1, 0)] {
+            self.run(bytes[..length].to_vec(), spare)?;
         }
         Ok(())
     }
 
-    /// The longest script, its last event an exchange without its byte; and a script that is a byte
-    /// too long and has unknown kinds alone, where 3 comes before 5.
+    /// The longest script, its last event an exchange or a deselect without its byte; and a script
+    /// that is a byte too long and has unknown kinds alone, where 3 comes before 5.
     fn long_and_bad(&mut self) -> Outcome {
-        let mut script = script_of(&vec![(kind::TICK, 0); LONGEST]);
-        script[LONGEST - 1] = kind::EXCHANGE as u8;
-        self.run(script, 0)?;
-        self.run(vec![9; LONGEST + 1], 0)
+        for kind in [kind::EXCHANGE, kind::DESELECT] {
+            let mut script = script_of(&vec![(kind::TICK, 0); LONGEST]);
+            script[LONGEST - 1] = kind as u8;
+            self.run(script, 0)?;
+        }
+        self.run(vec![0x80; LONGEST + 1], 0)
     }
 
     /// Random scripts of so many bytes, with just too little room, enough, and more.
@@ -281,7 +287,8 @@ impl Session<'_> {
         Ok(())
     }
 
-    /// A script of so many bytes for the chip as it is.
+    /// A script of so many bytes for the chip as it is: where they end inside an event there are
+    /// ticks in its place, so that the script can be refused by its room alone.
     fn long_script(&mut self, bytes: usize) -> Vec<u8> {
         let events = self.write(|writer| {
             while script_of(&writer.events).len() + 5_000 < bytes {
@@ -292,7 +299,9 @@ impl Session<'_> {
             }
         });
         let mut script = script_of(&events);
-        script.truncate(bytes.min(script.len()));
+        script.truncate(bytes);
+        let unfinished = events_of(&script).1.len();
+        script.truncate(script.len() - unfinished);
         script.resize(bytes, kind::TICK as u8);
         script
     }

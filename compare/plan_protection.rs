@@ -134,7 +134,7 @@ impl Session<'_> {
         self.open_fresh(LENGTHS[3], 0x0C)?;
         self.one_run(&frame_of([0x06]))?;
         let (read, turned_away) = (frame_of([0x05, 0]), frame_of([0x60]));
-        let loose = [&turned_away[..2], &[(kind::LOOSE_DESELECT, 3)]].concat();
+        let loose = [&turned_away[..2], &[(kind::DESELECT, 3)]].concat();
         self.rooms_about(&[(kind::EXCHANGE, 0); 3])?;
         self.rooms_about(&read)?;
         self.rooms_about(&[&turned_away[..], &read].concat())?;
@@ -152,8 +152,7 @@ impl Session<'_> {
 
     /// A run of events in less room than it asks for, and in the exact room.
     fn rooms_about(&mut self, events: &[Event]) -> Outcome {
-        let deselect = |event: &&Event| matches!(event.0, kind::DESELECT | kind::LOOSE_DESELECT);
-        let deselects = events.iter().filter(deselect).count() as i64;
+        let deselects = events.iter().filter(|event| event.0 == kind::DESELECT).count() as i64;
         for spare in [-deselects, -1, 0] {
             self.run(script_of(events), spare)?;
         }

@@ -50,9 +50,9 @@ impl Programming {
         (0..self.data.len()).filter(|at| self.begins_piece(*at)).count()
     }
 
-    /// The bytes of the script: 17 a piece and 2 a byte.
+    /// The bytes of the script: 19 a piece and 2 a byte.
     pub fn script_length(&self) -> usize {
-        17 * self.pieces() + 2 * self.data.len()
+        19 * self.pieces() + 2 * self.data.len()
     }
 
     /// Whether a number of the writer's refuses, the others aside.
@@ -150,9 +150,10 @@ impl Programming {
     }
 }
 
-/// The first piece of a script: a 06h frame; a 02h frame with an address and bytes; 16 ticks.
+/// The first piece of a script: a 06h frame; a 02h frame with an address and bytes; 16 ticks. Both
+/// frames end with no bit loose, for with one they would come to nothing.
 fn first_piece(script: &[u8]) -> Option<Piece<'_>> {
-    let frame = script.strip_prefix(&[0x01, 0x02, 0x06, 0x03])?;
+    let frame = script.strip_prefix(&[0x01, 0x02, 0x06, 0x03, 0x00])?;
     let [0x01, 0x02, 0x02, 0x02, high, 0x02, middle, 0x02, low, sent @ ..] = frame else {
         return None;
     };
@@ -162,5 +163,5 @@ fn first_piece(script: &[u8]) -> Option<Piece<'_>> {
         bytes.push(*byte);
         rest = after;
     }
-    Some((address, bytes, rest.strip_prefix(&[0x03, 0x05, 0x00, 0x10])?))
+    Some((address, bytes, rest.strip_prefix(&[0x03, 0x00, 0x05, 0x00, 0x10])?))
 }

@@ -57,12 +57,17 @@ fn is_9(record: &Record) -> bool {
     verdict_of(*record) == Some(9)
 }
 
+/// Whether an event is a deselect with bits loose.
+fn is_loose((kind, body): &Event) -> bool {
+    *kind == kind::DESELECT && *body > 0
+}
+
 /// The row of a script, from its events and their records; none where nothing yields a record.
 fn script_of_room(events: &[Event], records: &[Record]) -> Option<usize> {
-    let has = |kind| events.iter().any(|event| event.0 == kind);
+    let has = |is: fn(&Event) -> bool| events.iter().any(is);
     let nine = usize::from(records.iter().any(is_9));
-    match (has(kind::DESELECT), has(kind::LOOSE_DESELECT)) {
-        (false, false) => has(kind::EXCHANGE).then_some(0),
+    match (has(|event| *event == (kind::DESELECT, 0)), has(is_loose)) {
+        (false, false) => has(|event| event.0 == kind::EXCHANGE).then_some(0),
         (true, false) => Some(1 + nine),
         (false, true) => Some(3 + nine),
         (true, true) => Some(5 + nine),

@@ -30,8 +30,9 @@ const TICK: Event = (kind::TICK, 0);
 const POWER_CUT: Event = (kind::POWER_CUT, 0);
 /// An event of an unknown kind.
 const UNKNOWN: Event = (0, 0);
-/// An event whose body is out of range.
+/// Events whose bodies are out of range.
 const OUT_OF_RANGE: Event = (kind::WP_LEVEL, 2);
+const EIGHT_BITS: Event = (kind::DESELECT, 8);
 
 // The scripts below are raw bytes: some of them are no events, or not whole ones.
 impl Session<'_> {
@@ -55,15 +56,18 @@ impl Session<'_> {
 
     /// Good and bad events and runs, all of them refused by a number that comes before 3 to 7.
     pub fn refused_by(&mut self, number: u8) -> Outcome {
-        let events = [SELECT, OPCODE, TICK, POWER_CUT, UNKNOWN, OUT_OF_RANGE];
+        let events = [SELECT, OPCODE, TICK, POWER_CUT, UNKNOWN, OUT_OF_RANGE, EIGHT_BITS];
         let (first, second) = (self.rng.pick(&events), self.rng.pick(&events));
         let mut steps = vec![
             Step::Event { event: first, lent: false, length: None },
             Step::Event { event: second, lent: true, length: None },
         ];
+        let good = vec![1, 2, 5, 2, 0, 3, 0];
+        let unknown = vec![1, self.rng.pick(&[8, 0x80])];
+        let unfinished = vec![self.rng.pick(&[2, 3])];
+        let out_of_range = self.rng.pick(&[[6, 2], [3, 8]]).to_vec();
         let too_long = vec![4; LONGEST + 1];
-        let scripts = [vec![], vec![1, 2, 5, 2, 0, 3], vec![1, 9], vec![2], vec![6, 2], too_long];
-        for script in scripts {
+        for script in [vec![], good, unknown, unfinished, out_of_range, too_long] {
             let spare = self.rng.pick(&[0, -1, 3]);
             steps.push(Step::Run { script, spare, length: None });
         }
@@ -78,10 +82,12 @@ impl Session<'_> {
     pub fn wrong_length(&mut self) -> Outcome {
         let length = Some(self.rng.pick(&WRONG_LENGTHS));
         let lent = self.lent();
-        let event = self.rng.pick(&[SELECT, TICK, UNKNOWN, OUT_OF_RANGE, POWER_CUT]);
+        let events = [SELECT, TICK, UNKNOWN, OUT_OF_RANGE, EIGHT_BITS, POWER_CUT];
+        let event = self.rng.pick(&events);
         self.step(Step::Event { event, lent, length })?;
-        let script =
-            self.rng.pick(&[&[][..], &[1, 2, 5, 3], &[9], &[5, 0], &[4; LONGEST + 1]]).to_vec();
+        let scripts: [&[u8]; 7] =
+            [&[], &[1, 2, 5, 3, 0], &[1, 2, 5, 3], &[0x80], &[8, 1], &[5, 0], &[4; LONGEST + 1]];
+        let script = self.rng.pick(&scripts).to_vec();
         self.step(Step::Run { script, spare: -1, length }).map(|_| ())
     }
 
@@ -111,7 +117,7 @@ impl Session<'_> {
     /// A run of a script that is too long, with or without a bad event in it.
     fn too_long(&mut self) -> Outcome {
         let bytes = LONGEST + self.rng.pick(&[1, 1, 2, 4_000, LONGEST]);
-        let kind = self.rng.pick(&[kind::TICK, kind::TICK, kind::DESELECT, 9, 0]);
+        let kind = self.rng.pick(&[kind::TICK, kind::TICK, kind::DESELECT, 8, 0x80, 0]);
         let spare = self.rng.pick(&[0, -1]);
         self.run(vec![kind as u8; bytes], spare)
     }
@@ -139,21 +145,23 @@ impl Session<'_> {
     /// The bytes of an event with an unknown kind or with a body outside its range.
     fn bad_bytes(&mut self) -> Vec<u8> {
         let high = self.rng.byte();
-        match self.rng.below(7) {
+        match self.rng.below(9) {
             0 => vec![0],
-            1 => vec![9],
-            2 => vec![high.max(9)],
+            1 => vec![0x80],
+            2 => vec![high.max(8)],
             3 => vec![5, 0, 0],
             4 => vec![6, high.max(2)],
-            5 => vec![8, 0],
-            _ => vec![8, high.max(8)],
+            5 => vec![3, 8],
+            6 => vec![3, high.max(8)],
+            7 => vec![8, high % 8],
+            _ => vec![8],
         }
     }
 
     /// The bytes of an event whose body, or a part of it, is not there, or of an unknown kind.
     fn unfinished(&mut self) -> Vec<u8> {
         let any = self.rng.byte();
-        let last = [vec![2], vec![5], vec![5, 0], vec![5, any], vec![6], vec![8], vec![any]];
-        last[self.rng.below(last.len())].clone()
+        let last: [&[u8]; 8] = [&[2], &[3], &[5], &[5, 0], &[5, any], &[6], &[8], &[any]];
+        self.rng.pick(&last).to_vec()
     }
 }

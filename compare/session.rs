@@ -5,10 +5,10 @@ use crate::areas;
 use crate::bench::Bench;
 use crate::case::{Case, Content, Start, Step, LENGTHS};
 use crate::coverage::Coverage;
-use crate::event::{script_of, Event};
+use crate::event::{body_length, script_of, Event};
 use crate::generate::Writer;
 use crate::image::Edit;
-use crate::model::{body_length, Chip};
+use crate::model::Chip;
 use crate::rng::Rng;
 use crate::side::Answer;
 
@@ -148,7 +148,7 @@ impl<'a> Session<'a> {
     pub fn one_by_one(&mut self, events: &[Event]) -> Outcome {
         for (kind, body) in events {
             let any = self.rng.next();
-            let body = match body_length(*kind as u8) {
+            let body = match body_length(*kind) {
                 Some(0) => self.rng.pick(&[0, 0, 1, any]),
                 _ => *body,
             };

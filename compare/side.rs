@@ -10,7 +10,8 @@ use crate::writer::Written;
 
 /// Bytes of memory that both sides hold: 64 sectors, and one more that nothing may touch.
 pub const MEMORY_AREA: usize = 65 * Chip::SECTOR;
-/// Bytes of output that both sides hold: enough for a script of 131,072 deselects, and a guard.
+/// Bytes of output that both sides hold: more than enough for a script of 131,072 bytes, which asks
+/// for most room where all of it is deselects, and a guard.
 pub const OUTPUT_AREA: usize = 7 * Chip::SECTOR;
 /// Bytes after a lent buffer that are compared as well; the SFDP area has as many before it.
 pub const GUARD: usize = 64;

@@ -11,13 +11,14 @@ fn event_words((kind, body): Event) -> String {
     match (kind, body) {
         (kind::SELECT, _) => "select".to_string(),
         (kind::EXCHANGE, 0..=255) => format!("exchange {body:02X}h"),
-        (kind::DESELECT, _) => "deselect".to_string(),
+        (kind::DESELECT, 0) => "deselect".to_string(),
+        (kind::DESELECT, 1) => "deselect, 1 bit loose".to_string(),
+        (kind::DESELECT, 2..=7) => format!("deselect, {body} bits loose"),
         (kind::TICK, _) => "tick".to_string(),
         (kind::TICKS, 1..=65_535) => format!("{body} ticks"),
         (kind::WP_LEVEL, 0) => "WP low".to_string(),
         (kind::WP_LEVEL, 1) => "WP high".to_string(),
         (kind::POWER_CUT, _) => "power cut".to_string(),
-        (kind::LOOSE_DESELECT, 1..=7) => format!("loose deselect, {body} bits"),
         _ => format!("event of kind {kind:X}h with body {body:X}h"),
     }
 }

@@ -1,6 +1,6 @@
 // The room that a script asks for, counted with one fault, for the wrong copies that have it.
 
-use crate::event::{self, kind};
+use crate::event::{self, kind, Event};
 use crate::model::Record;
 use crate::side::record_bytes;
 
@@ -22,12 +22,12 @@ pub fn is_reckoned(fault: usize) -> bool {
     fault != WRITTEN
 }
 
-/// The room for an event of a kind that yields a record, with the fault of that number.
-pub fn room_of(fault: usize, kind: u64, record: Record) -> i64 {
-    let deselect = matches!(kind, kind::DESELECT | kind::LOOSE_DESELECT);
+/// The room for an event that yields a record, with the fault of that number.
+pub fn room_of(fault: usize, (kind, body): Event, record: Record) -> i64 {
+    let deselect = kind == kind::DESELECT;
     match fault {
         0 if deselect => 2,
-        1 if kind == kind::LOOSE_DESELECT => 2,
+        1 if deselect && body > 0 => 2,
         2 if kind == kind::EXCHANGE => 3,
         3 if deselect && !matches!(record, Record::Protected { .. }) => 2,
         4 => i64::from(record_bytes(record).length),

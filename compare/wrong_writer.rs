@@ -6,13 +6,15 @@ use crate::writer::Written;
 
 /// The faults, in words: those of the script, those of the answer and of the output, and last one
 /// that is not the writer's but the text form's.
-pub const FAULTS: [&str; 24] = [
+pub const FAULTS: [&str; 26] = [
     "a piece runs over a page edge",
     "the last piece is lost",
     "a piece is given 15 ticks",
     "the address is not carried on from piece to piece",
     "a piece has data beyond its page",
     "no bytes give a script that is not empty",
+    "a program's frame ends with a bit loose",
+    "a deselect has no body",
     "4,096 bytes are refused by 20",
     "4,097 bytes are not refused by 20",
     "an address at the end is not refused by 21",
@@ -22,7 +24,7 @@ pub const FAULTS: [&str; 24] = [
     "a range that ends at the top is refused by 22",
     "a room that is a byte short is not refused by 23",
     "the exact room is refused by 23",
-    "the room is counted without the 17 bytes of a piece",
+    "the room is counted without the 19 bytes of a piece",
     "20 is tested before 1",
     "21 is tested before 20",
     "22 is tested before 21",
@@ -34,7 +36,7 @@ pub const FAULTS: [&str; 24] = [
 ];
 
 /// How many of the faults are in the script itself, the first ones.
-const SCRIPTS: usize = 6;
+const SCRIPTS: usize = 8;
 
 /// The number of the text form's fault.
 pub const TEXT: usize = FAULTS.len() - 1;
@@ -42,8 +44,8 @@ pub const TEXT: usize = FAULTS.len() - 1;
 /// The order in which the fault of that number tests its refusals.
 fn order(fault: usize) -> [u8; 5] {
     let mut order = REFUSALS;
-    if let 16..=19 = fault {
-        order.swap(fault - 16, fault - 15);
+    if let 18..=21 = fault {
+        order.swap(fault - 18, fault - 17);
     }
     order
 }
@@ -53,16 +55,16 @@ fn is_refused_by(fault: usize, asked: &Programming, number: u8) -> bool {
     let Programming { memory, address, data, room } = asked;
     let (count, end) = (data.len(), address.saturating_add(data.len()));
     match (number, fault) {
-        (20, 6) => count >= 4_096,
-        (20, 7) => count > 4_097,
-        (21, 8) => address > memory,
-        (21, 9) => address.saturating_add(1) >= *memory,
-        (21, 10) => count > 0 && address >= memory,
-        (22, 11) => end > memory + 1,
-        (22, 12) => end >= *memory,
-        (23, 13) => room + 1 < asked.script_length(),
-        (23, 14) => count > 0 && *room <= asked.script_length(),
-        (23, 15) => *room < 2 * count,
+        (20, 8) => count >= 4_096,
+        (20, 9) => count > 4_097,
+        (21, 10) => address > memory,
+        (21, 11) => address.saturating_add(1) >= *memory,
+        (21, 12) => count > 0 && address >= memory,
+        (22, 13) => end > memory + 1,
+        (22, 14) => end >= *memory,
+        (23, 15) => room + 1 < asked.script_length(),
+        (23, 16) => count > 0 && *room <= asked.script_length(),
+        (23, 17) => *room < 2 * count,
         _ => asked.is_refused_by(number),
     }
 }
@@ -88,12 +90,15 @@ fn pieces(fault: usize, asked: &Programming) -> Vec<(usize, &[u8])> {
 /// The script of a programming, with the fault of that number.
 pub fn script(fault: usize, asked: &Programming) -> Vec<u8> {
     let ticks = if fault == 2 { 15 } else { 16 };
+    let loose = u8::from(fault == 6);
+    let end: &[u8] = if fault == 7 { &[3] } else { &[3, loose] };
     let mut script = Vec::new();
     for (address, bytes) in pieces(fault, asked) {
         let [.., high, middle, low] = address.to_be_bytes();
-        script.extend([1, 2, 0x06, 3, 1, 2, 0x02, 2, high, 2, middle, 2, low]);
+        script.extend([1, 2, 0x06, 3, 0, 1, 2, 0x02, 2, high, 2, middle, 2, low]);
         script.extend(bytes.iter().flat_map(|byte| [2, *byte]));
-        script.extend([3, 5, 0, ticks]);
+        script.extend(end);
+        script.extend([5, 0, ticks]);
     }
     script
 }
@@ -113,7 +118,7 @@ pub fn wrong_scripts() -> Vec<(&'static str, Programming, Vec<u8>)> {
     let asked = sample(0);
     let right = script(TEXT - 1, &asked); // a fault of the answer alone
     scripts.push(("WP is lowered at the end", asked.clone(), [&right[..], &[6, 0]].concat()));
-    let unarmed = [&[1, 2, 0x99, 3], &right[4..]].concat();
+    let unarmed = [&[1, 2, 0x99, 3, 0], &right[5..]].concat();
     scripts.push(("a reset that is not armed is the first frame", asked, unarmed));
     scripts
 }
@@ -123,15 +128,15 @@ pub fn wrong_scripts() -> Vec<(&'static str, Programming, Vec<u8>)> {
 pub fn write(fault: usize, asked: &Programming, output: &mut [u8]) -> Written {
     let refused = order(fault).into_iter().find(|number| is_refused_by(fault, asked, *number));
     if let Some(refusal) = refused {
-        if fault == 21 && asked.room > 0 {
+        if fault == 23 && asked.room > 0 {
             output[0] = !output[0];
         }
-        let written = if fault == 22 { asked.script_length() } else { 0 };
+        let written = if fault == 24 { asked.script_length() } else { 0 };
         return Written { refusal, written };
     }
     let script = script(fault, asked);
     output[..script.len()].copy_from_slice(&script);
-    if fault == 20 && script.len() < asked.room {
+    if fault == 22 && script.len() < asked.room {
         output[script.len()] = !output[script.len()];
     }
     Written { refusal: 0, written: script.len() }
