@@ -10,9 +10,11 @@ use lib.ListN.{length, getD, drop}
 use Rattle.part.specs.Part.{permitted}
 use Rattle.chip.specs.declared.Chip.{Chip}
 use Rattle.legal.specs.Legal.{legal}
-use Rattle.kinds.specs.Kinds.{knownKind, bodyLength, inRange}
+use Rattle.kinds.specs.Kinds.{knownKind, knownInScript, bodyLength, inRange}
 use Rattle.kinds.specs.Body.{bodyAt}
-use Rattle.script.specs.Script.{Event, eventAt, events}
+use Rattle.clock.specs.declared.Clock.{Clock}
+use Rattle.clock.specs.Clock.{unset, wentBack}
+use Rattle.script.specs.Script.{Event, eventAt, events, clockAfter, clockOver, played}
 use Rattle.script.specs.declared.Ran.{Ran}
 use Rattle.script.specs.Run.{World, world}
 use Rattle.script.specs.Run as Run
@@ -67,22 +69,34 @@ pub runner-is-ours : (c : Chip) (m area s out : List ℕ) (r : Ran) (m′ out′
     → (r ≡ Run.answerOf c m area s out) × (m′ ≡ Run.memoryOf c m area s out) × (out′ ≡ Run.outputOf c m area s out) → ran r m′ out′ ≡ ourRun c m area s out
 runner-is-ours c m area s out r m′ out′ p = λ i. ran (p .0 i) (p .1 i) (p .2 i)
 
--- an event of a script with nothing wrong: of a known kind, whole, and its body in its range
-pub record Sound (s : List ℕ) (e : Event) : Type 0 where
-  pub known : knownKind (e .kind) ≡ true
+-- an event of a script with nothing wrong where the clock stands so: of a kind that a script has, whole, its body in its range, and no stamp that went back
+pub record Sound (s : List ℕ) (k : Clock) (e : Event) : Type 0 where
+  pub known : knownInScript (e .kind) ≡ true
   pub whole : e .offset + 1 + bodyLength (e .kind) ≤ length s
   pub ranged : inRange (e .kind) (e .body) ≡ true
+  pub forward : e .kind ≡ 0x09 → wentBack k (e .body) ≡ false
 
-unfoldable pub AllSound : List ℕ → List Event → Type 0
-AllSound s [] = Unit {0}
-AllSound s (e ∷ es) = Sound s e × AllSound s es
+-- each event by the clock that those before it leave
+unfoldable pub AllSound : List ℕ → Clock → List Event → Type 0
+AllSound s k [] = Unit {0}
+AllSound s k (e ∷ es) = Sound s k e × AllSound s (clockAfter k e) es
 
--- the event at this offset is the first that can be bad: those before it are sound
+-- the event at this offset is the first that can be bad: those before it are sound; and the clock that they leave
 pub record FirstAt (s : List ℕ) (at : ℕ) : Type 0 where
   pub before : List Event
   pub behind : List Event
   pub in-order : events s ≡ before ++ (eventAt s at ∷ behind)
-  pub before-sound : AllSound s before
+  pub before-sound : AllSound s unset before
+
+abbrev pub clockAt : {s : List ℕ} {at : ℕ} → FirstAt s at → Clock
+clockAt f = clockOver unset (f .before)
+
+-- the first event that can be bad is a whole stamp, and went back
+pub record BackAt (s : List ℕ) (at : ℕ) : Type 0 where
+  pub first : FirstAt s at
+  pub stamp : getD s at 0 ≡ 0x09
+  pub whole : at + 3 ≤ length s
+  pub back : wentBack (clockAt first) (bodyAt s at) ≡ true
 
 -- the room that the records of some events are given: two bytes for each exchange, three for each deselect, whatever its body is and its verdict turns out to be
 unfoldable pub roomNeeded : List Event → ℕ
@@ -102,17 +116,19 @@ pub record RunRefusedWhen (number offset : ℕ) (c : Chip) (n extent : ℕ) (s :
   pub thirteen : (number ≡ 13) ↔ ((permitted n ≡ true) × (256 < extent))
   pub two : (number ≡ 2) ↔ ((permitted n ≡ true) × (extent ≤ 256) × (legal c n ≡ false))
   pub three : (number ≡ 3) ↔ ((permitted n ≡ true) × (extent ≤ 256) × (legal c n ≡ true) × (65536 < length s))
-  -- the first bad event decides, with its offset: 5 where its kind is unknown, then 4 where the script ends in it, then 6 where its body is out of range
-  pub five : (at : ℕ) → ((number ≡ 5) × (offset ≡ at)) ↔ (Heard c n extent s × FirstAt s at × (knownKind (getD s at 0) ≡ false))
+  -- the first bad event decides, with its offset: 5 where its kind is unknown, then 4 where the script ends in it, then 6 where its body is out of range, or 8 for a stamp that
+  -- went back
+  pub five : (at : ℕ) → ((number ≡ 5) × (offset ≡ at)) ↔ (Heard c n extent s × FirstAt s at × (knownInScript (getD s at 0) ≡ false))
   pub four : (at : ℕ)
-      → ((number ≡ 4) × (offset ≡ at)) ↔ (Heard c n extent s × FirstAt s at × (knownKind (getD s at 0) ≡ true) × (length s < at + 1 + bodyLength (getD s at 0)))
+      → ((number ≡ 4) × (offset ≡ at)) ↔ (Heard c n extent s × FirstAt s at × (knownInScript (getD s at 0) ≡ true) × (length s < at + 1 + bodyLength (getD s at 0)))
   pub six : (at : ℕ)
       → ((number ≡ 6) × (offset ≡ at))
-      ↔ (Heard c n extent s × FirstAt s at × (knownKind (getD s at 0) ≡ true) × (at + 1 + bodyLength (getD s at 0) ≤ length s) × (inRange (getD s at 0) (bodyAt s at) ≡ false))
-  pub seven : (number ≡ 7) ↔ (Heard c n extent s × AllSound s (events s) × (space < roomNeeded (events s)))
-  pub none : (number ≡ 0) ↔ (Heard c n extent s × AllSound s (events s) × (roomNeeded (events s) ≤ space))
-  -- only 4 to 6 have an offset
-  pub no-offset : (number ≡ 4 → ⊥) → (number ≡ 5 → ⊥) → (number ≡ 6 → ⊥) → offset ≡ 0
+      ↔ (Heard c n extent s × FirstAt s at × (knownInScript (getD s at 0) ≡ true) × (at + 1 + bodyLength (getD s at 0) ≤ length s) × (inRange (getD s at 0) (bodyAt s at) ≡ false))
+  pub eight : (at : ℕ) → ((number ≡ 8) × (offset ≡ at)) ↔ (Heard c n extent s × BackAt s at)
+  pub seven : (number ≡ 7) ↔ (Heard c n extent s × AllSound s unset (events s) × (space < roomNeeded (events s)))
+  pub none : (number ≡ 0) ↔ (Heard c n extent s × AllSound s unset (events s) × (roomNeeded (events s) ≤ space))
+  -- only 4 to 6 and 8 have an offset
+  pub no-offset : (number ≡ 4 → ⊥) → (number ≡ 5 → ⊥) → (number ≡ 6 → ⊥) → (number ≡ 8 → ⊥) → offset ≡ 0
 
 -- a runner over a model
 pub record Demand1Run (M : Model) (R : Runner) : Type 0 where
@@ -120,8 +136,8 @@ pub record Demand1Run (M : Model) (R : Runner) : Type 0 where
   -- refused, chip, memory and output are as they were, and both numbers are 0
   pub refused-keeps : (c : Chip) (m area s out : List ℕ) → (R c m area s out .refusal ≡ 0 → ⊥)
       → R c m area s out ≡ record { chip = c; memory = m; output = out; refusal = R c m area s out .refusal; offset = R c m area s out .offset; written = 0; ticks = 0 }
-  -- done, the events have been applied one after the other; output beyond the written bytes keeps its content
+  -- done, the events have been applied one after the other, each stamp as the ticks that it gives; output beyond the written bytes keeps its content
   pub done-runs : (c : Chip) (m area s out : List ℕ) → R c m area s out .refusal ≡ 0
-      → let w : World = runsBy M area (events s) (world c m [] 0) in
+      → let w : World = runsBy M area (played s) (world c m [] 0) in
       R c m area s out
       ≡ record { chip = w .chip; memory = w .memory; output = w .written ++ drop (length (w .written)) out; refusal = 0; offset = 0; written = length (w .written); ticks = w .ticks }

@@ -16,7 +16,7 @@ use Rattle.chip.specs.Job.{isJob, hasCells, noJob}
 use Rattle.chip.specs.Chip.{bitsIn, bitsOf, running, blankLoad, emptyFrame, statusByte, fresh}
 use Rattle.legal.specs.Legal.{legal}
 use Rattle.demands.specs.States.{LegalState, FreshState}
-use Rattle.demands.specs.Scripts.{KindsInNumbers, EventsInNumbers}
+use Rattle.demands.specs.Scripts.{KindsInNumbers, EventsInNumbers, StampsInNumbers}
 use Rattle.demands.specs.Commands.{TableInNumbers}
 use Rattle.demands.specs.Jobs.{JobsInNumbers}
 use Rattle.demands.specs.Demand2.{among, Rows, firstProtected, lastProtected, StatusByte}
@@ -62,9 +62,10 @@ pub record Words : Type 0 where
   -- legal states, and a fresh one
   pub states : (c : Chip) (n : ℕ) → (legal c n ≡ true) ↔ LegalState c n
   pub fresh-states : (byte : ℕ) → FreshState byte (fresh byte)
-  -- kinds, bodies and the events of a script
+  -- kinds, bodies, the events of a script and its stamps
   pub kinds : KindsInNumbers
   pub events : EventsInNumbers
+  pub stamps : StampsInNumbers
   -- the table of commands, protection, the status byte
   pub table : TableInNumbers
   pub protection : ProtectionInNumbers

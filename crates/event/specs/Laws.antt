@@ -15,8 +15,8 @@ use Rattle.part.specs.Area.{longestArea}
 use Rattle.part.specs.declared.Protected.{Protected}
 use Rattle.part.specs.declared.Protected.the-variants.{NoSector, Sectors}
 use Rattle.part.specs.Protection.{protectedSectors}
-use Rattle.kinds.specs.Kinds.{SELECT, EXCHANGE, DESELECT, TICK, TICKS, WP, POWER, Says, KindRow, knownIn, kindRowIn, kindRow, knownKind, bodyLength, inRange, saysOf, isSaid, roomOf}
-use Rattle.kinds.specs.Laws.{NoKind, not-kind, kind-each, range-small}
+use Rattle.kinds.specs.Kinds.{SELECT, EXCHANGE, DESELECT, TICK, TICKS, WP, POWER, Says, KindRow, kindRowIn, kindRow, knownKind, bodyLength, inRange, saysOf, isSaid, roomOf}
+use Rattle.kinds.specs.Laws.{not-kind, kind-each, none-known, unknown-silent, range-small}
 use Rattle.chip.specs.declared.Chip.{Chip}
 use Rattle.legal.specs.Legal.{legal}
 use Rattle.chip.specs.declared.Core.{Core}
@@ -53,14 +53,16 @@ pub applied-each : (T : Setting) (c : Chip) (m : List ℕ) (kind body : ℕ) (P 
     → (kind ≡ TICKS → P (tick T c m body))
     → (kind ≡ WP → P (setWp c m body))
     → (kind ≡ POWER → P (cutPower c m))
-    → (NoKind kind → P (asItWas c m Nothing))
+    → (knownKind kind ≡ false → P (asItWas c m Nothing))
     → P (applied T c m kind body)
-unfolding applied knownKind knownIn
+unfolding applied knownKind kindRow kindRowIn
 applied-each T c m kind body P p₁ p₂ p₃ p₄ p₅ p₆ p₇ p₈ =
     kind-each (λ k. kind ≡ k → P (applied T c m k body)) p₁ p₂ p₃ p₄ p₅ p₆ p₇
+    (λ e. p₈ (ap knownKind e))
     (λ k none e.
-    rw (not-kind none SELECT refl, not-kind none EXCHANGE refl, not-kind none DESELECT refl, not-kind none TICK refl, not-kind none TICKS refl, not-kind none WP refl, not-kind none POWER refl)
-    (p₈ (subst NoKind (sym e) none)))
+    let no = none-known none in
+    rw (not-kind k no SELECT refl, not-kind k no EXCHANGE refl, not-kind k no DESELECT refl, not-kind k no TICK refl, not-kind k no TICKS refl, not-kind k no WP refl, not-kind k no POWER refl)
+    (p₈ (ap knownKind e ∙ no)))
     kind refl
 
 -- the exchange of a byte, as an event
@@ -182,15 +184,15 @@ says-its-kind T c m kind body =
     (λ e. sym (ap saysOf e))
     (λ e. sym (ap saysOf e))
     (λ e. sym (ap saysOf e))
-    (λ none. sym (ap (λ (row : KindRow). row .says) (none .no-row)))
+    (λ none. sym (unknown-silent kind none))
 
 -- and the table gives it room
 sort-room : (kind : ℕ) (r : Record) → sortOf r ≡ saysOf kind → length (recordBytes r) ≤ roomOf kind
 unfolding kindRow kindRowIn
 sort-room kind r =
     kind-each (λ kind. sortOf r ≡ saysOf kind → length (recordBytes r) ≤ roomOf kind)
-    (silent r) (line r) (λ _. recordBytes-most r) (silent r) (silent r) (silent r) (silent r)
-    (λ kind o e. subst (λ (w : KindRow). length (recordBytes r) ≤ w .room) (sym (o .no-row)) (silent r (e ∙ ap (λ (w : KindRow). w .says) (o .no-row)))) kind
+    (silent r) (line r) (λ _. recordBytes-most r) (silent r) (silent r) (silent r) (silent r) (silent r)
+    (λ kind none e. subst (λ (w : KindRow). length (recordBytes r) ≤ w .room) (sym none) (silent r (e ∙ ap (λ (w : KindRow). w .says) none))) kind
   where
     isVerdict : Says → Bool
     isVerdict Says.silent = false

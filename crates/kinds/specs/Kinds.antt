@@ -33,6 +33,10 @@ WP = 0x06
 abbrev pub POWER : ℕ
 POWER = 0x07
 
+-- what a bench's counter showed; only a run has a clock to read it by
+abbrev pub STAMP : ℕ
+STAMP = 0x09
+
 -- ---- the table
 
 -- what an event can say: nothing; what the line did in an exchange; a deselect's verdict
@@ -41,7 +45,13 @@ pub data Says : Type 0 where
   line : Says
   verdict : Says
 
--- a kind, the length of its body, the least and the greatest body, what it can say, and the room for it (RULES, Events)
+-- where a kind can stand: in a script and as an event alone; in a script only; nowhere, which is what is no kind
+pub data Where : Type 0 where
+  anywhere : Where
+  in-script : Where
+  nowhere : Where
+
+-- a kind, the length of its body, the least and the greatest body, what it can say, the room for it, and where it can stand (RULES, Events)
 pub record KindRow : Type 0 where
   pub kind : ℕ
   pub body : ℕ
@@ -49,42 +59,52 @@ pub record KindRow : Type 0 where
   pub most : ℕ
   pub says : Says
   pub room : ℕ
+  pub place : Where
 
 -- a row, written as the table has it
-abbrev pub row : ℕ → ℕ → ℕ → ℕ → Says → ℕ → KindRow
-row kind body least most says room = record { kind = kind; body = body; least = least; most = most; says = says; room = room }
+abbrev pub row : ℕ → ℕ → ℕ → ℕ → Says → ℕ → Where → KindRow
+row kind body least most says room place = record { kind = kind; body = body; least = least; most = most; says = says; room = room; place = place }
 
--- the seven kinds (RULES, Events)
+-- the seven kinds of events, and the stamp (RULES, Events)
 abbrev pub kindRows : List KindRow
 kindRows =
-    row SELECT 0 0 0 silent 0
-    ∷ row EXCHANGE 1 0 255 line 2
-    ∷ row DESELECT 1 0 7 verdict 3
-    ∷ row TICK 0 0 0 silent 0
-    ∷ row TICKS 2 1 65535 silent 0
-    ∷ row WP 1 0 1 silent 0
-    ∷ row POWER 0 0 0 silent 0
+    row SELECT 0 0 0 silent 0 anywhere
+    ∷ row EXCHANGE 1 0 255 line 2 anywhere
+    ∷ row DESELECT 1 0 7 verdict 3 anywhere
+    ∷ row TICK 0 0 0 silent 0 anywhere
+    ∷ row TICKS 2 1 65535 silent 0 anywhere
+    ∷ row WP 1 0 1 silent 0 anywhere
+    ∷ row POWER 0 0 0 silent 0 anywhere
+    ∷ row STAMP 2 0 65535 silent 0 in-script
     ∷ []
 
--- whether some row has a kind
-unfoldable pub knownIn : List KindRow → ℕ → Bool
-knownIn [] kind = false
-knownIn (r ∷ rs) kind = eqb kind (r .kind) || knownIn rs kind
-
--- the first row of a kind; what is no kind has no body and says nothing
+-- the first row of a kind; what is no kind has no body, says nothing and stands nowhere
 unfoldable pub kindRowIn : List KindRow → ℕ → KindRow
-kindRowIn [] kind = row kind 0 0 0 silent 0
+kindRowIn [] kind = row kind 0 0 0 silent 0 nowhere
 kindRowIn (r ∷ rs) kind = cond (eqb kind (r .kind)) r (kindRowIn rs kind)
 
 -- ---- what the table says of a kind
 
--- whether it is a kind at all
-unfoldable pub knownKind : ℕ → Bool
-knownKind kind = knownIn kindRows kind
-
 -- its row
 unfoldable pub kindRow : ℕ → KindRow
 kindRow kind = kindRowIn kindRows kind
+
+-- whether it is a kind of event, which can be applied alone; and whether it is a kind that a script can have
+abbrev pub isAnywhere : Where → Bool
+isAnywhere anywhere = true
+isAnywhere in-script = false
+isAnywhere nowhere = false
+
+abbrev pub isSomewhere : Where → Bool
+isSomewhere anywhere = true
+isSomewhere in-script = true
+isSomewhere nowhere = false
+
+unfoldable pub knownKind : ℕ → Bool
+knownKind kind = isAnywhere (kindRow kind .place)
+
+unfoldable pub knownInScript : ℕ → Bool
+knownInScript kind = isSomewhere (kindRow kind .place)
 
 -- how many bytes its body has
 abbrev pub bodyLength : ℕ → ℕ

@@ -1,7 +1,7 @@
 // The kinds of events: their names, their bodies, what they can say; and where in a script a body stands.
 ghost use mathlib.Core.Path.{_≡_};
 ghost use Prim.Native.Nat.{_≤_};
-ghost use Rattle.kinds.specs.Kinds.{knownKind, bodyLength, inRange, yields, roomOf, mostRoom};
+ghost use Rattle.kinds.specs.Kinds.{knownKind, knownInScript, bodyLength, inRange, yields, roomOf, mostRoom};
 ghost use Rattle.kinds.specs.Body.{bodyAt, stepTo};
 
 // The kinds are constants of this type; it holds nothing.
@@ -21,9 +21,11 @@ impl Kind {
     pub const WP: u64 = 0x06;
 
     pub const POWER: u64 = 0x07;
+
+    pub const STAMP: u64 = 0x09;
 }
 
-// Whether a number is a kind.
+// Whether a number is a kind of event, which can also be applied alone.
 pub fn is_known(kind: u64) -> bool
     ensures { λ r. ⌜ r ≡ knownKind kind ⌝ }
 {
@@ -39,6 +41,13 @@ pub fn is_known(kind: u64) -> bool
     }
 }
 
+// Whether a number is a kind in a script, where there are stamps too.
+pub fn is_known_in_script(kind: u64) -> bool
+    ensures { λ r. ⌜ r ≡ knownInScript kind ⌝ }
+{
+    is_known(kind) | (kind == Kind::STAMP)
+}
+
 // The length of a kind's body.
 pub fn body_length(kind: u64) -> usize
     ensures { λ r. ⌜ (r ≡ bodyLength kind) × (r ≤ 2) ⌝ }
@@ -48,6 +57,7 @@ pub fn body_length(kind: u64) -> usize
         Kind::DESELECT => 1,
         Kind::TICKS => 2,
         Kind::WP => 1,
+        Kind::STAMP => 2,
         _ => 0,
     }
 }
@@ -61,6 +71,7 @@ pub fn is_in_range(kind: u64, body: u64) -> bool
         Kind::DESELECT => body <= 7,
         Kind::TICKS => (1 <= body) & (body <= 65535),
         Kind::WP => body <= 1,
+        Kind::STAMP => body <= 65535,
         _ => true,
     }
 }

@@ -9,7 +9,7 @@ use lib.ListN.{length, getD, replicate}
 use borrow.Author.Tests.{eqb-true}
 use Rattle.cells.specs.Choice.{and-left, and-right}
 use Rattle.part.specs.Part.{Setting, sectorsIn}
-use Rattle.kinds.specs.Kinds.{TICK, knownIn, kindRowIn, knownKind, kindRow}
+use Rattle.kinds.specs.Kinds.{TICK, knownInScript, kindRowIn, knownKind, kindRow}
 use Rattle.commands.specs.Table.{rowOf, rowIn, fitsRule, isRead, isProgram}
 use Rattle.chip.specs.declared.Chip.{Chip}
 use Rattle.chip.specs.declared.Core.{Core}
@@ -84,7 +84,7 @@ module _ (T : Setting) (m : List ℕ) where
 
   -- the second byte of a status read floats asleep, and is driven awake
   shows-deep : (level : ℕ) (tb srwp wen wp deep armed : Bool) → getD (says level tb srwp wen wp deep armed reading) 1 0 ≡ cond deep 0x80 0x81
-  unfolding runs eventsFrom walk faultAt knownKind knownIn kindRow kindRowIn applied exchanged taken judge rowOf rowIn isProgram verdict recordOf listed isRead commandVerdict jobVerdict jobOf fitsRule settled acted heldAfter instantly ticksCore tickCore worked
+  unfolding runs eventsFrom walk faultAt knownKind knownInScript kindRow kindRowIn applied exchanged taken judge rowOf rowIn isProgram verdict recordOf listed isRead commandVerdict jobVerdict jobOf fitsRule settled acted heldAfter instantly ticksCore tickCore worked
   shows-deep level tb srwp wen wp true armed = refl
   shows-deep level tb srwp wen wp false armed = refl
 
@@ -92,19 +92,19 @@ module _ (T : Setting) (m : List ℕ) where
   shows-status : (level : ℕ) (tb srwp wen wp deep armed : Bool)
       → getD (says level tb srwp wen wp deep armed waking) 5 0
       ≡ statusByte (record { level = level; tb = tb; srwp = srwp; wen = wen; suspended = false; waiting = false; wp = wp; deep = false; armed = false; job = noJob })
-  unfolding runs eventsFrom walk faultAt knownKind knownIn kindRow kindRowIn applied exchanged taken judge rowOf rowIn isProgram verdict recordOf listed isRead commandVerdict jobVerdict jobOf fitsRule settled acted heldAfter instantly ticksCore tickCore worked
+  unfolding runs eventsFrom walk faultAt knownKind knownInScript kindRow kindRowIn applied exchanged taken judge rowOf rowIn isProgram verdict recordOf listed isRead commandVerdict jobVerdict jobOf fitsRule settled acted heldAfter instantly ticksCore tickCore worked
   shows-status level tb srwp wen wp true armed = refl
   shows-status level tb srwp wen wp false armed = refl
 
   -- a reset of a chip that is awake is done if it is armed, and otherwise 11
   shows-armed : (level : ℕ) (tb srwp wen wp armed : Bool) → getD (says level tb srwp wen wp false armed resetting) 2 0 ≡ cond armed 1 11
-  unfolding runs eventsFrom walk faultAt knownKind knownIn kindRow kindRowIn applied exchanged taken judge rowOf rowIn isProgram verdict recordOf listed isRead commandVerdict jobVerdict jobOf fitsRule settled acted heldAfter instantly ticksCore tickCore worked
+  unfolding runs eventsFrom walk faultAt knownKind knownInScript kindRow kindRowIn applied exchanged taken judge rowOf rowIn isProgram verdict recordOf listed isRead commandVerdict jobVerdict jobOf fitsRule settled acted heldAfter instantly ticksCore tickCore worked
   shows-armed level tb srwp wen wp true = refl
   shows-armed level tb srwp wen wp false = refl
 
   -- the second write status begins with WP high, and is 10 with WP low
   shows-wp : (level : ℕ) (tb srwp wen wp deep armed : Bool) → getD (says level tb srwp wen wp deep armed locking) 16 0 ≡ cond wp 2 10
-  unfolding runs eventsFrom walk faultAt knownKind knownIn kindRow kindRowIn applied exchanged taken judge rowOf rowIn isProgram verdict recordOf listed isRead commandVerdict jobVerdict jobOf fitsRule settled acted heldAfter instantly ticksCore tickCore worked
+  unfolding runs eventsFrom walk faultAt knownKind knownInScript kindRow kindRowIn applied exchanged taken judge rowOf rowIn isProgram verdict recordOf listed isRead commandVerdict jobVerdict jobOf fitsRule settled acted heldAfter instantly ticksCore tickCore worked
   shows-wp level tb true wen true true armed = refl
   shows-wp level tb true wen true false armed = refl
   shows-wp level tb true wen false true armed = refl

@@ -20,7 +20,7 @@ use Rattle.chip.specs.Fields.{withSuspended, withWaiting, withArmed, withJob, w
 use Rattle.chip.specs.Chip.{whole, emptyFrame, blankLoad}
 use Rattle.legal.specs.Legal.{isEmpty}
 use Rattle.legal.specs.Legality.{LegalChip, chip-facts, unbegun-empty}
-use Rattle.kinds.specs.Kinds.{knownKind, knownIn, kindRow, kindRowIn}
+use Rattle.kinds.specs.Kinds.{knownKind, knownInScript, kindRow, kindRowIn}
 use Rattle.kinds.specs.Laws.{deselect-range}
 use Rattle.frame.specs.Frame.{judge, opened, Exchange, exchanged}
 use Rattle.frame.specs.Laws.{exchanged-unselected, exchanged-opcode}
@@ -38,15 +38,15 @@ use Rattle.meets.specs.Verdicts.{verdict-as, settled-acts, record-says}
 -- ---- select, WP, power cut
 
 pub ours-selects : (c : Chip) (m area : List ℕ) (body : ℕ) → Fit c m area → ours c m area 0x01 body ≡ reply (whole (c .core) (withSelected true (c .frame)) (c .load) (c .held)) m [] 0
-unfolding applied knownKind knownIn kindRow kindRowIn
+unfolding applied knownKind knownInScript kindRow kindRowIn
 ours-selects c m area body fit = done-as c m area fit 0x01 body refl refl
 
 pub ours-levels : (c : Chip) (m area : List ℕ) (body : ℕ) → Fit c m area → body ≤ 1 → ours c m area 0x06 body ≡ reply (whole (withWp (eqb body 1) (c .core)) (c .frame) (c .load) (c .held)) m [] 0
-unfolding applied knownKind knownIn kindRow kindRowIn
+unfolding applied knownKind knownInScript kindRow kindRowIn
 ours-levels c m area body fit small = done-as c m area fit 0x06 body refl (and-both (leb 0 body) (leb body 1) (le-leb 0 body zero-le) (le-leb body 1 small))
 
 pub ours-power-cut : (c : Chip) (m area : List ℕ) (body : ℕ) → Fit c m area → ours c m area 0x07 body ≡ reply (whole (poweredUp (c .core)) emptyFrame blankLoad blankLoad) m [] 0
-unfolding applied knownKind knownIn kindRow kindRowIn
+unfolding applied knownKind knownInScript kindRow kindRowIn
 ours-power-cut c m area body fit = done-as c m area fit 0x07 body refl refl
 
 -- ---- an exchange
@@ -57,7 +57,7 @@ module _ (c : Chip) (m area : List ℕ) (b : ℕ) (fit : Fit c m area) (byte : b
 
   -- the byte is taken as it is
   pub exchange-as : ours c m area 0x02 b ≡ told (settleExchange c m (exchanged T (c .core) (c .frame) (c .load) m b))
-  unfolding applied knownKind knownIn kindRow kindRowIn
+  unfolding applied knownKind knownInScript kindRow kindRowIn
   exchange-as =
       done-as c m area fit 0x02 b refl (and-both (leb 0 b) (leb b 255) (le-leb 0 b zero-le) (le-leb b 255 byte))
       ∙ ap (λ (x : ℕ). told (settleExchange c m (exchanged T (c .core) (c .frame) (c .load) m x))) (omega arith)
@@ -99,7 +99,7 @@ ours-opcode-byte c m area b fit byte selected none =
 
 -- nothing is wrong with a deselect of fewer bits than a byte has
 pub deselect-good : (bits : ℕ) → bits ≤ 7 → Good (event 0x03 bits)
-unfolding knownKind knownIn
+unfolding knownKind knownInScript kindRow kindRowIn
 deselect-good bits few = (refl, deselect-range bits ∙ le-leb bits 7 few)
 
 -- and it is what the definitions have for one, loose if some bits had gone in

@@ -11,7 +11,7 @@ use borrow.Author.Tests.{eq-eqb, eqb-true, leb-true}
 use Rattle.cells.specs.Choice.{and-left, and-right, and-both, and-four}
 use Rattle.part.specs.Part.{Setting, sectorsIn, settingOf, permitted}
 use Rattle.commands.specs.Table.{rowOf, rowIn, fitsRule, isRead, isProgram, reset}
-use Rattle.kinds.specs.Kinds.{TICKS, POWER, knownIn, kindRowIn, knownKind, kindRow, bodyLength, inRange}
+use Rattle.kinds.specs.Kinds.{TICKS, POWER, knownInScript, kindRowIn, knownKind, kindRow, bodyLength, inRange}
 use Rattle.chip.specs.declared.Record.{Record}
 use Rattle.chip.specs.declared.Record.the-variants.{Nothing, Floating, Driven, Verdict, InTheWay}
 use Rattle.chip.specs.Record.{recordBytes}
@@ -201,16 +201,16 @@ life = drop 9 (events erasesCut)
 
 -- these are its events, and they are sound
 in-order : events erasesCut ≡ before ++ (begins ∷ life)
-unfolding eventsFrom walk faultAt knownKind knownIn kindRow kindRowIn
+unfolding eventsFrom walk faultAt knownKind knownInScript kindRow kindRowIn
 in-order = refl
 
 all-sound : AllSound erasesCut (events erasesCut)
-unfolding allSound eventsFrom walk faultAt knownKind knownIn kindRow kindRowIn
+unfolding allSound eventsFrom walk faultAt knownKind knownInScript kindRow kindRowIn
 all-sound = sound-by-test erasesCut (events erasesCut) refl
 
 -- it passes the test on the smallest part, with any memory
 passes : (m : List ℕ) → wholeLife one (world (fresh 0x00) m [] 0) before begins life ≡ true
-unfolding allSparing runs Stepwise.workedBy eventsFrom walk faultAt knownKind knownIn kindRow kindRowIn applied exchanged taken judge fresh rowOf rowIn isProgram verdict recordOf listed isRead commandVerdict jobVerdict jobOf fitsRule settled acted heldAfter instantly ticksCore tickCore worked protectedCount protectedSectors
+unfolding allSparing runs Stepwise.workedBy eventsFrom walk faultAt knownKind knownInScript kindRow kindRowIn applied exchanged taken judge fresh rowOf rowIn isProgram verdict recordOf listed isRead commandVerdict jobVerdict jobOf fitsRule settled acted heldAfter instantly ticksCore tickCore worked protectedCount protectedSectors
 passes m = refl
 
 module _ (m out : List ℕ) (smallest : length m ≡ 65536) (roomy : 33 ≤ length out) where
@@ -233,7 +233,7 @@ module _ (m out : List ℕ) (smallest : length m ≡ 65536) (roomy : 33 ≤ leng
 
   -- nothing refuses the run
   done : answer .refusal ≡ 0
-  unfolding roomNeeded eventsFrom walk faultAt knownKind knownIn kindRow kindRowIn
+  unfolding roomNeeded eventsFrom walk faultAt knownKind knownInScript kindRow kindRowIn
   done = meets-1-run .numbers (fresh 0x00) m [] erasesCut out .none .1 (heard, all-sound, roomy)
 
   -- the hypotheses: a legal chip, good events, a whole life
@@ -259,5 +259,5 @@ module _ (m out : List ℕ) (smallest : length m ≡ 65536) (roomy : 33 ≤ leng
 
   -- Sixteen of its eighteen ticks work, and the run's own memory is the whole image: a sector of 4,096 cells FFh, every other cell as it was.
   pub cut-and-ended : (answer .refusal ≡ 0) × (answer .memory ≡ wholeImage SmallErase 1 0 blankLoad m) × (answer .chip .core .job ≡ noJob) × (answer .ticks ≡ 16)
-  unfolding runs eventsFrom walk faultAt knownKind knownIn kindRow kindRowIn applied exchanged taken judge fresh rowOf rowIn isProgram verdict recordOf listed isRead commandVerdict jobVerdict jobOf fitsRule settled acted heldAfter instantly protectedCount protectedSectors
+  unfolding runs eventsFrom walk faultAt knownKind knownInScript kindRow kindRowIn applied exchanged taken judge fresh rowOf rowIn isProgram verdict recordOf listed isRead commandVerdict jobVerdict jobOf fitsRule settled acted heldAfter instantly protectedCount protectedSectors
   cut-and-ended = (done, lived .memory-is ∙ ap (λ (n : ℕ). wholeImage SmallErase (sectorsIn n) 0 blankLoad m) smallest, lived .job-gone, lived .ticks-are)

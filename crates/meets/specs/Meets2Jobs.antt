@@ -11,7 +11,7 @@ use Rattle.cells.specs.Choice.{cond-yes, and-left}
 use Rattle.part.specs.Part.{Setting, settingOf, sectorsIn, lengthOf, roundedDown}
 use Rattle.part.specs.Protection.{isProtected}
 use Rattle.part.specs.Laws.{permitted-some, any-by-level}
-use Rattle.kinds.specs.Kinds.{knownIn, knownKind, kindRowIn, kindRow}
+use Rattle.kinds.specs.Kinds.{knownInScript, knownKind, kindRowIn, kindRow}
 use Rattle.commands.specs.Table.{rowOf, rowIn, fitsRule, isProgram}
 use Rattle.chip.specs.declared.Chip.{Chip}
 use Rattle.chip.specs.declared.Core.{Core}
@@ -103,7 +103,7 @@ module _ (c : Chip) (m area : List ℕ) (ready : Ready c m area) (enabled : c .c
 
   -- the definitions' own
   pub framed-as : (bs : List ℕ) → AllBytes bs → framed ours c m area bs ≡ runs T (event 0x03 0 ∷ []) (runs T (event 0x01 0 ∷ sends bs) (world c m [] 0))
-  unfolding AllGood knownKind knownIn kindRow kindRowIn
+  unfolding AllGood knownKind knownInScript kindRow kindRowIn
   framed-as bs bytes = runsBy-add ours area (event 0x01 0 ∷ sends bs) (event 0x03 0 ∷ []) (world c m [] 0) ∙ reached c m area bs (event 0x03 0 ∷ []) fit bytes ((refl, refl), _) .as-defined
 
   -- closed with verdict 2

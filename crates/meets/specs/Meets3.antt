@@ -7,7 +7,7 @@ use mathlib.Core.Logic.{⊎-elim}
 use native.Mathlib.Omega.{arith}
 use lib.ListN.{length, getD}
 use Rattle.part.specs.Part.{Setting, settingOf}
-use Rattle.kinds.specs.Kinds.{knownIn, kindRowIn, knownKind, kindRow}
+use Rattle.kinds.specs.Kinds.{knownInScript, kindRowIn, knownKind, kindRow}
 use Rattle.chip.specs.declared.Chip.{Chip}
 use Rattle.chip.specs.declared.Job.{Job}
 use Rattle.chip.specs.declared.JobKind.{JobKind}
@@ -175,7 +175,7 @@ module _ (area : List ℕ) (kind : JobKind) (start : ℕ) (held : List ℕ) (d :
   powers-ours : (body : ℕ)
       → ours (w′ .chip) (w′ .memory) area 0x07 body
       ≡ reply (whole (poweredUp (w′ .chip .core)) emptyFrame blankLoad blankLoad) (steps kind start held d k (w .memory)) [] 0
-  unfolding applied knownKind knownIn kindRow kindRowIn
+  unfolding applied knownKind knownInScript kindRow kindRowIn
   powers-ours body =
       does-ours area (event 0x07 body) w′ fit-after (refl, refl)
       ∙ ap (λ (m : List ℕ). reply (whole (poweredUp (w′ .chip .core)) emptyFrame blankLoad blankLoad) m [] 0) (lives-ours .memory-is)

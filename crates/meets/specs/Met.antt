@@ -16,7 +16,7 @@ use Rattle.chip.specs.declared.JobKind.the-variants.{WriteStatus, Program, Smal
 use Rattle.chip.specs.Fields.{withWen, withSuspended, withWaiting, withDeep, withArmed, withJob, withSelected, withOpcode, withPlace, withCount}
 use Rattle.chip.specs.Chip.{whole, emptyFrame, blankLoad, resting, fresh}
 use Rattle.legal.specs.Legal.{legalJob, legalCore, legalFrame, isEmpty, isBlank, legal}
-use Rattle.kinds.specs.Kinds.{SELECT, EXCHANGE, DESELECT, TICK, WP, knownIn, kindRowIn, knownKind, kindRow}
+use Rattle.kinds.specs.Kinds.{SELECT, EXCHANGE, DESELECT, TICK, WP, knownInScript, kindRowIn, knownKind, kindRow}
 use Rattle.frame.specs.Frame.{judge, taken, exchanged}
 use Rattle.verdict.specs.Verdict.{jobOf, commandVerdict, listed, verdict, recordOf}
 use Rattle.verdict.specs.Effect.{instantly, acted, settled, heldAfter}
@@ -75,7 +75,7 @@ places-met = (refl, refl, refl, refl, refl, refl, refl)
 
 -- `event-refused-when`: each number occurs; a byte count of 7 is in no legal frame
 pub refusals-met : (refusal (fresh 0x00) 65537 0 TICK 0 ≡ 1) × (refusal (fresh 0x00) 65536 257 TICK 0 ≡ 13) × (refusal counted-to-7 65536 0 TICK 0 ≡ 2) × (refusal (fresh 0x00) 65536 0 9 0 ≡ 5) × (refusal (fresh 0x00) 65536 0 EXCHANGE 256 ≡ 6) × (refusal (fresh 0x00) 65536 256 TICK 0 ≡ 0)
-unfolding refusal legal legalCore legalJob legalFrame isEmpty isBlank permitted fresh knownKind knownIn kindRow kindRowIn
+unfolding refusal legal legalCore legalJob legalFrame isEmpty isBlank permitted fresh knownKind knownInScript kindRow kindRowIn
 refusals-met = (refl, refl, refl, refl, refl, refl)
 
 -- where several fit, 1 comes before 13, and 13 before 2, 5 and 3 (RULES, Refusals)
@@ -90,12 +90,12 @@ refuses kind body = refusal (fresh 0x00) 65536 0 kind body
 -- the least and the greatest body of each kind are taken, and what lies next to them is not (RULES, Events)
 pub ranges-met : (refuses 0x02 0 ≡ 0) × (refuses 0x02 255 ≡ 0) × (refuses 0x02 256 ≡ 6) × (refuses 0x03 0 ≡ 0) × (refuses 0x03 7 ≡ 0) × (refuses 0x03 8 ≡ 6) × (refuses 0x03 256 ≡ 6)
     × (refuses 0x05 0 ≡ 6) × (refuses 0x05 1 ≡ 0) × (refuses 0x05 65535 ≡ 0) × (refuses 0x05 65536 ≡ 6) × (refuses 0x06 0 ≡ 0) × (refuses 0x06 1 ≡ 0) × (refuses 0x06 2 ≡ 6)
-unfolding refusal legal legalCore legalJob legalFrame isEmpty isBlank permitted fresh knownKind knownIn kindRow kindRowIn
+unfolding refusal legal legalCore legalJob legalFrame isEmpty isBlank permitted fresh knownKind knownInScript kindRow kindRowIn
 ranges-met = (refl, refl, refl, refl, refl, refl, refl, refl, refl, refl, refl, refl, refl, refl)
 
 -- a kind without a body takes any number for one, and no number beside 1 to 7 is a kind (RULES, Events)
 pub bodiless-met : (body : ℕ) → (refuses 0x01 body ≡ 0) × (refuses 0x04 body ≡ 0) × (refuses 0x07 body ≡ 0) × (refuses 0x00 body ≡ 5) × (refuses 0x08 body ≡ 5) × (refuses 0x09 body ≡ 5) × (refuses 0x103 body ≡ 5)
-unfolding refusal legal legalCore legalJob legalFrame isEmpty isBlank permitted fresh knownKind knownIn kindRow kindRowIn
+unfolding refusal legal legalCore legalJob legalFrame isEmpty isBlank permitted fresh knownKind knownInScript kindRow kindRowIn
 bodiless-met body = (refl, refl, refl, refl, refl, refl, refl)
 
 -- a deselect on the byte boundary, and one with three bits loose
@@ -108,18 +108,18 @@ loose = DESELECT ∷ 3 ∷ []
 -- `run-refused-when`: so does each number of a run; 65,537 ticks are too many bytes, and a deselect needs three of output
 pub run-refusals-met : (Run.refusal (fresh 0x00) 65537 0 [] 0 .number ≡ 1) × (Run.refusal (fresh 0x00) 65536 257 [] 0 .number ≡ 13) × (Run.refusal counted-to-7 65536 0 [] 0 .number ≡ 2) × (Run.refusal (fresh 0x00) 65536 0 (replicate 65537 TICK) 0 .number ≡ 3) × (Run.refusal (fresh 0x00) 65536 0 clean 2 .number ≡ 7)
     × (Run.refusal (fresh 0x00) 65536 256 clean 3 .number ≡ 0)
-unfolding Run.refusal firstBad room eventsFrom walk faultAt legal legalCore legalJob legalFrame isEmpty isBlank permitted fresh knownKind knownIn kindRow kindRowIn
+unfolding Run.refusal firstBad room eventsFrom walk faultAt legal legalCore legalJob legalFrame isEmpty isBlank permitted fresh knownKind knownInScript kindRow kindRowIn
 run-refusals-met = (refl, refl, refl, refl, refl, refl)
 
 -- the room of each kind of record: two bytes for an exchange, three for a deselect, whatever its body, though verdict 0 takes two of them (RULES, Records; Refusals)
 pub room-met : (Run.refusal (fresh 0x00) 65536 0 (EXCHANGE ∷ 0x00 ∷ []) 1 .number ≡ 7) × (Run.refusal (fresh 0x00) 65536 0 (EXCHANGE ∷ 0x00 ∷ []) 2 .number ≡ 0) × (Run.refusal (fresh 0x00) 65536 0 loose 2 .number ≡ 7)
     × (Run.refusal (fresh 0x00) 65536 0 loose 3 .number ≡ 0) × ((m : List ℕ) → runs (setting 1 []) (events clean) (world (fresh 0x00) m [] 0) .written ≡ 0x82 ∷ 0 ∷ [])
-unfolding Run.refusal runs applied firstBad room eventsFrom walk faultAt legal legalCore legalJob legalFrame isEmpty isBlank permitted fresh knownKind knownIn kindRow kindRowIn
+unfolding Run.refusal runs applied firstBad room eventsFrom walk faultAt legal legalCore legalJob legalFrame isEmpty isBlank permitted fresh knownKind knownInScript kindRow kindRowIn
 room-met = (refl, refl, refl, refl, λ m. refl)
 
 -- `pieces`, `first-bad-decides`: a script without a bad event, and one for each fault
 pub scripts-met : (firstBad (events (SELECT ∷ EXCHANGE ∷ 0x06 ∷ clean)) .number ≡ 0) × (firstBad (events (TICK ∷ EXCHANGE ∷ [])) .number ≡ 4) × (firstBad (events (TICK ∷ 8 ∷ [])) .number ≡ 5) × (firstBad (events (WP ∷ 2 ∷ [])) .number ≡ 6)
-unfolding firstBad eventsFrom walk faultAt knownKind knownIn kindRow kindRowIn
+unfolding firstBad eventsFrom walk faultAt knownKind knownInScript kindRow kindRowIn
 scripts-met = (refl, refl, refl, refl)
 
 -- what refuses a script, with its offset
@@ -130,7 +130,7 @@ Bad s number offset = firstBad (events s) ≡ refusalOf number offset
 -- the bodies, ends inside its last deselect (RULES, Old scripts)
 pub deselects-met : Bad (TICK ∷ DESELECT ∷ []) 4 1 × Bad (TICK ∷ DESELECT ∷ 8 ∷ []) 6 1 × Bad (TICK ∷ DESELECT ∷ 7 ∷ []) 0 0 × Bad (TICK ∷ 8 ∷ 3 ∷ []) 5 1 × Bad (TICK ∷ 8 ∷ []) 5 1
     × (length (events (DESELECT ∷ DESELECT ∷ [])) ≡ 1) × Bad (SELECT ∷ EXCHANGE ∷ 0x06 ∷ DESELECT ∷ SELECT ∷ EXCHANGE ∷ 0x05 ∷ EXCHANGE ∷ 0x00 ∷ DESELECT ∷ []) 4 9
-unfolding firstBad eventsFrom walk faultAt knownKind knownIn kindRow kindRowIn
+unfolding firstBad eventsFrom walk faultAt knownKind knownInScript kindRow kindRowIn
 deselects-met = (refl, refl, refl, refl, refl, refl, refl)
 
 -- a write enable that ends loose is verdict 4, on the boundary 1; a status read is verdict 0 either way (RULES, Verdicts)
@@ -140,12 +140,12 @@ says s m = runs (setting 1 []) (events s) (world (fresh 0x00) m [] 0) .written
 pub loose-met : (m : List ℕ)
     → (says (SELECT ∷ EXCHANGE ∷ 0x06 ∷ loose) m ≡ 0x80 ∷ 0x82 ∷ 4 ∷ []) × (says (SELECT ∷ EXCHANGE ∷ 0x06 ∷ clean) m ≡ 0x80 ∷ 0x82 ∷ 1 ∷ [])
     × (says (SELECT ∷ EXCHANGE ∷ 0x05 ∷ loose) m ≡ 0x80 ∷ 0x82 ∷ 0 ∷ []) × (says (SELECT ∷ EXCHANGE ∷ 0x05 ∷ clean) m ≡ 0x80 ∷ 0x82 ∷ 0 ∷ [])
-unfolding runs applied exchanged taken judge rowOf rowIn fitsRule isRead isProgram verdict recordOf listed commandVerdict jobOf settled acted instantly heldAfter fresh eventsFrom walk faultAt knownKind knownIn kindRow kindRowIn
+unfolding runs applied exchanged taken judge rowOf rowIn fitsRule isRead isProgram verdict recordOf listed commandVerdict jobOf settled acted instantly heldAfter fresh eventsFrom walk faultAt knownKind knownInScript kindRow kindRowIn
 loose-met m = (refl, refl, refl, refl)
 
 -- `room-cut`, `bad-first`: two pieces for which an output has room, one by one, and has none for the whole; a piece that ends in an event, which the next completes
 pub cut-met : (Run.refusal (fresh 0x00) 65536 0 clean 3 .number ≡ 0) × (Run.refusal (fresh 0x00) 65536 0 (clean ++ clean) 3 .number ≡ 7) × (firstBad (events (TICK ∷ EXCHANGE ∷ [])) .number ≡ 4) × (firstBad (events (TICK ∷ EXCHANGE ∷ 0x06 ∷ [])) .number ≡ 0)
-unfolding Run.refusal firstBad room eventsFrom walk faultAt legal legalCore legalJob legalFrame isEmpty isBlank permitted fresh knownKind knownIn kindRow kindRowIn
+unfolding Run.refusal firstBad room eventsFrom walk faultAt legal legalCore legalJob legalFrame isEmpty isBlank permitted fresh knownKind knownInScript kindRow kindRowIn
 cut-met = (refl, refl, refl, refl)
 
 -- the table of kinds, worked through on bytes: each kind once, its ticks 102h with the high byte first (RULES, Events)
@@ -154,7 +154,7 @@ each-kind = 0x01 ∷ 0x02 ∷ 0x9F ∷ 0x03 ∷ 0x07 ∷ 0x04 ∷ 0x05 ∷ 0x01 
 
 -- nothing is wrong with its seven events; it has an exchange to say, of two bytes, and a deselect, of three (RULES, Refusals)
 pub kinds-met : (firstBad (events each-kind) .number ≡ 0) × (length (events each-kind) ≡ 7) × (room (events each-kind) ≡ 5) × (eventAt each-kind 6 .body ≡ 258)
-unfolding firstBad room eventsFrom walk faultAt knownKind knownIn kindRow kindRowIn
+unfolding firstBad room eventsFrom walk faultAt knownKind knownInScript kindRow kindRowIn
 kinds-met = (refl, refl, refl, refl)
 
 -- ---- verdicts 1 and 2

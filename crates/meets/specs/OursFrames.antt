@@ -7,7 +7,7 @@ use native.Mathlib.Omega.{arith}
 use lib.ListN.{length, replicate}
 use borrow.Author.Tests.{le-leb}
 use Rattle.part.specs.Part.{Setting, settingOf, sectorsIn, lengthOf}
-use Rattle.kinds.specs.Kinds.{knownIn, knownKind, kindRowIn, kindRow}
+use Rattle.kinds.specs.Kinds.{knownInScript, knownKind, kindRowIn, kindRow}
 use Rattle.kinds.specs.Laws.{exchange-range}
 use Rattle.chip.specs.declared.Chip.{Chip}
 use Rattle.chip.specs.declared.Frame.{Frame}
@@ -38,7 +38,7 @@ address-bytes A bs small rest = (omega arith, (omega arith, (omega arith, rest))
 
 -- nothing is wrong with a byte that is sent
 pub byte-good : (b : ℕ) → b ≤ 255 → Good (event 0x02 b)
-unfolding knownKind knownIn
+unfolding knownKind knownInScript kindRow kindRowIn
 byte-good b small = (refl, exchange-range b ∙ le-leb b 255 small)
 
 -- nor with a row of them
@@ -49,7 +49,7 @@ sends-good (b ∷ bs) small = (byte-good b (small .0), sends-good bs (small .1))
 
 -- nor with a select before it
 opening-good : (bs : List ℕ) → AllBytes bs → AllGood (event 0x01 0 ∷ sends bs)
-unfolding AllGood knownKind knownIn kindRow kindRowIn
+unfolding AllGood knownKind knownInScript kindRow kindRowIn
 opening-good bs small = ((refl, refl), sends-good bs small)
 
 -- ---- worlds

@@ -7,7 +7,7 @@ use native.Mathlib.Omega.{arith}
 use borrow.Author.Tests.{eq-eqb}
 use Rattle.cells.specs.Choice.{cond-yes}
 use Rattle.part.specs.Part.{Setting}
-use Rattle.kinds.specs.Kinds.{knownIn, kindRowIn, knownKind, kindRow}
+use Rattle.kinds.specs.Kinds.{knownInScript, kindRowIn, knownKind, kindRow}
 use Rattle.script.specs.Script.{Event, faultAt, walk, eventsFrom, events, Refusal, firstBad, room}
 use Rattle.script.specs.Run.{World, runs}
 use Rattle.script.specs.Laws.{runs-add, exchange-good}
@@ -37,15 +37,15 @@ plays-then {s} {t} {es} {fs} p q =
 -- ---- single events
 
 pub plays-select : Plays (0x01 ∷ []) (event 0x01 0 ∷ [])
-unfolding eventsFrom walk firstBad faultAt knownKind knownIn kindRow kindRowIn runs room
+unfolding eventsFrom walk firstBad faultAt knownKind knownInScript kindRow kindRowIn runs room
 plays-select = record { clean = refl; asks = refl; goes = λ T w. refl }
 
 pub plays-deselect : Plays (0x03 ∷ 0x00 ∷ []) (event 0x03 0 ∷ [])
-unfolding eventsFrom walk firstBad faultAt knownKind knownIn kindRow kindRowIn runs room
+unfolding eventsFrom walk firstBad faultAt knownKind knownInScript kindRow kindRowIn runs room
 plays-deselect = record { clean = refl; asks = refl; goes = λ T w. refl }
 
 pub plays-16-ticks : Plays (0x05 ∷ 0x00 ∷ 0x10 ∷ []) (event 0x05 16 ∷ [])
-unfolding eventsFrom walk firstBad faultAt knownKind knownIn kindRow kindRowIn runs room
+unfolding eventsFrom walk firstBad faultAt knownKind knownInScript kindRow kindRowIn runs room
 plays-16-ticks = record { clean = refl; asks = refl; goes = λ T w. refl }
 
 pub plays-exchange : (b : ℕ) → b ≤ 255 → Plays (0x02 ∷ b ∷ []) (event 0x02 b ∷ [])

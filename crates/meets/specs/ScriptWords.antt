@@ -8,7 +8,7 @@ use lib.Dec.{leb}
 use lib.ListN.{getD}
 use borrow.Author.Tests.{le-leb, leb-true}
 use Rattle.cells.specs.Choice.{and-left, and-right, and-both}
-use Rattle.kinds.specs.Kinds.{knownIn, kindRowIn, knownKind, kindRow, bodyLength}
+use Rattle.kinds.specs.Kinds.{knownInScript, kindRowIn, knownKind, kindRow, bodyLength}
 use Rattle.kinds.specs.Body.{numberAt, bodyAt}
 use Rattle.kinds.specs.Laws.{body-one, body-two}
 use Rattle.script.specs.Laws.{events-none, events-more}
@@ -27,7 +27,7 @@ upto most body = (λ h. between 0 most body .0 h .1, λ p. between 0 most body .
 
 -- The kinds, their bodies and ranges are those of the rule book.
 pub kinds-in-numbers : KindsInNumbers
-unfolding knownKind knownIn kindRow kindRowIn
+unfolding knownKind knownInScript kindRow kindRowIn
 kinds-in-numbers =
     record {
       known = λ kind. refl;

@@ -17,7 +17,7 @@ use Rattle.chip.specs.declared.JobKind.{JobKind}
 use Rattle.chip.specs.Job.{hasCells, total}
 use Rattle.chip.specs.Chip.{whole, running}
 use Rattle.legal.specs.Legality.{LegalCore, chip-facts}
-use Rattle.kinds.specs.Kinds.{knownKind, knownIn, kindRow, kindRowIn}
+use Rattle.kinds.specs.Kinds.{knownKind, knownInScript, kindRow, kindRowIn}
 use Rattle.job.specs.Tick.{advanced, stepsLeft, ticksLeft, ticksCore, worked, endedAs}
 use Rattle.job.specs.Laws.{Stop, pauses, ends, stop-of, waits-one, ticks-rest, ticksLoad-rest, ticksMemory-rest, worked-rest, ticks-go, ticks-pause, ticks-end, ended-each, ticks-add, ticksLoad-add, ticksMemory-add, worked-add}
 use Rattle.event.specs.Event.{tick, applied}
@@ -28,7 +28,7 @@ use Rattle.meets.specs.Ours.{told, done-as, runs-ours}
 
 -- nothing is wrong with an event of ticks
 pub ticking-good : (kind body n : ℕ) → Ticking kind body n → Good (event kind body)
-unfolding knownKind knownIn kindRow kindRowIn
+unfolding knownKind knownInScript kindRow kindRowIn
 ticking-good kind body n (one-tick b) = (refl, refl)
 ticking-good kind body n (many-ticks t some most) = (refl, and-both (leb 1 t) (leb t 65535) (le-leb 1 t some) (le-leb t 65535 most))
 

@@ -9,7 +9,7 @@ use Rattle.cells.specs.Cells.{sweep, image, imageFrom}
 use Rattle.part.specs.Part.{permitted}
 use Rattle.part.specs.Protection.{protectedCount, protectedSectors}
 use Rattle.commands.specs.Table.{rowOf, rowIn, fitsRule, isRead, isProgram}
-use Rattle.kinds.specs.Kinds.{knownIn, kindRowIn, knownKind, kindRow, inRange}
+use Rattle.kinds.specs.Kinds.{knownInScript, kindRowIn, knownKind, kindRow, inRange}
 use Rattle.chip.specs.declared.Chip.{Chip}
 use Rattle.chip.specs.declared.Core.{Core}
 use Rattle.chip.specs.declared.Frame.{Frame}
@@ -137,7 +137,7 @@ ticks-spare M n w is = spared-so M (event 0x05 n) w [] (λ e. omega arith) is (�
 
 -- n ticks of the erase, and of the program
 erasure-ticked : (M : Model) (n : ℕ) → inRange 0x05 n ≡ true → M (erasure .chip) (erasure .memory) [] 0x05 n .says ≡ [] → Spared M [] SmallErase 0 blankLoad 0 erasure (event 0x05 n ∷ [])
-unfolding legal legalCore legalJob legalFrame isEmpty isBlank permitted AllGood AllSpare knownKind knownIn
+unfolding legal legalCore legalJob legalFrame isEmpty isBlank permitted AllGood AllSpare knownKind knownInScript kindRow kindRowIn
 erasure-ticked M n ranged is =
     record {
       under-way = record { fit = fitting (unselected (erasing 0)) 0 refl; a-job = refl; job-is = refl; load-is = refl };
@@ -146,7 +146,7 @@ erasure-ticked M n ranged is =
     }
 
 program-ticked : (M : Model) (n : ℕ) → inRange 0x05 n ≡ true → M (program .chip) (program .memory) [] 0x05 n .says ≡ [] → Spared M [] Program 0 low 0 program (event 0x05 n ∷ [])
-unfolding legal legalCore legalJob legalFrame isEmpty isBlank permitted AllGood AllSpare knownKind knownIn
+unfolding legal legalCore legalJob legalFrame isEmpty isBlank permitted AllGood AllSpare knownKind knownInScript kindRow kindRowIn
 program-ticked M n ranged is =
     record {
       under-way = record { fit = fitting (program .chip) 0xF0 refl; a-job = refl; job-is = refl; load-is = refl };
@@ -179,7 +179,7 @@ pub record WrongAsAWhole : Type 0 where
 
 -- The demands refute them.
 pub wrong-as-a-whole : WrongAsAWhole
-unfolding answerOf memoryOf saidOf happens refusal bodyUsed legal legalCore legalJob legalFrame isEmpty isBlank permitted knownKind knownIn kindRow kindRowIn applied exchanged taken judge rowOf rowIn isProgram verdict recordOf listed isRead commandVerdict jobVerdict jobOf fitsRule settled acted heldAfter instantly protectedSectors protectedCount ticksCore tickCore tickLoad ticksLoad tickMemory ticksMemory worked sweep image imageFrom runsBy workedBy AllGood AllSpare AllInside AllBytes bytesOf
+unfolding answerOf memoryOf saidOf happens refusal bodyUsed legal legalCore legalJob legalFrame isEmpty isBlank permitted knownKind knownInScript kindRow kindRowIn applied exchanged taken judge rowOf rowIn isProgram verdict recordOf listed isRead commandVerdict jobVerdict jobOf fitsRule settled acted heldAfter instantly protectedSectors protectedCount ticksCore tickCore tickLoad ticksLoad tickMemory ticksMemory worked sweep image imageFrom runsBy workedBy AllGood AllSpare AllInside AllBytes bytesOf
 wrong-as-a-whole =
     record {
       ignores-all = λ d. false≢true (ap (λ (k : Core). k .wen) (d .0 enabling (cells 0) [] 0 (ending enabling refl refl) refl refl .0));
@@ -225,7 +225,7 @@ early = sends (0 ∷ 0 ∷ 0 ∷ []) ++ (event 0x04 0 ∷ [])
 
 -- The demands refute them.
 pub look-right : LookRight
-unfolding answerOf memoryOf saidOf happens refusal bodyUsed legal legalCore legalJob legalFrame isEmpty isBlank permitted knownKind knownIn kindRow kindRowIn applied exchanged taken judge rowOf rowIn isProgram verdict recordOf listed isRead commandVerdict jobVerdict jobOf fitsRule settled acted heldAfter instantly protectedSectors protectedCount ticksCore tickCore tickLoad ticksLoad tickMemory ticksMemory worked sweep image imageFrom runsBy workedBy AllGood AllSpare AllInside AllBytes bytesOf
+unfolding answerOf memoryOf saidOf happens refusal bodyUsed legal legalCore legalJob legalFrame isEmpty isBlank permitted knownKind knownInScript kindRow kindRowIn applied exchanged taken judge rowOf rowIn isProgram verdict recordOf listed isRead commandVerdict jobVerdict jobOf fitsRule settled acted heldAfter instantly protectedSectors protectedCount ticksCore tickCore tickLoad ticksLoad tickMemory ticksMemory worked sweep image imageFrom runsBy workedBy AllGood AllSpare AllInside AllBytes bytesOf
 look-right =
     record {
       lays-from-page-start = λ d. absurd (omega (arith, d (unselected enabled) (cells 0) [] ready refl .program 0x02 250 0 (counted 1 259) refl refl (omega arith) (all-bytes 0 260) refl .1 .last-stay 4 (omega arith) (omega arith)));
@@ -291,7 +291,7 @@ pub record InTheWay : Type 0 where
 
 -- The demands refute them.
 pub in-the-way : InTheWay
-unfolding answerOf memoryOf saidOf happens refusal bodyUsed legal legalCore legalJob legalFrame isEmpty isBlank permitted knownKind knownIn kindRow kindRowIn applied exchanged taken judge rowOf rowIn isProgram verdict recordOf listed isRead commandVerdict jobVerdict jobOf fitsRule settled acted heldAfter instantly protectedSectors protectedCount ticksCore tickCore tickLoad ticksLoad tickMemory ticksMemory worked sweep image imageFrom runsBy workedBy AllGood AllSpare AllInside AllBytes bytesOf deselects Run.answerOf Run.refusal firstBad room roomNeeded eventsFrom walk faultAt
+unfolding answerOf memoryOf saidOf happens refusal bodyUsed legal legalCore legalJob legalFrame isEmpty isBlank permitted knownKind knownInScript kindRow kindRowIn applied exchanged taken judge rowOf rowIn isProgram verdict recordOf listed isRead commandVerdict jobVerdict jobOf fitsRule settled acted heldAfter instantly protectedSectors protectedCount ticksCore tickCore tickLoad ticksLoad tickMemory ticksMemory worked sweep image imageFrom runsBy workedBy AllGood AllSpare AllInside AllBytes bytesOf deselects Run.answerOf Run.refusal firstBad room roomNeeded eventsFrom walk faultAt
 in-the-way =
     record {
       keeps-nine = λ d. absurd (omega (arith, first-byte (d all-protected two-sectors [] 0 (ending-there all-protected refl refl) refl)));
@@ -336,7 +336,7 @@ pub record TheWait : Type 0 where
 
 -- The demands refute them.
 pub the-wait : TheWait
-unfolding answerOf memoryOf saidOf happens refusal bodyUsed legal legalCore legalJob legalFrame isEmpty isBlank permitted knownKind knownIn kindRow kindRowIn applied exchanged taken judge rowOf rowIn isProgram verdict recordOf listed isRead commandVerdict jobVerdict jobOf fitsRule settled acted heldAfter instantly protectedSectors protectedCount ticksCore tickCore tickLoad ticksLoad tickMemory ticksMemory worked sweep image imageFrom runsBy workedBy AllGood AllSpare AllInside AllBytes bytesOf statusByte
+unfolding answerOf memoryOf saidOf happens refusal bodyUsed legal legalCore legalJob legalFrame isEmpty isBlank permitted knownKind knownInScript kindRow kindRowIn applied exchanged taken judge rowOf rowIn isProgram verdict recordOf listed isRead commandVerdict jobVerdict jobOf fitsRule settled acted heldAfter instantly protectedSectors protectedCount ticksCore tickCore tickLoad ticksLoad tickMemory ticksMemory worked sweep image imageFrom runsBy workedBy AllGood AllSpare AllInside AllBytes bytesOf statusByte
 the-wait =
     record {
       suspends-at-once = λ d. false≢true (ap (λ (k : Core). k .waiting) (d .1 .1 .0 suspending (cells 0) [] 0 (ending suspending refl refl) refl refl .0));
@@ -366,7 +366,7 @@ pub record TheDeselect : Type 0 where
 
 -- The demands refute them.
 pub the-deselect : TheDeselect
-unfolding answerOf memoryOf saidOf happens refusal bodyUsed legal legalCore legalJob legalFrame isEmpty isBlank permitted knownKind knownIn kindRow kindRowIn applied rowOf rowIn verdict recordOf listed isRead fitsRule judge AllSound bodied Run.answerOf Run.refusal firstBad room eventsFrom walk faultAt
+unfolding answerOf memoryOf saidOf happens refusal bodyUsed legal legalCore legalJob legalFrame isEmpty isBlank permitted knownKind knownInScript kindRow kindRowIn applied rowOf rowIn verdict recordOf listed isRead fitsRule judge AllSound bodied Run.answerOf Run.refusal firstBad room eventsFrom walk faultAt
 the-deselect =
     record {
       boundary-is-loose = λ d. absurd (omega (arith, second-byte (d enabling (cells 0) [] 0 (ending enabling refl refl) refl)));
@@ -391,7 +391,7 @@ pub record EarlierVersions : Type 0 where
 
 -- The demands refute them.
 pub earlier-versions : EarlierVersions
-unfolding answerOf memoryOf saidOf happens refusal bodyUsed legal legalCore legalJob legalFrame isEmpty isBlank permitted knownKind knownIn kindRow kindRowIn applied exchanged taken judge rowOf rowIn isProgram verdict recordOf listed isRead commandVerdict jobVerdict jobOf fitsRule settled acted heldAfter instantly protectedSectors protectedCount ticksCore tickCore tickLoad ticksLoad tickMemory ticksMemory worked sweep image imageFrom runsBy workedBy AllGood AllSpare AllInside AllBytes bytesOf
+unfolding answerOf memoryOf saidOf happens refusal bodyUsed legal legalCore legalJob legalFrame isEmpty isBlank permitted knownKind knownInScript kindRow kindRowIn applied exchanged taken judge rowOf rowIn isProgram verdict recordOf listed isRead commandVerdict jobVerdict jobOf fitsRule settled acted heldAfter instantly protectedSectors protectedCount ticksCore tickCore tickLoad ticksLoad tickMemory ticksMemory worked sweep image imageFrom runsBy workedBy AllGood AllSpare AllInside AllBytes bytesOf
 earlier-versions =
     record {
       first-reads = λ d. absurd (omega (arith, second-byte (d (unselected resting) (cells 0) [] (quiet resting refl refl refl) .low-power 65535 (omega arith) .byte-driven (event 0x02 0 ∷ []) (((refl, refl), refl), tt) 0 (omega arith))));

@@ -9,7 +9,7 @@ use Rattle.cells.specs.Cells.{sweep}
 use Rattle.part.specs.Part.{permitted}
 use Rattle.part.specs.Protection.{protectedCount, protectedSectors}
 use Rattle.commands.specs.Table.{rowOf, rowIn, fitsRule, isRead, isProgram}
-use Rattle.kinds.specs.Kinds.{knownIn, kindRowIn, knownKind, kindRow}
+use Rattle.kinds.specs.Kinds.{knownInScript, kindRowIn, knownKind, kindRow}
 use Rattle.chip.specs.declared.Chip.{Chip}
 use Rattle.chip.specs.Chip.{fresh}
 use Rattle.legal.specs.Legal.{legalJob, legalCore, legalFrame, isEmpty, isBlank, legal}
@@ -79,7 +79,7 @@ pub record WrongWriters : Type 0 where
 
 -- The promise refutes them.
 pub wrong-writers : WrongWriters
-unfolding fresh memoryOf worldAfter refusal legal legalCore legalJob legalFrame isEmpty isBlank permitted knownKind knownIn kindRow kindRowIn applied exchanged taken judge rowOf rowIn isProgram verdict recordOf listed isRead commandVerdict jobVerdict jobOf fitsRule settled acted heldAfter instantly protectedSectors protectedCount ticksCore tickCore tickLoad ticksLoad tickMemory ticksMemory worked sweep runs firstBad room eventsFrom walk faultAt cut pieces exchangesOf scriptOf butLast tooShort bodiless allAt withAllLeft
+unfolding fresh memoryOf worldAfter refusal legal legalCore legalJob legalFrame isEmpty isBlank permitted knownKind knownInScript kindRow kindRowIn applied exchanged taken judge rowOf rowIn isProgram verdict recordOf listed isRead commandVerdict jobVerdict jobOf fitsRule settled acted heldAfter instantly protectedSectors protectedCount ticksCore tickCore tickLoad ticksLoad tickMemory ticksMemory worked sweep runs firstBad room eventsFrom walk faultAt cut pieces exchangesOf scriptOf butLast tooShort bodiless allAt withAllLeft
 wrong-writers =
     record {
       over-the-edge = λ d. absurd (omega (arith, d .programs chip blank [] 0xFF (0 ∷ 0 ∷ []) output two-bytes (omega arith) .cells-and 1 (omega arith)));

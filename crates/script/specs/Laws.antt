@@ -1,10 +1,11 @@
--- What is true of scripts and runs: a script event by event, its faults and its room, and a run in two parts.
+-- What is true of scripts and runs: a script event by event, its faults, its stamps and its room, and a run in two parts.
 use Prim.Native.Nat.{ℕ, zero, suc, _+_, _<_, _≤_}
-use mathlib.Core.Bool.{Bool, true, false, cond, not}
-use mathlib.Core.List.{List, [], _∷_, _++_, append-nil}
+use mathlib.Core.Bool.{Bool, true, false, cond, not, _&&_}
+use mathlib.Core.List.{List, [], _∷_, _++_, append-nil, append-assoc}
 use mathlib.Core.Path.{_≡_, refl, sym, ap, _∙_}
 use native.Mathlib.Nat.{add-zero}
 use native.Mathlib.Omega.{arith}
+use native.Mathlib.Decide.{ℕ-discrete}
 use lib.Dec.{eqb, ltb, leb}
 use lib.ListN.{length, getD, take, drop}
 use borrow.Author.Tests.{eq-eqb, ne-eqb, eqb-true, eqb-false, lt-ltb, le-ltb, lt-leb, le-leb, ltb-false}
@@ -13,16 +14,20 @@ use Rattle.cells.specs.Put.{Put}
 use Rattle.cells.specs.PutLaws.{put-between}
 use Rattle.part.specs.Part.{permitted, sectorsIn, Setting, setting}
 use Rattle.part.specs.Area.{longestArea}
-use Rattle.kinds.specs.Kinds.{EXCHANGE, kindRowIn, kindRow, knownIn, knownKind, bodyLength, inRange, roomOf}
+use Rattle.kinds.specs.Kinds.{EXCHANGE, TICK, TICKS, STAMP, kindRowIn, kindRow, knownInScript, bodyLength, inRange, roomOf}
 use Rattle.kinds.specs.Body.{bodyAt, nextAt}
 use Rattle.kinds.specs.Laws.{body-one, exchange-range}
+use Rattle.clock.specs.declared.Clock.{Clock}
+use Rattle.clock.specs.Clock.{unset, shows, movedOn, wentBack}
 use Rattle.chip.specs.declared.Chip.{Chip}
 use Rattle.legal.specs.Legal.{legal}
 use Rattle.chip.specs.declared.Record.{Record}
 use Rattle.chip.specs.Record.{recordBytes}
 use Rattle.script.specs.declared.Ran.{Ran}
-use Rattle.script.specs.Script.{Event, faultAt, eventAt, walk, eventsFrom, events, Refusal, refusalOf, firstBad, room}
-use Rattle.script.specs.Run.{World, world, onward, Stored, runs, Playable, refusal, worldAfter, refused, done, answerOf, memoryOf, outputOf}
+use Rattle.job.specs.Tick.{ticksCore, ticksLoad, ticksMemory, worked}
+use Rattle.event.specs.Event.{tick, applied}
+use Rattle.script.specs.Script.{Event, faultAt, eventAt, walk, eventsFrom, events, isStamp, clockAfter, clockOver, ticksGiven, given, timed, played, Refusal, refusalOf, faultBy, firstBad, room}
+use Rattle.script.specs.Run.{World, world, after, onward, Stored, runs, Playable, refusal, worldAfter, refused, done, answerOf, memoryOf, outputOf}
 
 -- ---- a script, event by event
 
@@ -47,47 +52,107 @@ events-more s at h = walk-enough s (length s) (suc (length s)) at (omega arith) 
 
 -- ---- faults
 
-pub firstBad-none : (s : List ℕ) (at : ℕ) → length s ≤ at → firstBad (eventsFrom s at) ≡ refusalOf 0 0
+pub firstBad-none : (k : Clock) (s : List ℕ) (at : ℕ) → length s ≤ at → firstBad k (eventsFrom s at) ≡ refusalOf 0 0
 unfolding firstBad
-firstBad-none s at h = ap firstBad (events-none s at h)
+firstBad-none k s at h = ap (firstBad k) (events-none s at h)
 
-pub firstBad-here : (s : List ℕ) (at : ℕ) → at < length s → (faultAt s at ≡ 0 → ⊥) → firstBad (eventsFrom s at) ≡ refusalOf (faultAt s at) at
+pub firstBad-here : (k : Clock) (s : List ℕ) (at : ℕ) → at < length s → (faultBy k (eventAt s at) ≡ 0 → ⊥) → firstBad k (eventsFrom s at) ≡ refusalOf (faultBy k (eventAt s at)) at
 unfolding firstBad
-firstBad-here s at h e = ap firstBad (events-more s at h) ∙ cond-no (eqb (faultAt s at) 0) _ _ (ne-eqb _ _ e)
+firstBad-here k s at h e = ap (firstBad k) (events-more s at h) ∙ cond-no (eqb (faultBy k (eventAt s at)) 0) _ _ (ne-eqb _ _ e)
 
-pub firstBad-later : (s : List ℕ) (at : ℕ) → at < length s → faultAt s at ≡ 0 → firstBad (eventsFrom s at) ≡ firstBad (eventsFrom s (nextAt s at))
+pub firstBad-later : (k : Clock) (s : List ℕ) (at : ℕ) → at < length s → faultBy k (eventAt s at) ≡ 0
+    → firstBad k (eventsFrom s at) ≡ firstBad (clockAfter k (eventAt s at)) (eventsFrom s (nextAt s at))
 unfolding firstBad
-firstBad-later s at h e = ap firstBad (events-more s at h) ∙ cond-yes (eqb (faultAt s at) 0) _ _ (eq-eqb _ _ e)
+firstBad-later k s at h e = ap (firstBad k) (events-more s at h) ∙ cond-yes (eqb (faultBy k (eventAt s at)) 0) _ _ (eq-eqb _ _ e)
 
 -- a script with no bad event from here on has none at hand
-pub no-fault : (s : List ℕ) (at : ℕ) → at < length s → firstBad (eventsFrom s at) .number ≡ 0 → faultAt s at ≡ 0
-no-fault s at h e = go (decided (faultAt s at))
+pub no-fault : (k : Clock) (s : List ℕ) (at : ℕ) → at < length s → firstBad k (eventsFrom s at) .number ≡ 0 → faultBy k (eventAt s at) ≡ 0
+no-fault k s at h e = go (ℕ-discrete (faultBy k (eventAt s at)) 0)
   where
-    decided : (n : ℕ) → Dec (n ≡ 0)
-    decided zero = yes refl
-    decided (suc n) = no (λ p. omega arith)
-
-    go : Dec (faultAt s at ≡ 0) → faultAt s at ≡ 0
+    go : Dec (faultBy k (eventAt s at) ≡ 0) → faultBy k (eventAt s at) ≡ 0
     go (yes p) = p
-    go (no p) = ap (λ (r : Refusal). r .number) (sym (firstBad-here s at h p)) ∙ e
+    go (no p) = ap (λ (r : Refusal). r .number) (sym (firstBad-here k s at h p)) ∙ e
 
--- what no fault says: a known kind, all of the body, and in its range
+-- and none behind it
+pub clean-later : (k : Clock) (s : List ℕ) (at : ℕ) → at < length s → firstBad k (eventsFrom s at) .number ≡ 0
+    → firstBad (clockAfter k (eventAt s at)) (eventsFrom s (nextAt s at)) .number ≡ 0
+clean-later k s at h e = ap (λ (r : Refusal). r .number) (sym (firstBad-later k s at h (no-fault k s at h e))) ∙ e
+
+-- no fault by the clock: none as it is written, and a stamp did not go back
+pub record Clean (k : Clock) (e : Event) : Type 0 where
+  pub as-written : e .fault ≡ 0
+  pub forward : (isStamp e && wentBack k (e .body)) ≡ false
+
+pub clean-event : (k : Clock) (e : Event) → faultBy k e ≡ 0 → Clean k e
+clean-event k e = go (eqb (e .fault) 0) (isStamp e && wentBack k (e .body)) refl refl
+  where
+    go : (f b : Bool) → eqb (e .fault) 0 ≡ f → (isStamp e && wentBack k (e .body)) ≡ b → cond f (cond b 8 0) (e .fault) ≡ 0 → Clean k e
+    go true true ef eb h = absurd (omega arith)
+    go true false ef eb h = record { as-written = eqb-true _ _ ef; forward = eb }
+    go false b ef eb h = absurd (eqb-false _ _ ef h)
+
+pub clean-as : (k : Clock) (e : Event) → Clean k e → faultBy k e ≡ 0
+clean-as k e c = cond-yes (eqb (e .fault) 0) _ _ (eq-eqb _ _ (c .as-written)) ∙ cond-no (isStamp e && wentBack k (e .body)) _ _ (c .forward)
+
+-- what no fault as it is written says: a kind that a script has, all of the body, and in its range
 pub record Good (s : List ℕ) (at : ℕ) : Type 0 where
-  pub known : knownKind (getD s at 0) ≡ true
+  pub known : knownInScript (getD s at 0) ≡ true
   pub inside : nextAt s at ≤ length s
   pub ranged : inRange (getD s at 0) (bodyAt s at) ≡ true
 
 pub good-event : (s : List ℕ) (at : ℕ) → faultAt s at ≡ 0 → Good s at
 unfolding faultAt
-good-event s at = go (knownKind (getD s at 0)) (ltb (length s) (nextAt s at)) (inRange (getD s at 0) (bodyAt s at)) refl refl refl
+good-event s at = go (knownInScript (getD s at 0)) (ltb (length s) (nextAt s at)) (inRange (getD s at 0) (bodyAt s at)) refl refl refl
   where
-    go : (k l r : Bool) → knownKind (getD s at 0) ≡ k → ltb (length s) (nextAt s at) ≡ l → inRange (getD s at 0) (bodyAt s at) ≡ r
+    go : (k l r : Bool) → knownInScript (getD s at 0) ≡ k → ltb (length s) (nextAt s at) ≡ l → inRange (getD s at 0) (bodyAt s at) ≡ r
         → _≡_ {A = ℕ} (cond (not k) 5 (cond l 4 (cond (not r) 6 0))) 0
         → Good s at
     go true false true a b d h = record { known = a; inside = ltb-false _ _ b; ranged = d }
     go true false false a b d h = absurd (omega arith)
     go true true r a b d h = absurd (omega arith)
     go false l r a b d h = absurd (omega arith)
+
+-- ---- stamps
+
+-- an event that is no stamp leaves the clock, and a run applies it as it is
+pub clock-stays : (k : Clock) (e : Event) → isStamp e ≡ false → clockAfter k e ≡ k
+clock-stays k e no-stamp = cond-no (isStamp e) _ _ no-stamp
+
+pub given-itself : (k : Clock) (e : Event) → isStamp e ≡ false → given k e ≡ e ∷ []
+given-itself k e no-stamp = cond-no (isStamp e) _ _ no-stamp
+
+-- events without a stamp are applied as they are, whatever the clock shows, and leave it
+unfoldable pub NoStamp : List Event → Type 0
+NoStamp [] = Unit {0}
+NoStamp (e ∷ es) = (isStamp e ≡ false) × NoStamp es
+
+pub timed-unstamped : (k : Clock) (es : List Event) → NoStamp es → timed k es ≡ es
+unfolding timed NoStamp
+timed-unstamped k [] none = refl
+timed-unstamped k (e ∷ es) none =
+    ap (λ (fs : List Event). fs ++ timed (clockAfter k e) es) (given-itself k e (none .0)) ∙ ap (λ (fs : List Event). e ∷ fs) (timed-unstamped (clockAfter k e) es (none .1))
+
+pub clock-unstamped : (k : Clock) (es : List Event) → NoStamp es → clockOver k es ≡ k
+unfolding clockOver NoStamp
+clock-unstamped k [] none = refl
+clock-unstamped k (e ∷ es) none = clock-unstamped (clockAfter k e) es (none .1) ∙ clock-stays k e (none .0)
+
+-- the events of two rows, one behind the other: the second goes on with the clock that the first leaves
+pub timed-add : (k : Clock) (es fs : List Event) → timed k (es ++ fs) ≡ timed k es ++ timed (clockOver k es) fs
+unfolding timed clockOver
+timed-add k [] fs = refl
+timed-add k (e ∷ es) fs =
+    ap (λ (gs : List Event). given k e ++ gs) (timed-add (clockAfter k e) es fs) ∙ sym (append-assoc (given k e) (timed (clockAfter k e) es) (timed (clockOver (clockAfter k e) es) fs))
+
+-- the events from an offset on, as a run applies them
+pub timed-none : (k : Clock) (s : List ℕ) (at : ℕ) → length s ≤ at → timed k (eventsFrom s at) ≡ []
+unfolding timed
+timed-none k s at h = ap (timed k) (events-none s at h)
+
+pub timed-more : (k : Clock) (s : List ℕ) (at : ℕ) → at < length s
+    → timed k (eventsFrom s at) ≡ given k (eventAt s at) ++ timed (clockAfter k (eventAt s at)) (eventsFrom s (nextAt s at))
+unfolding timed
+timed-more k s at h = ap (timed k) (events-more s at h)
 
 -- ---- an exchange in a script: two bytes, the second of them its body
 
@@ -100,14 +165,25 @@ unfolding kindRow kindRowIn
 exchange-next s at e = ap (λ (kind : ℕ). at + 1 + bodyLength kind) e ∙ omega arith
 
 -- with a whole one nothing is wrong
-pub exchange-good : (s : List ℕ) (at : ℕ) → getD s at 0 ≡ EXCHANGE → at + 1 < length s → getD s (at + 1) 0 < 256 → faultAt s at ≡ 0
-unfolding faultAt knownKind knownIn
-exchange-good s at e more byte =
+exchange-written : (s : List ℕ) (at : ℕ) → getD s at 0 ≡ EXCHANGE → at + 1 < length s → getD s (at + 1) 0 < 256 → faultAt s at ≡ 0
+unfolding faultAt knownInScript kindRow kindRowIn
+exchange-written s at e more byte =
     let next : nextAt s at ≡ at + 2 = exchange-next s at e in
     let body : bodyAt s at ≡ getD s (at + 1) 0 = exchange-body s at e in
-    cond-no (not (knownKind (getD s at 0))) _ _ (ap (λ (kind : ℕ). not (knownKind kind)) e)
+    cond-no (not (knownInScript (getD s at 0))) _ _ (ap (λ (kind : ℕ). not (knownInScript kind)) e)
     ∙ cond-no (ltb (length s) (nextAt s at)) _ _ (le-ltb (length s) (nextAt s at) (omega (arith, next)))
     ∙ cond-no (not (inRange (getD s at 0) (bodyAt s at))) _ _ (ap (λ (kind : ℕ). not (inRange kind (bodyAt s at))) e ∙ ap not (exchange-range (bodyAt s at) ∙ le-leb (bodyAt s at) 255 (omega (arith, body))))
+
+exchange-unstamped : (s : List ℕ) (at : ℕ) → getD s at 0 ≡ EXCHANGE → isStamp (eventAt s at) ≡ false
+exchange-unstamped s at e = ap (λ (kind : ℕ). eqb kind STAMP) e
+
+pub exchange-good : (k : Clock) (s : List ℕ) (at : ℕ) → getD s at 0 ≡ EXCHANGE → at + 1 < length s → getD s (at + 1) 0 < 256 → faultBy k (eventAt s at) ≡ 0
+exchange-good k s at e more byte =
+    clean-as k (eventAt s at)
+    (record { as-written = exchange-written s at e more byte; forward = ap (λ (b : Bool). b && wentBack k (bodyAt s at)) (exchange-unstamped s at e) })
+
+pub exchange-clock : (k : Clock) (s : List ℕ) (at : ℕ) → getD s at 0 ≡ EXCHANGE → clockAfter k (eventAt s at) ≡ k
+exchange-clock k s at e = clock-stays k (eventAt s at) (exchange-unstamped s at e)
 
 -- ---- room
 
@@ -149,14 +225,39 @@ stored-none o p said is =
 
 -- ---- a run
 
-pub runs-none : (T : Setting) (s : List ℕ) (at : ℕ) (w : World) → length s ≤ at → runs T (eventsFrom s at) w ≡ w
+pub runs-none : (T : Setting) (k : Clock) (s : List ℕ) (at : ℕ) (w : World) → length s ≤ at → runs T (timed k (eventsFrom s at)) w ≡ w
 unfolding runs
-runs-none T s at w h = ap (λ (es : List Event). runs T es w) (events-none s at h)
+runs-none T k s at w h = ap (λ (es : List Event). runs T es w) (timed-none k s at h)
 
-pub runs-more : (T : Setting) (s : List ℕ) (at : ℕ) (w : World) → at < length s
-    → runs T (eventsFrom s at) w ≡ runs T (eventsFrom s (nextAt s at)) (onward T (eventAt s at) w)
+-- an event that is no stamp is applied, and then the rest
+pub runs-more : (T : Setting) (k : Clock) (s : List ℕ) (at : ℕ) (w : World) → at < length s → isStamp (eventAt s at) ≡ false
+    → runs T (timed k (eventsFrom s at)) w ≡ runs T (timed k (eventsFrom s (nextAt s at))) (onward T (eventAt s at) w)
 unfolding runs
-runs-more T s at w h = ap (λ (es : List Event). runs T es w) (events-more s at h)
+runs-more T k s at w h no-stamp =
+    ap (λ (es : List Event). runs T es w) (timed-more k s at h)
+    ∙ ap (λ (es : List Event). runs T (es ++ timed (clockAfter k (eventAt s at)) (eventsFrom s (nextAt s at))) w) (given-itself k (eventAt s at) no-stamp)
+    ∙ ap (λ (q : Clock). runs T (timed q (eventsFrom s (nextAt s at))) (onward T (eventAt s at) w)) (clock-stays k (eventAt s at) no-stamp)
+
+-- no tick leaves the world as it was
+no-ticks : (T : Setting) (w : World) → after w (tick T (w .chip) (w .memory) 0) ≡ w
+unfolding ticksCore ticksLoad ticksMemory worked
+no-ticks T w = λ i. world (w .chip) (w .memory) (append-nil (w .written) i) (add-zero (w .ticks) i)
+
+-- the ticks that a stamp gives, none included, are applied as so many ticks
+runs-given : (T : Setting) (e : Event) (n : ℕ) (es : List Event) (w : World) → runs T (ticksGiven e n ++ es) w ≡ runs T es (after w (tick T (w .chip) (w .memory) n))
+unfolding runs applied
+runs-given T e zero es w = ap (runs T es) (sym (no-ticks T w))
+runs-given T e (suc n) es w = refl
+
+-- a stamp: its ticks, and then the rest with the clock that it sets
+pub runs-stamp : (T : Setting) (k : Clock) (s : List ℕ) (at : ℕ) (w : World) → at < length s → isStamp (eventAt s at) ≡ true
+    → runs T (timed k (eventsFrom s at)) w
+    ≡ runs T (timed (clockAfter k (eventAt s at)) (eventsFrom s (nextAt s at))) (after w (tick T (w .chip) (w .memory) (movedOn k (bodyAt s at))))
+runs-stamp T k s at w h stamp =
+    let rest : List Event = timed (clockAfter k (eventAt s at)) (eventsFrom s (nextAt s at)) in
+    ap (λ (es : List Event). runs T es w) (timed-more k s at h)
+    ∙ ap (λ (es : List Event). runs T (es ++ rest) w) (cond-yes (isStamp (eventAt s at)) _ _ stamp)
+    ∙ runs-given T (eventAt s at) (movedOn k (bodyAt s at)) rest w
 
 -- running one list of events and then another is running the two together
 pub runs-add : (T : Setting) (es fs : List Event) (w : World) → runs T (es ++ fs) w ≡ runs T fs (runs T es w)
@@ -187,12 +288,12 @@ module _ (c : Chip) (n extent : ℕ) (s : List ℕ) (space : ℕ) where
         refusal-long h = cond-no _ _ _ (ap not p) ∙ cond-no _ _ _ (le-ltb _ _ a) ∙ cond-no _ _ _ (ap not l) ∙ cond-yes _ _ _ (lt-ltb _ _ h)
 
         module _ (short : length s ≤ 65536) where
-          pub refusal-bad : (firstBad (events s) .number ≡ 0 → ⊥) → refusal c n extent s space ≡ firstBad (events s)
+          pub refusal-bad : (firstBad unset (events s) .number ≡ 0 → ⊥) → refusal c n extent s space ≡ firstBad unset (events s)
           unfolding refusal
           refusal-bad b =
               cond-no _ _ _ (ap not p) ∙ cond-no _ _ _ (le-ltb _ _ a) ∙ cond-no _ _ _ (ap not l) ∙ cond-no _ _ _ (le-ltb _ _ short) ∙ cond-yes _ _ _ (ap not (ne-eqb _ _ b))
 
-          module _ (clean : firstBad (events s) .number ≡ 0) where
+          module _ (clean : firstBad unset (events s) .number ≡ 0) where
             pub refusal-room : space < room (events s) → refusal c n extent s space ≡ refusalOf 7 0
             unfolding refusal
             refusal-room h =
@@ -213,10 +314,10 @@ pub record Accepted (c : Chip) (n extent : ℕ) (s : List ℕ) (space : ℕ) : T
 pub accepted : (c : Chip) (n extent : ℕ) (s : List ℕ) (space : ℕ) → refusal c n extent s space .number ≡ 0 → Accepted c n extent s space
 unfolding refusal
 accepted c n extent s space =
-    go (permitted n) (ltb longestArea extent) (legal c n) (ltb 65536 (length s)) (eqb (firstBad (events s) .number) 0) (ltb space (room (events s))) refl refl refl refl refl refl
+    go (permitted n) (ltb longestArea extent) (legal c n) (ltb 65536 (length s)) (eqb (firstBad unset (events s) .number) 0) (ltb space (room (events s))) refl refl refl refl refl refl
   where
-    go : (p a l t b r : Bool) → permitted n ≡ p → ltb longestArea extent ≡ a → legal c n ≡ l → ltb 65536 (length s) ≡ t → eqb (firstBad (events s) .number) 0 ≡ b → ltb space (room (events s)) ≡ r
-        → cond (not p) (refusalOf 1 0) (cond a (refusalOf 13 0) (cond (not l) (refusalOf 2 0) (cond t (refusalOf 3 0) (cond (not b) (firstBad (events s)) (cond r (refusalOf 7 0) (refusalOf 0 0)))))) .number ≡ 0
+    go : (p a l t b r : Bool) → permitted n ≡ p → ltb longestArea extent ≡ a → legal c n ≡ l → ltb 65536 (length s) ≡ t → eqb (firstBad unset (events s) .number) 0 ≡ b → ltb space (room (events s)) ≡ r
+        → cond (not p) (refusalOf 1 0) (cond a (refusalOf 13 0) (cond (not l) (refusalOf 2 0) (cond t (refusalOf 3 0) (cond (not b) (firstBad unset (events s)) (cond r (refusalOf 7 0) (refusalOf 0 0)))))) .number ≡ 0
         → Accepted c n extent s space
     go true false true false true false pe ae le te be re h =
         record {
@@ -272,6 +373,6 @@ module _ (c : Chip) (m area s out : List ℕ) where
     output-done = cond-yes _ _ _ (eq-eqb _ _ ok)
 
 -- what playing comes to is the world after the run
-pub worldAfter-as : (c : Chip) (m area s : List ℕ) (S : ℕ) → S ≡ sectorsIn (length m) → runs (setting S area) (events s) (world c m [] 0) ≡ worldAfter c m area s
+pub worldAfter-as : (c : Chip) (m area s : List ℕ) (S : ℕ) → S ≡ sectorsIn (length m) → runs (setting S area) (played s) (world c m [] 0) ≡ worldAfter c m area s
 unfolding worldAfter
 worldAfter-as c m area s S e = rw e

@@ -1,3 +1,5 @@
 pub mod Script
 pub mod Run
+pub mod Jobs
+pub mod Report
 pub mod Laws

@@ -13,7 +13,8 @@ use Rattle.chip.specs.Record.{recordBytes}
 use Rattle.legal.specs.Legal.{legal}
 use Rattle.event.specs.Event.{Outcome, applied}
 use Rattle.script.specs.declared.Ran.{Ran}
-use Rattle.script.specs.Script.{Event, Refusal, refusalOf, events, firstBad, room}
+use Rattle.clock.specs.Clock.{unset}
+use Rattle.script.specs.Script.{Event, Refusal, refusalOf, events, played, firstBad, room}
 
 -- what a run has come to: the chip, the memory, the bytes written and the working ticks so far
 pub record World : Type 0 where
@@ -42,7 +43,7 @@ runs T (e ∷ es) w = runs T es (onward T e w)
 
 -- what a look through a script finds: the first bad event and, where there is none, the room for the records
 pub record Scan (s : List ℕ) (number offset space : ℕ) : Type 0 where
-  pub bad : refusalOf number offset ≡ firstBad (events s)
+  pub bad : refusalOf number offset ≡ firstBad unset (events s)
   pub rooms : number ≡ 0 → space ≡ room (events s)
 
 -- a record stored in the output at a place: the bytes before the next place, and what stands from there on
@@ -51,19 +52,19 @@ pub record Stored (o : List ℕ) (p : ℕ) (said : Record) (p′ : ℕ) (o′ : 
   pub before : take p′ o′ ≡ take p o ++ recordBytes said
   pub beyond : drop p′ o′ ≡ drop p′ o
 
--- what refuses a run: the length, the area, the state, the script's length, its first bad event, the room; n is the memory's length, extent the area's, space the output's
+-- what refuses a run: the length, the area, the state, the script's length, its first bad event by a clock that is not set yet, the room; n is the memory's length, extent the area's, space the output's
 unfoldable pub refusal : Chip → ℕ → ℕ → List ℕ → ℕ → Refusal
 refusal c n extent s space =
     cond (not (permitted n)) (refusalOf 1 0)
     (cond (ltb longestArea extent) (refusalOf 13 0)
     (cond (not (legal c n)) (refusalOf 2 0)
     (cond (ltb 65536 (length s)) (refusalOf 3 0)
-    (cond (not (eqb (firstBad (events s) .number) 0)) (firstBad (events s))
+    (cond (not (eqb (firstBad unset (events s) .number) 0)) (firstBad unset (events s))
     (cond (ltb space (room (events s))) (refusalOf 7 0) (refusalOf 0 0))))))
 
 -- the world after a script run to its end, from a chip and a memory, with an area
 unfoldable pub worldAfter : Chip → List ℕ → List ℕ → List ℕ → World
-worldAfter c m area s = runs (settingOf (length m) area) (events s) (world c m [] 0)
+worldAfter c m area s = runs (settingOf (length m) area) (played s) (world c m [] 0)
 
 -- refused, the chip comes back as it was given, nothing is written and no tick works
 abbrev pub refused : Chip → Refusal → Ran
@@ -93,11 +94,11 @@ outputOf c m area s out =
 -- a script that nothing refuses, for an output of that length
 pub record Playable (s : List ℕ) (space : ℕ) : Type 0 where
   pub short : length s ≤ 65536
-  pub clean : firstBad (events s) .number ≡ 0
+  pub clean : firstBad unset (events s) .number ≡ 0
   pub roomy : room (events s) ≤ space
 
 -- what playing it leaves
 pub record Played (T : Setting) (c : Chip) (m s out : List ℕ) (r : Ran) (m′ out′ : List ℕ) : Type 0 where
-  pub answer : r ≡ done (runs T (events s) (world c m [] 0))
-  pub memory : m′ ≡ runs T (events s) (world c m [] 0) .memory
-  pub output : out′ ≡ runs T (events s) (world c m [] 0) .written ++ drop (length (runs T (events s) (world c m [] 0) .written)) out
+  pub answer : r ≡ done (runs T (played s) (world c m [] 0))
+  pub memory : m′ ≡ runs T (played s) (world c m [] 0) .memory
+  pub output : out′ ≡ runs T (played s) (world c m [] 0) .written ++ drop (length (runs T (played s) (world c m [] 0) .written)) out

@@ -23,7 +23,11 @@ unfolding kindRow kindRowIn
 returns-4 c = (rw (c .match .keys4), search needs)
 
 returns-5 : tie.Need-returns-5
-returns-5 c = (sym (no-body _ (c .match .rest .0 .0 .0 .1) (c .match .rest .0 .0 .1) (c .match .rest .0 .1) (c .match .rest .1)), search needs)
+unfolding kindRow kindRowIn
+returns-5 c = (rw (c .match .keys5), search needs)
+
+returns-6 : tie.Need-returns-6
+returns-6 c = (sym (no-body _ (c .match .rest .0 .0 .0 .0 .1) (c .match .rest .0 .0 .0 .1) (c .match .rest .0 .0 .1) (c .match .rest .0 .1) (c .match .rest .1)), search needs)
 
 pub body-length-spec : {M : Type 1} → statement M
-body-length-spec = tie.close (tie.spec returns returns-2 returns-3 returns-4 returns-5)
+body-length-spec = tie.close (tie.spec returns returns-2 returns-3 returns-4 returns-5 returns-6)
