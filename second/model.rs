@@ -1,5 +1,11 @@
 // A second, independent model of the LE25S161: one chip, its events and its runs.
 
+#[path = "report.rs"]
+mod report;
+
+#[allow(unused_imports)]
+pub use report::{run_with_report, Line};
+
 /// The opcodes, by the names of the commands they start.
 pub(crate) mod opcode {
     pub const WRITE_ENABLE: u8 = 0x06;
@@ -34,6 +40,7 @@ pub(crate) mod kind {
     pub const TICKS: u8 = 0x05;
     pub const WP_LEVEL: u8 = 0x06;
     pub const POWER_CUT: u8 = 0x07;
+    pub const STAMP: u8 = 0x09;
 }
 
 /// Length rule of a frame that may have any length.
@@ -84,9 +91,6 @@ const ROW_OF: [u8; 256] = {
     rows
 };
 
-/// The body length of each event kind from 01h on.
-const BODY_LENGTHS: [usize; 7] = [0, 1, 1, 0, 2, 1, 0];
-
 /// The four-byte code that a 9Fh frame drives in a cycle, the reserve code last.
 const JEDEC_CYCLE: [u8; 4] = [0x62, 0x16, 0x15, 0x00];
 /// The device ID that an ABh frame drives.
@@ -107,6 +111,9 @@ const ADDRESS_END: u32 = 1 << 24;
 const LONGEST_AREA: usize = 256;
 /// The most bits that a deselect can leave loose: with an eighth the byte would be whole.
 const MOST_LOOSE_BITS: u64 = 7;
+/// From this move on a counter is taken to have gone back: half of its round, from where the way
+/// back is no longer than the way on.
+const WENT_BACK: u16 = 32_768;
 
 /// What a job does, with the load of a program or the value of a write status.
 #[derive(Clone, Debug, PartialEq, Eq)]
@@ -184,6 +191,38 @@ pub struct RunAnswer {
     pub offset: usize,
     pub written: usize,
     pub ticks: u64,
+}
+
+/// The bench's counter as a run knows it: the last stamp, none before the first. It belongs to the
+/// run and not to the chip, so a power cut leaves it alone and the next run starts without one.
+#[derive(Default)]
+struct Clock {
+    last: Option<u16>,
+}
+
+/// What an event of a run has done, as far as someone who watches its jobs needs to know: the
+/// record, the ticks that passed and the working ones among them.
+struct Done {
+    record: Record,
+    ticks: u64,
+    working: u64,
+}
+
+impl Clock {
+    /// Takes a stamp and gives how far the counter has moved on since the one before, over its
+    /// roll-over too. The first has nothing to be measured from and only sets the clock.
+    fn take(&mut self, stamp: u16) -> u16 {
+        let moved = self.last.map_or(0, |last| stamp.wrapping_sub(last));
+        self.last = Some(stamp);
+        moved
+    }
+}
+
+impl RunAnswer {
+    /// The answer to a run that is refused.
+    fn refused(refusal: u8, offset: usize) -> RunAnswer {
+        RunAnswer { refusal, offset, written: 0, ticks: 0 }
+    }
 }
 
 impl Job {
@@ -555,6 +594,7 @@ fn verdict_record(chip: &Chip, memory_length: usize, verdict: u8) -> Record {
 }
 
 /// Ends the frame of a chip and gives the record of its verdict.
+#[inline]
 fn deselect(chip: &mut Chip, memory_length: usize, loose: bool) -> Record {
     if !chip.selected {
         return Record::Verdict(0);
@@ -624,10 +664,11 @@ fn exchange(chip: &mut Chip, memory: &[u8], area: &[u8], byte: u8) -> Record {
     Record::Floating
 }
 
-/// Lets ticks pass, one or more, and gives the number of working ticks among them. In the wait only
-/// the first can work: the others find the job suspended, or ended if that step was its last.
+/// Lets ticks pass and gives the number of working ticks among them. In the wait only the first can
+/// work: the others find the job suspended, or ended if that step was its last. With no tick, as an
+/// equal stamp has it, the wait goes on too.
 fn pass_ticks(chip: &mut Chip, memory: &mut [u8], ticks: u64) -> u64 {
-    if chip.suspended {
+    if ticks == 0 || chip.suspended {
         return 0;
     }
     let Some(job) = &mut chip.job else {
@@ -671,9 +712,14 @@ fn cut_power(chip: &mut Chip) {
     chip.end_frame();
 }
 
-/// The body length of an event kind, if the kind is known.
+/// The body length of an event kind, if a script may have the kind.
 pub(crate) fn body_length(kind: u8) -> Option<usize> {
-    BODY_LENGTHS.get(usize::from(kind).wrapping_sub(1)).copied()
+    match kind {
+        kind::SELECT | kind::TICK | kind::POWER_CUT => Some(0),
+        kind::EXCHANGE | kind::DESELECT | kind::WP_LEVEL => Some(1),
+        kind::TICKS | kind::STAMP => Some(2),
+        _ => None,
+    }
 }
 
 /// Whether a body value is inside the range of its kind.
@@ -730,6 +776,8 @@ fn event_refusal(chip: &Chip, memory: &[u8], area: &[u8], kind: u64, body: u64) 
         return lent;
     }
     match u8::try_from(kind) {
+        // Alone there is no run whose clock a stamp could set or move, so it is no kind here.
+        Ok(kind::STAMP) => 5,
         Ok(kind) if body_length(kind).is_some() => {
             if body_in_range(kind, body) { 0 } else { 6 }
         }
@@ -772,10 +820,20 @@ fn output_room(kind: u8) -> usize {
     }
 }
 
+/// The refusal number of a body in a script, 0 when there is none. No stamp is out of range in
+/// itself: what can be wrong with one depends on the stamp before it.
+fn script_body_refusal(clock: &mut Clock, kind: u8, body: u64) -> u8 {
+    if kind == kind::STAMP {
+        return if clock.take(body as u16) < WENT_BACK { 0 } else { 8 };
+    }
+    if body_in_range(kind, body) { 0 } else { 6 }
+}
+
 /// The output room that a script needs, or the refusal and offset of its first bad event.
 fn check_script(script: &[u8]) -> Result<usize, (u8, usize)> {
     let mut room = 0;
     let mut offset = 0;
+    let mut clock = Clock::default();
     while offset < script.len() {
         let kind = script[offset];
         // Most events are exchanges, and any byte is in their range.
@@ -786,9 +844,10 @@ fn check_script(script: &[u8]) -> Result<usize, (u8, usize)> {
         }
         let length = body_length(kind).ok_or((5, offset))?;
         let end = offset + 1 + length;
-        let body = script.get(offset + 1..end).ok_or((4, offset))?;
-        if !body_in_range(kind, body_value(body)) {
-            return Err((6, offset));
+        let body = body_value(script.get(offset + 1..end).ok_or((4, offset))?);
+        let refusal = script_body_refusal(&mut clock, kind, body);
+        if refusal != 0 {
+            return Err((refusal, offset));
         }
         room += output_room(kind);
         offset = end;
@@ -835,6 +894,24 @@ fn write_bytes<const LENGTH: usize>(output: &mut [u8], bytes: [u8; LENGTH]) -> u
     LENGTH
 }
 
+/// The kind and body of an event of a run, a stamp being replaced by the ticks that it gives.
+fn without_stamp(clock: &mut Clock, kind: u8, body: u64) -> (u8, u64) {
+    if kind == kind::STAMP {
+        (kind::TICKS, u64::from(clock.take(body as u16)))
+    } else {
+        (kind, body)
+    }
+}
+
+/// The ticks that an event lets pass, working or not.
+fn ticks_of(kind: u8, body: u64) -> u64 {
+    match kind {
+        kind::TICK => 1,
+        kind::TICKS => body,
+        _ => 0,
+    }
+}
+
 /// Runs a whole script, or refuses it and changes nothing.
 #[allow(dead_code)]
 pub fn run(
@@ -844,11 +921,38 @@ pub fn run(
     script: &[u8],
     output: &mut [u8],
 ) -> RunAnswer {
-    let checked = check_run(chip, memory.len(), area.len(), script, output.len());
-    if let Err((refusal, offset)) = checked {
-        return RunAnswer { refusal, offset, written: 0, ticks: 0 };
+    run_watched(chip, memory, area, script, output, |_, _| {})
+}
+
+/// A run that shows a watcher what each event has done and the chip after it. Exchanges are not
+/// shown: they let no tick pass and no job begin or end.
+#[inline]
+fn run_watched(
+    chip: &mut Chip,
+    memory: &mut [u8],
+    area: &[u8],
+    script: &[u8],
+    output: &mut [u8],
+    watcher: impl FnMut(&Chip, Done),
+) -> RunAnswer {
+    match check_run(chip, memory.len(), area.len(), script, output.len()) {
+        Ok(()) => run_checked(chip, memory, area, script, output, watcher),
+        Err((refusal, offset)) => RunAnswer::refused(refusal, offset),
     }
+}
+
+/// Runs a script that has passed every check.
+#[inline]
+fn run_checked(
+    chip: &mut Chip,
+    memory: &mut [u8],
+    area: &[u8],
+    script: &[u8],
+    output: &mut [u8],
+    mut watcher: impl FnMut(&Chip, Done),
+) -> RunAnswer {
     let mut answer = RunAnswer { refusal: 0, offset: 0, written: 0, ticks: 0 };
+    let mut clock = Clock::default();
     let mut rest = script;
     while let [kind, after @ ..] = rest {
         // Most events are exchanges.
@@ -858,10 +962,12 @@ pub fn run(
             rest = next;
             continue;
         }
-        let (body, next) = after.split_at(BODY_LENGTHS[usize::from(*kind) - 1]);
-        let (record, ticks) = apply(chip, memory, area, *kind, body_value(body));
+        let (body, next) = after.split_at(body_length(*kind).unwrap_or(0));
+        let (kind, body) = without_stamp(&mut clock, *kind, body_value(body));
+        let (record, working) = apply(chip, memory, area, kind, body);
         answer.written += write_record(&mut output[answer.written..], record);
-        answer.ticks += ticks;
+        answer.ticks += working;
+        watcher(chip, Done { record, ticks: ticks_of(kind, body), working });
         rest = next;
     }
     answer

@@ -13,6 +13,9 @@ mod program;
 #[path = "sfdp.rs"]
 mod sfdp;
 
+#[path = "stamp_tests.rs"]
+mod stamp_tests;
+
 #[path = "wait_tests.rs"]
 mod wait_tests;
 
@@ -335,7 +338,7 @@ fn program_texts() {
     let text = "part 65536\n1 --\n3 V1\n6 --\n8 02\n10 V0\nanswer 0 ticks 0\n";
     assert_eq!(program::report(&SAMPLE), text);
     assert_eq!(program::report(&[]), "part 65536\nanswer 0 ticks 0\n");
-    assert_eq!(program::report(&[4, 9]), "part 65536\nanswer 5 at 1\n");
+    assert_eq!(program::report(&[4, 10]), "part 65536\nanswer 5 at 1\n");
     assert_eq!(program::report(&[4; 4_097]), "too long\n");
     assert!(program::report(&[4; 4_096]).ends_with("answer 0 ticks 0\n"));
     let erase = [1, 2, 6, 3, 0, 1, 2, 0x60, 3, 0, 5, 1, 44];
@@ -396,23 +399,23 @@ fn refused(bench: &mut Bench, script: &[u8], output_length: usize) -> (u8, usize
 #[test]
 fn run_refusals() {
     let mut bench = Bench::new(1, 0);
-    assert_eq!(refused(&mut bench, &[1, 2, 6, 9], 9), (5, 3));
+    assert_eq!(refused(&mut bench, &[1, 2, 6, 10], 9), (5, 3));
     assert_eq!(refused(&mut bench, &[1, 0], 9), (5, 1));
     assert_eq!(refused(&mut bench, &[1, 2], 9), (4, 1));
     assert_eq!(refused(&mut bench, &[5, 0], 9), (4, 0));
-    assert_eq!(refused(&mut bench, &[4, 5, 0, 0, 9], 9), (6, 1));
+    assert_eq!(refused(&mut bench, &[4, 5, 0, 0, 10], 9), (6, 1));
     assert_eq!(refused(&mut bench, &[6, 2], 9), (6, 0));
     assert_eq!(refused(&mut bench, &[3, 8], 9), (6, 0));
     assert_eq!(refused(&mut bench, &[8, 0], 9), (5, 0));
     assert_eq!(refused(&mut bench, &[1, 2, 6, 3], 9), (4, 3));
     assert_eq!(refused(&mut bench, &[1, 2, 6, 3, 0], 4), (7, 0));
     assert_eq!(refused(&mut bench, &[3, 1], 2), (7, 0));
-    assert_eq!(refused(&mut bench, &[3, 0, 9], 0), (5, 2));
-    assert_eq!(refused(&mut bench, &[9; 65_537], 0), (3, 0));
+    assert_eq!(refused(&mut bench, &[3, 0, 10], 0), (5, 2));
+    assert_eq!(refused(&mut bench, &[10; 65_537], 0), (3, 0));
     bench.chip.level = 8;
-    assert_eq!(refused(&mut bench, &[9; 65_537], 0), (2, 0));
+    assert_eq!(refused(&mut bench, &[10; 65_537], 0), (2, 0));
     bench.memory.pop();
-    assert_eq!(refused(&mut bench, &[9; 65_537], 0), (1, 0));
+    assert_eq!(refused(&mut bench, &[10; 65_537], 0), (1, 0));
 }
 
 #[test]
@@ -430,7 +433,7 @@ fn memory_lengths() {
 #[test]
 fn event_refusals() {
     let cases = [
-        (0, 0, 5), (8, 1, 5), (9, 0, 5), (u64::MAX, u64::MAX, 5), (257, 0, 5), (259, 0, 5),
+        (0, 0, 5), (8, 1, 5), (10, 0, 5), (u64::MAX, u64::MAX, 5), (257, 0, 5), (259, 0, 5),
         (2, 255, 0), (2, 256, 6), (5, 0, 6), (5, 1, 0), (5, 65_535, 0), (5, 65_536, 6),
         (6, 0, 0), (6, 1, 0), (6, 2, 6), (3, 0, 0), (3, 7, 0), (3, 8, 6), (3, 256, 6),
         (3, u64::MAX, 6), (1, u64::MAX, 0), (4, u64::MAX, 0), (7, u64::MAX, 0),
@@ -446,9 +449,9 @@ fn event_refusals() {
     }
     let mut bench = Bench::new(1, 0);
     bench.chip.suspended = true;
-    assert_eq!(event(&mut bench.chip, &mut bench.memory, &bench.area, 9, 0).refusal, 2);
+    assert_eq!(event(&mut bench.chip, &mut bench.memory, &bench.area, 10, 0).refusal, 2);
     bench.memory.clear();
-    assert_eq!(event(&mut bench.chip, &mut bench.memory, &bench.area, 9, 0).refusal, 1);
+    assert_eq!(event(&mut bench.chip, &mut bench.memory, &bench.area, 10, 0).refusal, 1);
 }
 
 #[test]
@@ -1148,7 +1151,7 @@ fn events_of(script: &[u8]) -> Vec<(u64, u64)> {
 
 /// The room of a good script: 2 an exchange, 3 a deselect, clean or loose.
 fn room_of(script: &[u8]) -> usize {
-    events_of(script).iter().map(|(kind, _)| [0, 0, 2, 3, 0, 0, 0, 0][*kind as usize]).sum()
+    events_of(script).iter().map(|(kind, _)| [0, 0, 2, 3, 0, 0, 0, 0, 0, 0][*kind as usize]).sum()
 }
 
 /// The output bytes of a record.
@@ -1511,24 +1514,24 @@ fn refusal_13_and_its_order() {
         assert_eq!((answer.record, answer.ticks), (Record::None, 0));
         answer.refusal
     };
-    for (kind, body) in [(1, 0), (2, 0x5A), (2, 256), (3, 8), (9, 0)] {
+    for (kind, body) in [(1, 0), (2, 0x5A), (2, 256), (3, 8), (10, 0)] {
         assert_eq!(alone(&mut bench, kind, body), 13);
         assert!(bench.chip == before.chip && bench.memory == before.memory);
     }
-    let scripts: [&[u8]; 5] = [&[], &[1, 2, 0x5A, 3, 0], &[1, 9], &[1, 2], &[9; 65_537]];
+    let scripts: [&[u8]; 5] = [&[], &[1, 2, 0x5A, 3, 0], &[1, 10], &[1, 2], &[10; 65_537]];
     for script in scripts {
         assert_eq!(refused(&mut bench, script, 0), (13, 0));
     }
     bench.chip.level = 8;
-    assert_eq!(refused(&mut bench, &[9], 0), (13, 0));
-    assert_eq!(alone(&mut bench, 9, 0), 13);
+    assert_eq!(refused(&mut bench, &[10], 0), (13, 0));
+    assert_eq!(alone(&mut bench, 10, 0), 13);
     bench.area.pop();
-    assert_eq!(refused(&mut bench, &[9], 0), (2, 0));
-    assert_eq!(alone(&mut bench, 9, 0), 2);
+    assert_eq!(refused(&mut bench, &[10], 0), (2, 0));
+    assert_eq!(alone(&mut bench, 10, 0), 2);
     bench.area.push(0);
     bench.memory.pop();
-    assert_eq!(refused(&mut bench, &[9], 0), (1, 0));
-    assert_eq!(alone(&mut bench, 9, 0), 1);
+    assert_eq!(refused(&mut bench, &[10], 0), (1, 0));
+    assert_eq!(alone(&mut bench, 10, 0), 1);
 }
 
 #[test]

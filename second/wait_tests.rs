@@ -616,7 +616,7 @@ fn bad_mark_is_refused_alone_and_changes_nothing() {
         let mut bench = used_bench(1, 0);
         bench.chip = chip.clone();
         let before = bench.clone();
-        for kind in 0..=9 {
+        for kind in 0..=10 {
             let answer = event(&mut bench.chip, &mut bench.memory, &bench.area, kind, 1);
             assert_eq!(answer, EventAnswer { refusal: 2, record: Record::None, ticks: 0 });
             assert!(bench.chip == chip && bench.memory == before.memory);
@@ -627,7 +627,7 @@ fn bad_mark_is_refused_alone_and_changes_nothing() {
 #[test]
 fn bad_mark_is_refused_in_a_run_and_changes_nothing() {
     let scripts: [&[u8]; 7] =
-        [&[], &[4], &[5, 0, 9], &[7], &[1, 2, 0xB0, 3, 0], &[9], &[4; 65_537]];
+        [&[], &[4], &[5, 0, 9], &[7], &[1, 2, 0xB0, 3, 0], &[10], &[4; 65_537]];
     for chip in bad_marks() {
         let mut bench = used_bench(1, 0);
         bench.chip = chip;

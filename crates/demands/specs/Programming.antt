@@ -11,6 +11,7 @@ use Rattle.part.specs.Part.{sectorsIn}
 use Rattle.part.specs.Protection.{isProtected}
 use Rattle.chip.specs.declared.Chip.{Chip}
 use Rattle.chip.specs.Chip.{whole, emptyFrame, blankLoad}
+use Rattle.clock.specs.Clock.{unset}
 use Rattle.script.specs.Script.{events}
 use Rattle.demands.specs.Demand1.{RunReply, Runner, AllSound, roomNeeded}
 use Rattle.demands.specs.Demand2.{AllBytes, Ready, poweredUp}
@@ -96,9 +97,9 @@ pub record Programs (W : Writer) (R : Runner) : Type 0 where
   pub page-by-page : (A : ℕ) (bs : List ℕ) → 0 < length bs
       → let k : ℕ = inFirstPage A (length bs) in
       W A bs ≡ pageScript A (take k bs) ++ W (A + k) (drop k bs)
-  -- nothing of 3 to 6 refuses it: it is short, and each event of it is whole, of a known kind and in its range
+  -- nothing of 3 to 6 and 8 refuses it: it is short, and each event of it is whole, of a kind that a script has, in its range, and no stamp that went back
   pub short : (A : ℕ) (bs : List ℕ) → length bs ≤ 4096 → length (W A bs) ≤ 8515
-  pub sound : (A : ℕ) (bs : List ℕ) → AllBytes bs → AllSound (W A bs) (events (W A bs))
+  pub sound : (A : ℕ) (bs : List ℕ) → AllBytes bs → AllSound (W A bs) unset (events (W A bs))
   -- the room that a run of it asks
   pub room : (A : ℕ) (bs : List ℕ) → AllBytes bs → roomNeeded (events (W A bs)) ≡ 16 * pagesTouched A (length bs) + 2 * length bs
   -- and run, it programs
