@@ -69,12 +69,16 @@ tidied-counted kind m r h = go kind
   where
     status : tidyLine (r .status) ≡ r .status
     status = ap (λ (x : Report). x .status) h
+
     program : tidyLine (r .program) ≡ r .program
     program = ap (λ (x : Report). x .program) h
+
     small : tidyLine (r .small) ≡ r .small
     small = ap (λ (x : Report). x .small) h
+
     sector : tidyLine (r .sector) ≡ r .sector
     sector = ap (λ (x : Report). x .sector) h
+
     chip : tidyLine (r .chip) ≡ r .chip
     chip = ap (λ (x : Report). x .chip) h
 

@@ -107,14 +107,14 @@ fn join(margin: i32, line: Line) -> Line
 fn tidy(line: Line) -> Line
     ensures { λ r. ⌜ r ≡ tidyLine line ⌝ }
 {
-    if line.count == 0 {
-        return Line {
-            count: 0,
-            smallest: 0,
-            largest: 0,
-        };
+    if line.count != 0 {
+        return line;
     }
-    line
+    Line {
+        count: 0,
+        smallest: 0,
+        largest: 0,
+    }
 }
 
 // The report that a script starts from: a line without jobs has no margins, whatever was handed in.

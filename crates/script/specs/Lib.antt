@@ -2,4 +2,5 @@ pub mod Script
 pub mod Run
 pub mod Jobs
 pub mod Report
+pub mod Watch
 pub mod Laws

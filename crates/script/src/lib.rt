@@ -1,17 +1,26 @@
-// A script run: one pass that finds what is wrong with the script, and one that runs it.
+// A script run, plain or with a margin report: one pass that finds what is wrong with the script, and one that runs it.
+ghost use mathlib.Core.Bool.{true};
 ghost use mathlib.Core.Path.{_≡_};
 ghost use Prim.Native.Nat.{_+_, _≤_, _<_};
 ghost use lib.ListN.{length};
 ghost use Rattle.part.specs.Part.{setting};
 ghost use Rattle.chip.specs.Chip.{whole};
 ghost use Rattle.chip.specs.Record.{recordBytes};
-ghost use Rattle.script.specs.Script.{faultAt, refusalOf};
-ghost use Rattle.script.specs.Run.{finished, Scan, Stored, Playable, Played, refusal, answerOf, memoryOf, outputOf};
+ghost use Rattle.margins.specs.Margins.{allowed, margin, tidied};
+ghost use Rattle.script.specs.Script.{eventAt, faultBy, refusalOf};
+ghost use Rattle.script.specs.Run.{finished, refused, Scan, Stored, Playable, Played, refusal, answerOf, memoryOf, outputOf};
+ghost use Rattle.script.specs.Jobs.{isTwo};
+ghost use Rattle.script.specs.Report.{answerWith, memoryWith, outputWith, reportOf};
+ghost use Rattle.script.specs.Watch.{ticking, ticksOf, clockBy, mostUsed, afterEvent, afterTicks, Reports};
 use chip::Chip;
 use chip::Core;
 use chip::Frame;
 use chip::Record;
+use clock::Clock;
 use kinds::Kind;
+use margins::Allowances;
+use margins::Line;
+use margins::Report;
 use part::Part;
 
 // The answer to a script run.
@@ -21,6 +30,19 @@ pub struct Ran {
     pub offset: usize,
     pub written: usize,
     pub ticks: u64,
+}
+
+// The answer to a script run with a margin report, and the report afterwards.
+pub struct Reported {
+    pub ran: Ran,
+    pub report: Report,
+}
+
+// What is watched for the report: whether a job is followed, the ticks that it used so far, and the report so far.
+struct Watch {
+    on: bool,
+    used: u32,
+    report: Report,
 }
 
 // A refusal's number, 0 for none, and its offset.
@@ -35,22 +57,41 @@ struct Scanned {
     room: usize,
 }
 
-// What refuses the event at an offset: 5, 4, 6, or 0 for nothing.
-fn fault_at(s: &[u8], at: usize) -> u8
+// What refuses the event at an offset: 5, 4, 6, 8 for a stamp that went back, or 0 for nothing.
+fn fault_at(s: &[u8], at: usize, clock: Clock) -> u8
     requires { ⌜ at < length (now s) ⌝ }
-    ensures { λ r. ⌜ r ≡ faultAt (now (s .entry)) at ⌝ }
+    ensures { λ r. ⌜ r ≡ faultBy clock (eventAt (now (s .entry)) at) ⌝ }
 {
     let kind = s[at] as u64;
-    if !kinds::is_known(kind) {
+    if !kinds::is_known_in_script(kind) {
         return 5;
     }
     if s.len() < kinds::next_at(s, at) {
         return 4;
     }
-    if !kinds::is_in_range(kind, kinds::body_at(s, at)) {
+    let body = kinds::body_at(s, at);
+    if !kinds::is_in_range(kind, body) {
         return 6;
     }
+    if kind == Kind::STAMP {
+        if clock::went_back(clock, body as u16) {
+            return 8;
+        }
+    }
     0
+}
+
+// The clock after an event: a stamp sets it.
+fn clock_after(clock: Clock, kind: u64, body: u16) -> Clock
+    ensures { λ r. ⌜ r ≡ clockBy clock kind body ⌝ }
+{
+    if kind == Kind::STAMP {
+        return Clock {
+            set: true,
+            stamp: body,
+        };
+    }
+    clock
 }
 
 // A look through the script: the first bad event, and the room for the records.
@@ -60,6 +101,10 @@ fn scan(s: &[u8]) -> Scanned
 {
     let mut at = 0;
     let mut space = 0;
+    let mut clock = Clock {
+        set: false,
+        stamp: 0,
+    };
     while at < s.len() {
         // Most events are exchanges, and with a whole one nothing can be wrong.
         if (s[at] as u64 == Kind::EXCHANGE) & (at + 1 < s.len()) {
@@ -67,7 +112,7 @@ fn scan(s: &[u8]) -> Scanned
             at += 2;
             continue;
         }
-        let fault = fault_at(s, at);
+        let fault = fault_at(s, at, clock);
         if fault != 0 {
             return Scanned {
                 bad: Refused {
@@ -77,7 +122,9 @@ fn scan(s: &[u8]) -> Scanned
                 room: 0,
             };
         }
-        space += kinds::room_of(s[at] as u64);
+        let kind = s[at] as u64;
+        clock = clock_after(clock, kind, kinds::body_at(s, at) as u16);
+        space += kinds::room_of(kind);
         at = kinds::next_at(s, at);
     }
     Scanned {
@@ -144,20 +191,137 @@ fn finished(
     }
 }
 
+// Whether an event is ticks: one, some, or those of a stamp.
+fn is_ticking(kind: u64) -> bool
+    ensures { λ r. ⌜ r ≡ ticking kind ⌝ }
+{
+    (kind == Kind::TICKS) | (kind == Kind::TICK) | (kind == Kind::STAMP)
+}
+
+// How many ticks such an event gives.
+fn ticks_of(clock: Clock, kind: u64, body: u16) -> u32
+    ensures { λ r. ⌜ (r ≡ ticksOf clock kind body) × (r ≤ 65535) ⌝ }
+{
+    if kind == Kind::TICK {
+        return 1;
+    }
+    if kind == Kind::STAMP {
+        return clock::moved_on(clock, body) as u32;
+    }
+    body as u32
+}
+
+// Allowance less ticks used.
+fn margin(allowance: u32, used: u32) -> i32
+    requires { ⌜ (allowance ≤ 1000000) × (used ≤ mostUsed) ⌝ }
+    ensures { λ r. ⌜ r ≡ margin allowance used ⌝ }
+{
+    (allowance as i32) - (used as i32)
+}
+
+// Whether a record says that a job begins: verdict 2.
+fn begins_job(said: Record) -> bool
+    ensures { λ r. ⌜ r ≡ isTwo said ⌝ }
+{
+    match said {
+        Record::Nothing => false,
+        Record::Floating => false,
+        Record::Driven(_) => false,
+        Record::Verdict(v) => v == 2,
+        Record::InTheWay(_, _) => false,
+    }
+}
+
+// What is watched after an event that is no tick: a job that begins is followed from there on, and none where no job is left.
+fn watch_event(watch: Watch, core: Core, said: Record) -> Watch
+    ensures { λ r. ⌜ r ≡ afterEvent core said watch ⌝ }
+{
+    let job = core.job;
+    let kind = job.kind;
+    let mut next = watch;
+    if !chip::is_job(kind) {
+        next.on = false;
+        next.used = 0;
+        return next;
+    }
+    if begins_job(said) {
+        next.on = true;
+        next.used = 0;
+        return next;
+    }
+    next
+}
+
+// What is watched after n ticks that found a core, and left this one: all of them are used as long as the job stands; ended, only those up to its last step.
+fn watch_ticks(
+    watch: Watch,
+    allowances: Allowances,
+    core: Core,
+    left: Core,
+    n: u32,
+    worked: u32,
+) -> Watch
+    requires { ⌜ (allowed allowances ≡ true) × (watch .used + n ≤ mostUsed) × (worked ≤ n) ⌝ }
+    ensures { λ r. ⌜ r ≡ afterTicks allowances core left n worked watch ⌝ }
+{
+    if !watch.on {
+        return watch;
+    }
+    let mut next = watch;
+    let job = left.job;
+    let still = job.kind;
+    if chip::is_job(still) {
+        next.used = watch.used + n;
+        return next;
+    }
+    let ended = core.job;
+    let kind = ended.kind;
+    let report = watch.report;
+    let early = margin(
+        margins::allowance_of(kind, allowances),
+        watch.used + worked,
+    );
+    next.on = false;
+    next.used = 0;
+    let counted = margins::count(kind, early, report);
+    next.report = counted;
+    next
+}
+
 // Runs a script that nothing refuses: the chip is taken apart once, and put together at the end.
-// Data bytes are most of a script: they go by the frame alone, and ticks by the core alone. Whether a
-// job runs is kept beside the core, so that ticks that find none copy nothing; it is read off the
-// answers, since a core that is only handed on stays in one piece. The other calls get a copy of the
-// frame, so that it need not lie in memory from one data byte to the next.
-fn play(chip: Chip, mem: &mut [u8], script: &[u8], out: &mut [u8], sectors: u8, area: &[u8]) -> Ran
-    requires { ⌜ Playable (now script) (length (now out)) ⌝ }
-    ensures { λ r. ⌜ Played (setting sectors (now (area .entry))) chip (now (mem .entry)) (now (script .entry)) (now (out .entry)) r (now (mem .exit)) (now (out .exit)) ⌝ }
+// Data bytes are most of a script: they go by the frame alone, and ticks by the core alone. Whether
+// ticks matter, because a job runs or one is followed, is kept beside the core, so that ticks that
+// find neither copy nothing; it is read off the answers, since a core that is only handed on stays
+// in one piece. The other calls get a copy of the frame, so that it need not lie in memory from one
+// data byte to the next.
+fn play(
+    chip: Chip,
+    mem: &mut [u8],
+    script: &[u8],
+    out: &mut [u8],
+    sectors: u8,
+    area: &[u8],
+    allowances: Allowances,
+    report: Report,
+) -> Reported
+    requires { ⌜ (allowed allowances ≡ true) × Playable (now script) (length (now out)) ⌝ }
+    ensures { λ r. ⌜ Played (setting sectors (now (area .entry))) chip (now (mem .entry)) (now (script .entry)) (now (out .entry)) (r .ran) (now (mem .exit)) (now (out .exit))
+        × Reports (setting sectors (now (area .entry))) allowances chip (now (mem .entry)) (now (script .entry)) report (r .report) ⌝ }
 {
     let mut core = chip.core;
     let mut frame = chip.frame;
     let mut load = chip.load;
     let mut held = chip.held;
     let mut busy = chip::is_running(chip.core);
+    let mut clock = Clock {
+        set: false,
+        stamp: 0,
+    };
+    let mut watch = Watch {
+        on: false,
+        used: 0,
+        report: report,
+    };
     let mut at = 0;
     let mut pos = 0;
     let mut ticks: u64 = 0;
@@ -181,15 +345,18 @@ fn play(chip: Chip, mem: &mut [u8], script: &[u8], out: &mut [u8], sectors: u8, 
             at += 2;
             continue;
         }
-        let body = kinds::body_at(script, at) as u32;
-        if kind == Kind::TICKS {
+        let body = kinds::body_at(script, at);
+        if is_ticking(kind) {
+            let n = ticks_of(clock, kind, body as u16);
+            clock = clock_after(clock, kind, body as u16);
             if !busy {
                 at = kinds::next_at(script, at);
                 continue;
             }
-            let t = job::ticks(core, &mut held, mem, sectors, body);
+            let t = job::ticks(core, &mut held, mem, sectors, n);
+            watch = watch_ticks(watch, allowances, core, t.core, n, t.worked);
             core = t.core;
-            busy = chip::is_running(t.core);
+            busy = chip::is_running(t.core) | watch.on;
             ticks += t.worked as u64;
             at = kinds::next_at(script, at);
             continue;
@@ -204,17 +371,22 @@ fn play(chip: Chip, mem: &mut [u8], script: &[u8], out: &mut [u8], sectors: u8, 
             sectors,
             area,
             kind,
-            body,
+            body as u32,
         );
         let said = s.said;
         pos = put(out, pos, said);
+        watch = watch_event(watch, s.core, said);
         core = s.core;
-        busy = chip::is_running(s.core);
+        busy = chip::is_running(s.core) | watch.on;
         frame = s.frame;
         ticks += s.ticks as u64;
         at = kinds::next_at(script, at);
     }
-    finished(core, frame, load, held, pos, ticks)
+    let counted = watch.report;
+    Reported {
+        ran: finished(core, frame, load, held, pos, ticks),
+        report: counted,
+    }
 }
 
 fn refuse(number: u8) -> Refused
@@ -253,22 +425,89 @@ fn refuses(chip: Chip, n: usize, extent: usize, script: &[u8], space: usize) -> 
     refuse(0)
 }
 
-// A script run, for every chip, memory, area, script and output.
+// The answer to a refused run.
+fn turned_away(chip: Chip, no: Refused) -> Ran
+    ensures { λ r. ⌜ r ≡ refused chip (refusalOf (no .number) (no .offset)) ⌝ }
+{
+    Ran {
+        chip: chip,
+        refusal: no.number,
+        offset: no.offset,
+        written: 0,
+        ticks: 0,
+    }
+}
+
+// A script run with a margin report, for every chip, memory, area, script, output, allowances and report.
+pub fn run_with_report(
+    chip: Chip,
+    mem: &mut [u8],
+    area: &[u8],
+    script: &[u8],
+    out: &mut [u8],
+    allowances: Allowances,
+    report: Report,
+) -> Reported
+    ensures { λ r. ⌜ (r .ran ≡ answerWith allowances chip (now (mem .entry)) (now (area .entry)) (now (script .entry)) (now (out .entry)))
+        × (now (mem .exit) ≡ memoryWith allowances chip (now (mem .entry)) (now (area .entry)) (now (script .entry)) (now (out .entry)))
+        × (now (out .exit) ≡ outputWith allowances chip (now (mem .entry)) (now (area .entry)) (now (script .entry)) (now (out .entry)))
+        × (r .report ≡ reportOf allowances report chip (now (mem .entry)) (now (area .entry)) (now (script .entry)) (now (out .entry))) ⌝ }
+{
+    if !margins::are_allowed(allowances) {
+        return Reported {
+            ran: turned_away(chip, refuse(18)),
+            report: report,
+        };
+    }
+    let n = mem.len();
+    let no = refuses(chip, n, area.len(), script, out.len());
+    if no.number != 0 {
+        return Reported {
+            ran: turned_away(chip, no),
+            report: report,
+        };
+    }
+    play(
+        chip,
+        mem,
+        script,
+        out,
+        part::sectors_of(n),
+        area,
+        allowances,
+        margins::start_from(report),
+    )
+}
+
+// A line without jobs.
+fn no_jobs() -> Line {
+    Line {
+        count: 0,
+        smallest: 0,
+        largest: 0,
+    }
+}
+
+// A script run, for every chip, memory, area, script and output: the report that goes with it is thrown away.
 pub fn run(chip: Chip, mem: &mut [u8], area: &[u8], script: &[u8], out: &mut [u8]) -> Ran
     ensures { λ r. ⌜ (r ≡ answerOf chip (now (mem .entry)) (now (area .entry)) (now (script .entry)) (now (out .entry)))
         × (now (mem .exit) ≡ memoryOf chip (now (mem .entry)) (now (area .entry)) (now (script .entry)) (now (out .entry)))
         × (now (out .exit) ≡ outputOf chip (now (mem .entry)) (now (area .entry)) (now (script .entry)) (now (out .entry))) ⌝ }
 {
-    let n = mem.len();
-    let no = refuses(chip, n, area.len(), script, out.len());
-    if no.number != 0 {
-        return Ran {
-            chip: chip,
-            refusal: no.number,
-            offset: no.offset,
-            written: 0,
-            ticks: 0,
-        };
-    }
-    play(chip, mem, script, out, part::sectors_of(n), area)
+    let none = Allowances {
+        status: 0,
+        program: 0,
+        small: 0,
+        sector: 0,
+        chip: 0,
+    };
+    let blank = Report {
+        status: no_jobs(),
+        program: no_jobs(),
+        small: no_jobs(),
+        sector: no_jobs(),
+        chip: no_jobs(),
+    };
+    let r = run_with_report(chip, mem, area, script, out, none, blank);
+    r.ran
 }

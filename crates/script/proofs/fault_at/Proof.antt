@@ -1,45 +1,69 @@
--- `script::fault_at` meets its contract. 5, 4, 6 in that order, each early return after the ones before it passed.
-use native.Mathlib.Omega.{arith}
-use borrow.Author.Tests.{lt-ltb, le-ltb}
-use Rattle.kinds.specs.Laws.{step-inside}
-use Rattle.script.specs.Script.{faultAt}
 use borrow.Author.Needs.{needs}
 use Rattle.script.proofs.fault_at.Statement.{statement}
 use Rattle.script.proofs.fault_at.Tie as tie
+use Rattle.script.proofs.fault_at.Reads as reads
+use Rattle.script.proofs.fault_at.Lts as lts
+use Rattle.clock.proofs.went_back.Reads as went-back-reads
+use Rattle.kinds.proofs.body_at.Reads as body-at-reads
+use Rattle.kinds.proofs.is_in_range.Reads as is-in-range-reads
+use Rattle.kinds.proofs.is_known_in_script.Reads as is-known-in-script-reads
+use Rattle.kinds.proofs.next_at.Reads as next-at-reads
 
+-- src/lib.rt:65:16
 shared-slice-read-kind : tie.Need-shared-slice-read-kind
 shared-slice-read-kind c = search needs
 
+-- src/lib.rt:65:16
 cast-kind : tie.Need-cast-kind
-cast-kind c = omega (arith, c .before .shared-slice-known .given (c .before .before .args .at))
+cast-kind c = search needs
 
-is-known-requires : tie.Need-is-known-requires
-is-known-requires c κs = search needs
+-- src/lib.rt:66:9
+is-known-in-script-requires : tie.Need-is-known-in-script-requires
+is-known-in-script-requires c κs = search needs
 
+-- src/lib.rt:67:9
 returns : tie.Need-returns
-unfolding faultAt
-returns c = rw (← c .before .is-known .ensures, c .if1 .taken)
+returns c = search needs
 
+-- src/lib.rt:69:18
 next-at-requires : tie.Need-next-at-requires
 next-at-requires c κs = search needs
 
+-- src/lib.rt:70:9
 returns-2 : tie.Need-returns-2
-unfolding faultAt
-returns-2 c = rw (← c .before .before .before .is-known .ensures, c .before .before .if1 .left, ← step-inside (c .before .before .before .before .before .before .args .s .now) (c .before .before .before .before .before .before .args .at) (c .before .before .before .before .before .before .pre), ← c .before .next-at .ensures, lt-ltb _ _ (c .if2 .taken))
+returns-2 c = search needs
 
+-- src/lib.rt:72:9
 body-at-requires : tie.Need-body-at-requires
 body-at-requires c κs = search needs
 
+-- src/lib.rt:73:9
 is-in-range-requires : tie.Need-is-in-range-requires
 is-in-range-requires c κs = search needs
 
+-- src/lib.rt:74:9
 returns-3 : tie.Need-returns-3
-unfolding faultAt
-returns-3 c = rw (← c .before .before .before .before .before .before .is-known .ensures, c .before .before .before .before .before .if1 .left, ← step-inside (c .before .before .before .before .before .before .before .before .before .args .s .now) (c .before .before .before .before .before .before .before .before .before .args .at) (c .before .before .before .before .before .before .before .before .before .pre), ← c .before .before .before .before .next-at .ensures, le-ltb _ _ (c .before .before .before .if2 .left), ← c .before .before .body-at .ensures .0, ← c .before .is-in-range .ensures, c .if3 .taken)
+returns-3 c = search needs
 
+-- src/lib.rt:77:36
+cast-went-back : tie.Need-cast-went-back
+cast-went-back c = search needs
+
+-- src/lib.rt:77:12
+went-back-requires : tie.Need-went-back-requires
+went-back-requires c κs = search needs
+
+-- src/lib.rt:78:13
 returns-4 : tie.Need-returns-4
-unfolding faultAt
-returns-4 c = rw (← c .before .before .before .before .before .before .is-known .ensures, c .before .before .before .before .before .if1 .left, ← step-inside (c .before .before .before .before .before .before .before .before .before .args .s .now) (c .before .before .before .before .before .before .before .before .before .args .at) (c .before .before .before .before .before .before .before .before .before .pre), ← c .before .before .before .before .next-at .ensures, le-ltb _ _ (c .before .before .before .if2 .left), ← c .before .before .body-at .ensures .0, ← c .before .is-in-range .ensures, c .if3 .left)
+returns-4 c = search needs
+
+-- src/lib.rt:61:1
+returns-5 : tie.Need-returns-5
+returns-5 c = search needs
+
+-- src/lib.rt:61:1
+returns-6 : tie.Need-returns-6
+returns-6 c = search needs
 
 pub fault-at-spec : {M : Type 1} → statement M
 fault-at-spec =
@@ -47,11 +71,15 @@ fault-at-spec =
     (tie.spec
     shared-slice-read-kind
     cast-kind
-    is-known-requires
+    is-known-in-script-requires
     returns
     next-at-requires
     returns-2
     body-at-requires
     is-in-range-requires
     returns-3
-    returns-4)
+    cast-went-back
+    went-back-requires
+    returns-4
+    returns-5
+    returns-6)
