@@ -91,11 +91,12 @@ pub record FirstAt (s : List ℕ) (at : ℕ) : Type 0 where
 abbrev pub clockAt : {s : List ℕ} {at : ℕ} → FirstAt s at → Clock
 clockAt f = clockOver unset (f .before)
 
--- the first event that can be bad is a whole stamp, and went back
+-- the first event that can be bad is a whole stamp in its range, and went back
 pub record BackAt (s : List ℕ) (at : ℕ) : Type 0 where
   pub first : FirstAt s at
   pub stamp : getD s at 0 ≡ 0x09
   pub whole : at + 3 ≤ length s
+  pub ranged : bodyAt s at ≤ 65535
   pub back : wentBack (clockAt first) (bodyAt s at) ≡ true
 
 -- the room that the records of some events are given: two bytes for each exchange, three for each deselect, whatever its body is and its verdict turns out to be

@@ -25,7 +25,7 @@ use Rattle.frame.specs.Frame.{judge, taken, exchanged}
 use Rattle.verdict.specs.Verdict.{jobOf, jobVerdict, commandVerdict, listed, verdict, recordOf}
 use Rattle.verdict.specs.Effect.{instantly, acted, settled, heldAfter}
 use Rattle.event.specs.Event.{applied}
-use Rattle.script.specs.Script.{faultAt, walk, eventsFrom, events}
+use Rattle.script.specs.Script.{faultAt, walk, eventsFrom, timed, played}
 use Rattle.script.specs.Run.{World, world, runs}
 use Rattle.demands.specs.Demand2.{StatusByte}
 use Rattle.meets.specs.Opening.{frame-empty, load-blank, not-suspended, not-waiting}
@@ -58,7 +58,7 @@ worldOf r m = world (chipOf r) m [] 0
 
 -- what it says to a script
 abbrev pub recordsOf : Setting → Rest → List ℕ → List ℕ → List ℕ
-recordsOf T r m s = runs T (events s) (worldOf r m) .written
+recordsOf T r m s = runs T (played s) (worldOf r m) .written
 
 -- ---- four scripts
 
@@ -80,11 +80,11 @@ locking = frame (0xAB ∷ []) ++ (frame (0x06 ∷ []) ++ (frame (0x01 ∷ 0x80 �
 module _ (T : Setting) (m : List ℕ) where
   abbrev says : ℕ → Bool → Bool → Bool → Bool → Bool → Bool → List ℕ → List ℕ
   says level tb srwp wen wp deep armed s =
-      runs T (events s) (world (whole (record { level = level; tb = tb; srwp = srwp; wen = wen; suspended = false; waiting = false; wp = wp; deep = deep; armed = armed; job = noJob }) emptyFrame blankLoad blankLoad) m [] 0) .written
+      runs T (played s) (world (whole (record { level = level; tb = tb; srwp = srwp; wen = wen; suspended = false; waiting = false; wp = wp; deep = deep; armed = armed; job = noJob }) emptyFrame blankLoad blankLoad) m [] 0) .written
 
   -- the second byte of a status read floats asleep, and is driven awake
   shows-deep : (level : ℕ) (tb srwp wen wp deep armed : Bool) → getD (says level tb srwp wen wp deep armed reading) 1 0 ≡ cond deep 0x80 0x81
-  unfolding runs eventsFrom walk faultAt knownKind knownInScript kindRow kindRowIn applied exchanged taken judge rowOf rowIn isProgram verdict recordOf listed isRead commandVerdict jobVerdict jobOf fitsRule settled acted heldAfter instantly ticksCore tickCore worked
+  unfolding runs timed eventsFrom walk faultAt knownKind knownInScript kindRow kindRowIn applied exchanged taken judge rowOf rowIn isProgram verdict recordOf listed isRead commandVerdict jobVerdict jobOf fitsRule settled acted heldAfter instantly ticksCore tickCore worked
   shows-deep level tb srwp wen wp true armed = refl
   shows-deep level tb srwp wen wp false armed = refl
 
@@ -92,19 +92,19 @@ module _ (T : Setting) (m : List ℕ) where
   shows-status : (level : ℕ) (tb srwp wen wp deep armed : Bool)
       → getD (says level tb srwp wen wp deep armed waking) 5 0
       ≡ statusByte (record { level = level; tb = tb; srwp = srwp; wen = wen; suspended = false; waiting = false; wp = wp; deep = false; armed = false; job = noJob })
-  unfolding runs eventsFrom walk faultAt knownKind knownInScript kindRow kindRowIn applied exchanged taken judge rowOf rowIn isProgram verdict recordOf listed isRead commandVerdict jobVerdict jobOf fitsRule settled acted heldAfter instantly ticksCore tickCore worked
+  unfolding runs timed eventsFrom walk faultAt knownKind knownInScript kindRow kindRowIn applied exchanged taken judge rowOf rowIn isProgram verdict recordOf listed isRead commandVerdict jobVerdict jobOf fitsRule settled acted heldAfter instantly ticksCore tickCore worked
   shows-status level tb srwp wen wp true armed = refl
   shows-status level tb srwp wen wp false armed = refl
 
   -- a reset of a chip that is awake is done if it is armed, and otherwise 11
   shows-armed : (level : ℕ) (tb srwp wen wp armed : Bool) → getD (says level tb srwp wen wp false armed resetting) 2 0 ≡ cond armed 1 11
-  unfolding runs eventsFrom walk faultAt knownKind knownInScript kindRow kindRowIn applied exchanged taken judge rowOf rowIn isProgram verdict recordOf listed isRead commandVerdict jobVerdict jobOf fitsRule settled acted heldAfter instantly ticksCore tickCore worked
+  unfolding runs timed eventsFrom walk faultAt knownKind knownInScript kindRow kindRowIn applied exchanged taken judge rowOf rowIn isProgram verdict recordOf listed isRead commandVerdict jobVerdict jobOf fitsRule settled acted heldAfter instantly ticksCore tickCore worked
   shows-armed level tb srwp wen wp true = refl
   shows-armed level tb srwp wen wp false = refl
 
   -- the second write status begins with WP high, and is 10 with WP low
   shows-wp : (level : ℕ) (tb srwp wen wp deep armed : Bool) → getD (says level tb srwp wen wp deep armed locking) 16 0 ≡ cond wp 2 10
-  unfolding runs eventsFrom walk faultAt knownKind knownInScript kindRow kindRowIn applied exchanged taken judge rowOf rowIn isProgram verdict recordOf listed isRead commandVerdict jobVerdict jobOf fitsRule settled acted heldAfter instantly ticksCore tickCore worked
+  unfolding runs timed eventsFrom walk faultAt knownKind knownInScript kindRow kindRowIn applied exchanged taken judge rowOf rowIn isProgram verdict recordOf listed isRead commandVerdict jobVerdict jobOf fitsRule settled acted heldAfter instantly ticksCore tickCore worked
   shows-wp level tb true wen true true armed = refl
   shows-wp level tb true wen true false armed = refl
   shows-wp level tb true wen false true armed = refl
@@ -252,7 +252,7 @@ module _ (c : Chip) (n : ℕ) (rests : Rests c n) where
 
 -- what a chip says to a script
 abbrev pub recordsFrom : Setting → Chip → List ℕ → List ℕ → List ℕ
-recordsFrom T c m s = runs T (events s) (world c m [] 0) .written
+recordsFrom T c m s = runs T (played s) (world c m [] 0) .written
 
 -- Two legal chips at rest without leftovers that give the same records to every script are equal.
 pub rest-equal : (T : Setting) (m : List ℕ) (n : ℕ) (c c′ : Chip) → Rests c n → Rests c′ n → ((s : List ℕ) → recordsFrom T c m s ≡ recordsFrom T c′ m s) → c ≡ c′

@@ -1,9 +1,11 @@
--- A script cut at an event boundary: what the whole does, its first bad event and the room that it needs, by those of its two pieces. The whole can still be
--- refused where the pieces are not: by 3, for it is longer than either, and by 7, for one output has to have the room of both.
+-- A script cut at an event boundary: what the whole does, its first bad event and the room that it needs, by those of its two pieces. The second piece goes on with
+-- the clock that the first leaves; run on its own it starts without one, which is the same unless there are stamps on both sides of the cut. The whole can still be
+-- refused where the pieces are not: by 3, for it is longer than either, by 7, for one output has to have the room of both, and by 8, for a stamp that went back over the cut.
 use Prim.Native.Nat.{ℕ, zero, suc, _+_, _*_, _<_, _≤_}
-use mathlib.Core.Bool.{Bool, true, false, cond, not}
+use mathlib.Core.Bool.{Bool, true, false, cond, not, _&&_}
 use mathlib.Core.List.{List, [], _∷_, _++_, append-assoc, append-nil}
 use mathlib.Core.Path.{_≡_, refl, sym, ap, subst, _∙_}
+use mathlib.Core.Logic.{_⊎_, inl, inr}
 use native.Mathlib.Nat.{add-zero, zero-add, add-assoc}
 use native.Mathlib.Decide.{decLt, ℕ-discrete}
 use native.Mathlib.Omega.{arith}
@@ -13,8 +15,10 @@ use lib.Seq.{getD-append-add}
 use borrow.Author.Tests.{ne-eqb, lt-ltb, le-ltb}
 use Rattle.cells.specs.Choice.{cond-yes, cond-no}
 use Rattle.part.specs.Part.{permitted, sectorsIn, Setting, settingOf}
-use Rattle.kinds.specs.Kinds.{knownKind, bodyLength, inRange, roomOf}
+use Rattle.kinds.specs.Kinds.{kindRow, kindRowIn, knownInScript, bodyLength, inRange, roomOf}
 use Rattle.kinds.specs.Body.{numberAt, bodyAt, nextAt}
+use Rattle.clock.specs.declared.Clock.{Clock}
+use Rattle.clock.specs.Clock.{unset, movedOn, wentBack}
 use Rattle.chip.specs.declared.Chip.{Chip}
 use Rattle.chip.specs.Chip.{NoLeftovers}
 use Rattle.chip.specs.Record.{recordBytes}
@@ -26,10 +30,10 @@ use Rattle.event.specs.Laws.{answer-done, memory-done, happens-as}
 use Rattle.event.specs.Legality.{legal-applied}
 use Rattle.event.specs.Keeps.{length-applied}
 use Rattle.event.specs.Leftovers.{no-leftovers-applied}
-use Rattle.script.specs.Script.{Event, faultAt, eventAt, eventsFrom, events, Refusal, refusalOf, firstBad, room}
+use Rattle.script.specs.Script.{Event, faultAt, eventAt, walk, eventsFrom, events, isStamp, clockAfter, clockOver, ticksGiven, given, timed, played, Refusal, refusalOf, faultBy, firstBad, room}
 use Rattle.script.specs.Run.{World, world, does, onward, runs, worldAfter}
-use Rattle.script.specs.Laws.{events-none, events-more, no-fault, good-event, firstBad-none, firstBad-here, firstBad-later, runs-add}
-use Rattle.meets.specs.Refusals.{event-refused-when, bad-behind}
+use Rattle.script.specs.Laws.{events-none, events-more, no-fault, clean-later, clean-event, good-event, firstBad-none, firstBad-here, firstBad-later, NoStamp, timed-unstamped, clock-unstamped, timed-add, runs-add}
+use Rattle.meets.specs.Refusals.{known-event, event-refused-when, bad-behind}
 
 -- ---- events further on
 
@@ -41,7 +45,7 @@ unfoldable pub movedAll : ℕ → List Event → List Event
 movedAll d [] = []
 movedAll d (e ∷ es) = moved d e ∷ movedAll d es
 
--- moved events run the same, need the same room, and the first bad one is the same, d further on
+-- moved events run the same, need the same room, move the clock the same, and the first bad one is the same, d further on
 pub runs-moved : (T : Setting) (d : ℕ) (es : List Event) (w : World) → runs T (movedAll d es) w ≡ runs T es w
 unfolding runs movedAll
 runs-moved T d [] w = refl
@@ -61,15 +65,40 @@ room-append (e ∷ es) fs = ap (λ (n : ℕ). roomOf (e .kind) + n) (room-append
 abbrev pub movedBad : ℕ → Refusal → Refusal
 movedBad d r = cond (eqb (r .number) 0) (refusalOf 0 0) (refusalOf (r .number) (d + r .offset))
 
-bad-moved : (d : ℕ) (es : List Event) → firstBad (movedAll d es) ≡ movedBad d (firstBad es)
+bad-moved : (k : Clock) (d : ℕ) (es : List Event) → firstBad k (movedAll d es) ≡ movedBad d (firstBad k es)
 unfolding firstBad movedAll
-bad-moved d [] = refl
-bad-moved d (e ∷ es) = go (eqb (e .fault) 0) refl (bad-moved d es)
+bad-moved k d [] = refl
+bad-moved k d (e ∷ es) = go (eqb (faultBy k e) 0) refl (bad-moved (clockAfter k e) d es)
   where
-    go : (b : Bool) → eqb (e .fault) 0 ≡ b → firstBad (movedAll d es) ≡ movedBad d (firstBad es)
-        → cond b (firstBad (movedAll d es)) (refusalOf (e .fault) (d + e .offset)) ≡ movedBad d (cond b (firstBad es) (refusalOf (e .fault) (e .offset)))
+    go : (b : Bool) → eqb (faultBy k e) 0 ≡ b → firstBad (clockAfter k e) (movedAll d es) ≡ movedBad d (firstBad (clockAfter k e) es)
+        → cond b (firstBad (clockAfter k e) (movedAll d es)) (refusalOf (faultBy k e) (d + e .offset)) ≡ movedBad d (cond b (firstBad (clockAfter k e) es) (refusalOf (faultBy k e) (e .offset)))
     go true p rest = rest
-    go false p rest = sym (cond-no (eqb (e .fault) 0) _ _ p)
+    go false p rest = sym (cond-no (eqb (faultBy k e) 0) _ _ p)
+
+clock-moved : (k : Clock) (d : ℕ) (es : List Event) → clockOver k (movedAll d es) ≡ clockOver k es
+unfolding clockOver movedAll
+clock-moved k d [] = refl
+clock-moved k d (e ∷ es) = clock-moved (clockAfter k e) d es
+
+-- what a run applies for moved events is moved
+given-moved : (k : Clock) (d : ℕ) (e : Event) (es : List Event) → given k (moved d e) ++ movedAll d es ≡ movedAll d (given k e ++ es)
+unfolding movedAll
+given-moved k d e es = go (isStamp e) (movedOn k (e .body))
+  where
+    go : (b : Bool) (n : ℕ) → cond b (ticksGiven (moved d e) n) (moved d e ∷ []) ++ movedAll d es ≡ movedAll d (cond b (ticksGiven e n) (e ∷ []) ++ es)
+    go true zero = refl
+    go true (suc n) = refl
+    go false n = refl
+
+timed-moved : (k : Clock) (d : ℕ) (es : List Event) → timed k (movedAll d es) ≡ movedAll d (timed k es)
+unfolding timed movedAll
+timed-moved k d [] = refl
+timed-moved k d (e ∷ es) = ap (λ (fs : List Event). given k (moved d e) ++ fs) (timed-moved (clockAfter k e) d es) ∙ given-moved k d e (timed (clockAfter k e) es)
+
+clock-append : (k : Clock) (es fs : List Event) → clockOver k (es ++ fs) ≡ clockOver (clockOver k es) fs
+unfolding clockOver
+clock-append k [] fs = refl
+clock-append k (e ∷ es) fs = clock-append (clockAfter k e) es fs
 
 -- ---- the events of a script that goes on
 
@@ -101,14 +130,14 @@ module _ (s t : List ℕ) where
   fault-first : (at : ℕ) → at < length s → (faultAt s at ≡ 4 → ⊥) → faultAt (s ++ t) at ≡ faultAt s at
   unfolding faultAt
   fault-first at h whole =
-      ap (λ (k : ℕ). cond (not (knownKind k)) 5 (cond (ltb (length (s ++ t)) (nextAt (s ++ t) at)) 4 (cond (not (inRange k (bodyAt (s ++ t) at))) 6 0))) (byte-first at h)
-      ∙ go (knownKind (getD s at 0)) refl (decLt (length s) (nextAt s at))
+      ap (λ (k : ℕ). cond (not (knownInScript k)) 5 (cond (ltb (length (s ++ t)) (nextAt (s ++ t) at)) 4 (cond (not (inRange k (bodyAt (s ++ t) at))) 6 0))) (byte-first at h)
+      ∙ go (knownInScript (getD s at 0)) refl (decLt (length s) (nextAt s at))
     where
-      go : (k : Bool) → knownKind (getD s at 0) ≡ k → Dec (length s < nextAt s at)
+      go : (k : Bool) → knownInScript (getD s at 0) ≡ k → Dec (length s < nextAt s at)
           → _≡_ {A = ℕ} (cond (not k) 5 (cond (ltb (length (s ++ t)) (nextAt (s ++ t) at)) 4 (cond (not (inRange (getD s at 0) (bodyAt (s ++ t) at))) 6 0)))
           (cond (not k) 5 (cond (ltb (length s) (nextAt s at)) 4 (cond (not (inRange (getD s at 0) (bodyAt s at))) 6 0)))
       go false e l = refl
-      go true e (yes l) = absurd (whole (cond-no (not (knownKind (getD s at 0))) _ _ (ap not e) ∙ cond-yes (ltb (length s) (nextAt s at)) _ _ (lt-ltb _ _ l)))
+      go true e (yes l) = absurd (whole (cond-no (not (knownInScript (getD s at 0))) _ _ (ap not e) ∙ cond-yes (ltb (length s) (nextAt s at)) _ _ (lt-ltb _ _ l)))
       go true e (no l) =
           cond-no (ltb (length (s ++ t)) (nextAt (s ++ t) at)) _ _ (le-ltb (length (s ++ t)) (nextAt (s ++ t) at) (omega (arith, next-first at h, length-append s t)))
           ∙ ap (λ (b : ℕ). cond (not (inRange (getD s at 0) b)) 6 0) (body-first at h (omega arith))
@@ -152,9 +181,9 @@ module _ (s t : List ℕ) where
   fault-second : (at : ℕ) → faultAt (s ++ t) (d + at) ≡ faultAt t at
   unfolding faultAt
   fault-second at =
-      ap (λ (k : ℕ). cond (not (knownKind k)) 5 (cond (ltb (length (s ++ t)) (nextAt (s ++ t) (d + at))) 4 (cond (not (inRange k (bodyAt (s ++ t) (d + at)))) 6 0))) (byte-second at)
-      ∙ ap (λ (b : Bool). cond (not (knownKind (getD t at 0))) 5 (cond b 4 (cond (not (inRange (getD t at 0) (bodyAt (s ++ t) (d + at)))) 6 0))) (ends-second at)
-      ∙ ap (λ (b : ℕ). cond (not (knownKind (getD t at 0))) 5 (cond (ltb (length t) (nextAt t at)) 4 (cond (not (inRange (getD t at 0) b)) 6 0))) (body-second at)
+      ap (λ (k : ℕ). cond (not (knownInScript k)) 5 (cond (ltb (length (s ++ t)) (nextAt (s ++ t) (d + at))) 4 (cond (not (inRange k (bodyAt (s ++ t) (d + at)))) 6 0))) (byte-second at)
+      ∙ ap (λ (b : Bool). cond (not (knownInScript (getD t at 0))) 5 (cond b 4 (cond (not (inRange (getD t at 0) (bodyAt (s ++ t) (d + at)))) 6 0))) (ends-second at)
+      ∙ ap (λ (b : ℕ). cond (not (knownInScript (getD t at 0))) 5 (cond (ltb (length t) (nextAt t at)) 4 (cond (not (inRange (getD t at 0) b)) 6 0))) (body-second at)
 
   event-second : (at : ℕ) → eventAt (s ++ t) (d + at) ≡ moved d (eventAt t at)
   event-second at = λ i. record { offset = d + at; kind = byte-second at i; body = body-second at i; fault = fault-second at i }
@@ -196,34 +225,62 @@ module _ (s t : List ℕ) where
       ∙ ap (λ (es : List Event). es ++ movedAll d (events t)) (sym (events-more s at h))
 
   -- The events of the whole are those of the first piece, if it has no bad one, and then those of the second, further on.
-  events-whole : (fuel at : ℕ) → length s ≤ at + fuel → at ≤ length s → firstBad (eventsFrom s at) .number ≡ 0 → eventsFrom (s ++ t) at ≡ eventsFrom s at ++ movedAll d (events t)
-  events-whole zero at h i c = over-first at (omega arith)
-  events-whole (suc fuel) at h i c =
-      go (λ l. events-whole fuel (nextAt s at) (omega arith) (good-event s at (no-fault s at l c) .inside) (ap (λ (r : Refusal). r .number) (sym (firstBad-later s at l (no-fault s at l c))) ∙ c)) (decLt at (length s))
+  events-whole : (fuel : ℕ) (k : Clock) (at : ℕ) → length s ≤ at + fuel → at ≤ length s → firstBad k (eventsFrom s at) .number ≡ 0 → eventsFrom (s ++ t) at ≡ eventsFrom s at ++ movedAll d (events t)
+  events-whole zero k at h i c = over-first at (omega arith)
+  events-whole (suc fuel) k at h i c =
+      go (λ l. events-whole fuel (clockAfter k (eventAt s at)) (nextAt s at) (omega arith) (good-event s at (written l) .inside) (clean-later k s at l c)) (decLt at (length s))
     where
+      written : at < length s → faultAt s at ≡ 0
+      written l = clean-event k (eventAt s at) (no-fault k s at l c) .as-written
+
       go : (at < length s → eventsFrom (s ++ t) (nextAt s at) ≡ eventsFrom s (nextAt s at) ++ movedAll d (events t)) → Dec (at < length s) → eventsFrom (s ++ t) at ≡ eventsFrom s at ++ movedAll d (events t)
-      go rest (yes l) = more-first at l (no-fault s at l c) (rest l)
+      go rest (yes l) = more-first at l (written l) (rest l)
       go rest (no l) = over-first at (omega arith)
 
-  module _ (clean : firstBad (events s) .number ≡ 0) where
+  -- the clock that the first piece leaves
+  abbrev between : Clock
+  between = clockOver unset (events s)
+
+  module _ (clean : firstBad unset (events s) .number ≡ 0) where
     pub events-cut : events (s ++ t) ≡ events s ++ movedAll d (events t)
-    events-cut = events-whole (length s) 0 (omega arith) (omega arith) clean
+    events-cut = events-whole (length s) unset 0 (omega arith) (omega arith) clean
 
-    -- Running the pieces one after the other is running the whole.
-    pub run-cut : (T : Setting) (w : World) → runs T (events (s ++ t)) w ≡ runs T (events t) (runs T (events s) w)
-    run-cut T w = ap (λ (es : List Event). runs T es w) events-cut ∙ runs-add T (events s) (movedAll d (events t)) w ∙ runs-moved T d (events t) (runs T (events s) w)
+    -- Running the pieces one after the other, the second with the clock that the first leaves, is running the whole.
+    pub run-cut : (T : Setting) (w : World) → runs T (played (s ++ t)) w ≡ runs T (timed (clockOver unset (events s)) (events t)) (runs T (played s) w)
+    run-cut T w =
+        ap (λ (es : List Event). runs T (timed unset es) w) events-cut
+        ∙ ap (λ (es : List Event). runs T es w) (timed-add unset (events s) (movedAll d (events t)))
+        ∙ runs-add T (played s) (timed between (movedAll d (events t))) w
+        ∙ ap (λ (es : List Event). runs T es (runs T (played s) w)) (timed-moved between d (events t))
+        ∙ runs-moved T d (timed between (events t)) (runs T (played s) w)
 
-    -- The first bad event of the whole is that of the second piece, its offset further on by the first piece's length.
-    pub bad-cut : firstBad (events (s ++ t)) ≡ movedBad d (firstBad (events t))
-    bad-cut = ap firstBad events-cut ∙ bad-behind (events s) (movedAll d (events t)) clean ∙ bad-moved d (events t)
+    -- The clock after the whole is the one after the second piece.
+    pub clock-cut : clockOver unset (events (s ++ t)) ≡ clockOver (clockOver unset (events s)) (events t)
+    clock-cut = ap (clockOver unset) events-cut ∙ clock-append unset (events s) (movedAll d (events t)) ∙ clock-moved between d (events t)
+
+    -- The first bad event of the whole is that of the second piece, by the clock that the first leaves, its offset further on by the first piece's length.
+    pub bad-cut : firstBad unset (events (s ++ t)) ≡ movedBad d (firstBad (clockOver unset (events s)) (events t))
+    bad-cut = ap (firstBad unset) events-cut ∙ bad-behind unset (events s) (movedAll d (events t)) clean ∙ bad-moved between d (events t)
 
     -- The whole needs the room of both pieces: an output with room for each of them alone may be too small for it.
     pub room-cut : room (events (s ++ t)) ≡ room (events s) + room (events t)
     room-cut = ap room events-cut ∙ room-append (events s) (movedAll d (events t)) ∙ ap (λ (n : ℕ). room (events s) + n) (room-moved d (events t))
 
-  bad-from : (fuel at : ℕ) → length s ≤ at + fuel → (firstBad (eventsFrom s at) .number ≡ 0 → ⊥) → (firstBad (eventsFrom s at) .number ≡ 4 → ⊥) → firstBad (eventsFrom (s ++ t) at) ≡ firstBad (eventsFrom s at)
-  bad-from zero at l some whole = absurd (some (ap (λ (r : Refusal). r .number) (firstBad-none s at (omega arith))))
-  bad-from (suc fuel) at l some whole = go (bad-from fuel (nextAt s at) (omega arith)) (decLt at (length s)) (ℕ-discrete (faultAt s at) 0)
+  -- what refuses an event of the first piece refuses it in the whole, unless the piece ends in it
+  fault-same : (k : Clock) (at : ℕ) → at < length s → (faultBy k (eventAt s at) ≡ 4 → ⊥) → faultBy k (eventAt (s ++ t) at) ≡ faultBy k (eventAt s at)
+  fault-same k at h whole = go (ℕ-discrete (faultAt s at) 0)
+    where
+      go : Dec (faultAt s at ≡ 0) → faultBy k (eventAt (s ++ t) at) ≡ faultBy k (eventAt s at)
+      go (yes z) = ap (faultBy k) (event-first at h z)
+      go (no b) =
+          let here : faultBy k (eventAt s at) ≡ faultAt s at = cond-no (eqb (faultAt s at) 0) _ _ (ne-eqb _ _ b) in
+          let same : faultAt (s ++ t) at ≡ faultAt s at = fault-first at h (λ four. whole (here ∙ four)) in
+          cond-no (eqb (faultAt (s ++ t) at) 0) _ _ (ne-eqb _ _ (λ e. b (sym same ∙ e))) ∙ same ∙ sym here
+
+  bad-from : (fuel : ℕ) (k : Clock) (at : ℕ) → length s ≤ at + fuel → (firstBad k (eventsFrom s at) .number ≡ 0 → ⊥) → (firstBad k (eventsFrom s at) .number ≡ 4 → ⊥)
+      → firstBad k (eventsFrom (s ++ t) at) ≡ firstBad k (eventsFrom s at)
+  bad-from zero k at l some whole = absurd (some (ap (λ (r : Refusal). r .number) (firstBad-none k s at (omega arith))))
+  bad-from (suc fuel) k at l some whole = go (bad-from fuel (clockAfter k (eventAt s at)) (nextAt s at) (omega arith)) (decLt at (length s)) (ℕ-discrete (faultBy k (eventAt s at)) 0)
     where
       number : Refusal → ℕ
       number r = r .number
@@ -231,23 +288,27 @@ module _ (s t : List ℕ) where
       within : at < length s → at < length (s ++ t)
       within h = omega (arith, length-append s t)
 
-      go : ((firstBad (eventsFrom s (nextAt s at)) .number ≡ 0 → ⊥) → (firstBad (eventsFrom s (nextAt s at)) .number ≡ 4 → ⊥) → firstBad (eventsFrom (s ++ t) (nextAt s at)) ≡ firstBad (eventsFrom s (nextAt s at)))
-          → Dec (at < length s) → Dec (faultAt s at ≡ 0) → firstBad (eventsFrom (s ++ t) at) ≡ firstBad (eventsFrom s at)
-      go later (no h) f = absurd (some (ap number (firstBad-none s at (omega arith))))
+      -- the refusal from the next event on, of the first piece and of the whole
+      rest : List ℕ → Refusal
+      rest u = firstBad (clockAfter k (eventAt s at)) (eventsFrom u (nextAt s at))
+
+      go : ((rest s .number ≡ 0 → ⊥) → (rest s .number ≡ 4 → ⊥) → rest (s ++ t) ≡ rest s) → Dec (at < length s) → Dec (faultBy k (eventAt s at) ≡ 0) → firstBad k (eventsFrom (s ++ t) at) ≡ firstBad k (eventsFrom s at)
+      go later (no h) f = absurd (some (ap number (firstBad-none k s at (omega arith))))
       go later (yes h) (yes z) =
-          let skips : firstBad (eventsFrom s at) ≡ firstBad (eventsFrom s (nextAt s at)) = firstBad-later s at h z in
-          firstBad-later (s ++ t) at (within h) (fault-first at h (λ four. omega (arith, z, four)) ∙ z)
-          ∙ ap (λ (q : ℕ). firstBad (eventsFrom (s ++ t) q)) (next-first at h)
+          let skips : firstBad k (eventsFrom s at) ≡ rest s = firstBad-later k s at h z in
+          let same : eventAt (s ++ t) at ≡ eventAt s at = event-first at h (clean-event k (eventAt s at) z .as-written) in
+          firstBad-later k (s ++ t) at (within h) (ap (faultBy k) same ∙ z)
+          ∙ (λ i. firstBad (clockAfter k (same i)) (eventsFrom (s ++ t) (next-first at h i)))
           ∙ later (λ e. some (ap number skips ∙ e)) (λ e. whole (ap number skips ∙ e))
           ∙ sym skips
       go later (yes h) (no b) =
-          let here : firstBad (eventsFrom s at) ≡ refusalOf (faultAt s at) at = firstBad-here s at h b in
-          let same : faultAt (s ++ t) at ≡ faultAt s at = fault-first at h (λ e. whole (ap number here ∙ e)) in
-          firstBad-here (s ++ t) at (within h) (λ e. b (sym same ∙ e)) ∙ ap (λ (v : ℕ). refusalOf v at) same ∙ sym here
+          let here : firstBad k (eventsFrom s at) ≡ refusalOf (faultBy k (eventAt s at)) at = firstBad-here k s at h b in
+          let same : faultBy k (eventAt (s ++ t) at) ≡ faultBy k (eventAt s at) = fault-same k at h (λ e. whole (ap number here ∙ e)) in
+          firstBad-here k (s ++ t) at (within h) (λ e. b (sym same ∙ e)) ∙ ap (λ (v : ℕ). refusalOf v at) same ∙ sym here
 
   -- A bad event of the first piece makes the whole bad, with the same number and offset; unless the number is 4: then the piece ends in the event, and the second may go on with it.
-  pub bad-first : (firstBad (events s) .number ≡ 0 → ⊥) → (firstBad (events s) .number ≡ 4 → ⊥) → firstBad (events (s ++ t)) ≡ firstBad (events s)
-  bad-first = bad-from (length s) 0 (omega arith)
+  pub bad-first : (firstBad unset (events s) .number ≡ 0 → ⊥) → (firstBad unset (events s) .number ≡ 4 → ⊥) → firstBad unset (events (s ++ t)) ≡ firstBad unset (events s)
+  bad-first = bad-from (length s) unset 0 (omega arith)
 
 -- ---- what a run keeps
 
@@ -297,21 +358,52 @@ runs-from T (e ∷ es) c m a k =
     ∙ (λ i. world (r .chip) (r .memory) (append-assoc a b (r .written) i) (ticks i))
     ∙ ap (λ (w : World). world (w .chip) (w .memory) (a ++ w .written) (k + w .ticks)) (sym part)
 
--- What a cut script comes to where no event of the first piece is bad: the second piece run on what the first left gives the whole's chip and memory; what the two
--- write, one behind the other, is what the whole writes, and their working ticks add up. Of refusals it says nothing: see `bad-cut` and `room-cut`.
-pub pieces : (c : Chip) (m area s t : List ℕ) → firstBad (events s) .number ≡ 0
+-- Where no stamp stands before the cut, or none after it, the second piece applies the same events with the clock that the first leaves and without one.
+alone-same : (s t : List ℕ) → NoStamp (events s) ⊎ NoStamp (events t) → timed (clockOver unset (events s)) (events t) ≡ played t
+alone-same s t (inl none) = ap (λ (k : Clock). timed k (events t)) (clock-unstamped unset (events s) none)
+alone-same s t (inr none) = timed-unstamped (clockOver unset (events s)) (events t) none ∙ sym (timed-unstamped unset (events t) none)
+
+-- events without a stamp have the same first bad one whatever the clock shows
+bad-unstamped : (k k′ : Clock) (es : List Event) → NoStamp es → firstBad k es ≡ firstBad k′ es
+unfolding firstBad NoStamp
+bad-unstamped k k′ [] none = refl
+bad-unstamped k k′ (e ∷ es) none =
+    let fault : faultBy k e ≡ faultBy k′ e = written k ∙ sym (written k′) in
+    let rest : firstBad (clockAfter k e) es ≡ firstBad (clockAfter k′ e) es = bad-unstamped (clockAfter k e) (clockAfter k′ e) es (none .1) in
+    λ i. cond (eqb (fault i) 0) (rest i) (refusalOf (fault i) (e .offset))
+  where
+    written : (q : Clock) → faultBy q e ≡ cond (eqb (e .fault) 0) 0 (e .fault)
+    written q = ap (λ (b : Bool). cond (eqb (e .fault) 0) (cond (b && wentBack q (e .body)) 8 0) (e .fault)) (none .0)
+
+-- So there the first bad event of the whole is that of the second piece on its own, its offset further on by the first piece's length.
+pub bad-pieces : (s t : List ℕ) → firstBad unset (events s) .number ≡ 0 → NoStamp (events s) ⊎ NoStamp (events t) → firstBad unset (events (s ++ t)) ≡ movedBad (length s) (firstBad unset (events t))
+bad-pieces s t clean (inl none) = bad-cut s t clean ∙ ap (λ (k : Clock). movedBad (length s) (firstBad k (events t))) (clock-unstamped unset (events s) none)
+bad-pieces s t clean (inr none) = bad-cut s t clean ∙ ap (movedBad (length s)) (bad-unstamped (clockOver unset (events s)) unset (events t) none)
+
+-- What a cut script comes to where no event of the first piece is bad, and no stamp stands before the cut or none after it: the second piece run on what the first left
+-- gives the whole's chip and memory; what the two write, one behind the other, is what the whole writes, and their working ticks add up. Of refusals it says nothing:
+-- see `bad-pieces` and `room-cut`.
+pub pieces : (c : Chip) (m area s t : List ℕ) → firstBad unset (events s) .number ≡ 0 → NoStamp (events s) ⊎ NoStamp (events t)
     → worldAfter c m area (s ++ t)
     ≡ world (worldAfter (worldAfter c m area s .chip) (worldAfter c m area s .memory) area t .chip) (worldAfter (worldAfter c m area s .chip) (worldAfter c m area s .memory) area t .memory)
     (worldAfter c m area s .written ++ worldAfter (worldAfter c m area s .chip) (worldAfter c m area s .memory) area t .written)
     (worldAfter c m area s .ticks + worldAfter (worldAfter c m area s .chip) (worldAfter c m area s .memory) area t .ticks)
 unfolding worldAfter
-pieces c m area s t clean =
+pieces c m area s t clean none =
     let T : Setting = settingOf (length m) area in
-    let w : World = runs T (events s) (world c m [] 0) in
-    let same : settingOf (length m) area ≡ settingOf (length (w .memory)) area = ap (λ (n : ℕ). settingOf n area) (sym (length-runs T (events s) (world c m [] 0))) in
+    let w : World = runs T (played s) (world c m [] 0) in
+    let same : settingOf (length m) area ≡ settingOf (length (w .memory)) area = ap (λ (n : ℕ). settingOf n area) (sym (length-runs T (played s) (world c m [] 0))) in
     run-cut s t clean T (world c m [] 0)
-    ∙ runs-from T (events t) (w .chip) (w .memory) (w .written) (w .ticks)
-    ∙ ap (λ (q : Setting). world (runs q (events t) (world (w .chip) (w .memory) [] 0) .chip) (runs q (events t) (world (w .chip) (w .memory) [] 0) .memory) (w .written ++ runs q (events t) (world (w .chip) (w .memory) [] 0) .written) (w .ticks + runs q (events t) (world (w .chip) (w .memory) [] 0) .ticks)) same
+    ∙ ap (λ (es : List Event). runs T es w) (alone-same s t none)
+    ∙ runs-from T (played t) (w .chip) (w .memory) (w .written) (w .ticks)
+    ∙ ap (λ (q : Setting). world (runs q (played t) (world (w .chip) (w .memory) [] 0) .chip) (runs q (played t) (world (w .chip) (w .memory) [] 0) .memory) (w .written ++ runs q (played t) (world (w .chip) (w .memory) [] 0) .written) (w .ticks + runs q (played t) (world (w .chip) (w .memory) [] 0) .ticks)) same
+
+-- With a stamp on each side the cut changes the ticks: 0000h and then 0005h in one script are five ticks, and each of the two alone is none.
+pub cut-between-stamps : (played ((0x09 ∷ 0x00 ∷ 0x00 ∷ []) ++ (0x09 ∷ 0x00 ∷ 0x05 ∷ [])) ≡ record { offset = 3; kind = 0x05; body = 5; fault = 0 } ∷ [])
+    × (played (0x09 ∷ 0x00 ∷ 0x00 ∷ []) ≡ [])
+    × (played (0x09 ∷ 0x00 ∷ 0x05 ∷ []) ≡ [])
+unfolding timed movedOn eventsFrom walk faultAt knownInScript kindRow kindRowIn
+cut-between-stamps = (refl, refl, refl)
 
 -- ---- events applied one by one
 
@@ -335,9 +427,9 @@ one-by-one c m area s at h =
       memory-done c m area (getD s at 0) (bodyAt s at) h ∙ ap (λ (o : Outcome). o .memory) (sym same),
     )
 
--- and a good event of a script is refused by nothing on a legal state of a permitted length, with an area that is not too long
-pub good-alone : (c : Chip) (n extent : ℕ) (s : List ℕ) (at : ℕ) → permitted n ≡ true → extent ≤ 256 → legal c n ≡ true → faultAt s at ≡ 0
+-- and a good event of a script that is no stamp is refused by nothing on a legal state of a permitted length, with an area that is not too long
+pub good-alone : (c : Chip) (n extent : ℕ) (s : List ℕ) (at : ℕ) → permitted n ≡ true → extent ≤ 256 → legal c n ≡ true → faultAt s at ≡ 0 → isStamp (eventAt s at) ≡ false
     → Alone.refusal c n extent (getD s at 0) (bodyAt s at) ≡ 0
-good-alone c n extent s at p a l z =
+good-alone c n extent s at p a l z no-stamp =
     let g = good-event s at z in
-    event-refused-when c n extent (getD s at 0) (bodyAt s at) .none .1 (p, a, l, g .known, g .ranged)
+    event-refused-when c n extent (getD s at 0) (bodyAt s at) .none .1 (p, a, l, known-event (getD s at 0) (g .known) no-stamp, g .ranged)

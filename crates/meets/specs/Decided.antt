@@ -21,7 +21,7 @@ use Rattle.chip.specs.Job.{isJob}
 use Rattle.legal.specs.Legal.{judgementKnown, legal}
 use Rattle.legal.specs.Legality.{chip-facts}
 use Rattle.kinds.specs.Kinds.{knownKind, kindRow, kindRowIn, inRange}
-use Rattle.kinds.specs.Laws.{kind-each}
+use Rattle.kinds.specs.Laws.{kind-each, none-known}
 use Rattle.script.specs.Script.{Event}
 use Rattle.script.specs.Run.{World, world}
 use Rattle.demands.specs.Model.{Reply, Model, event, Good, AllGood, Fit, onwardBy, runsBy, workingTicks, workedBy}
@@ -424,7 +424,7 @@ module _ (M N : Model) (p : Meets M) (q : Meets N) (c : Chip) (m area : List ℕ
 
     -- a good event, by its kind
     good-same : (kind : ℕ) → knownKind kind ≡ true → (body : ℕ) → inRange kind body ≡ true → M c m area kind body ≡ N c m area kind body
-    unfolding kindRow kindRowIn
+    unfolding knownKind kindRow kindRowIn
     good-same =
         kind-each (λ kind. knownKind kind ≡ true → (body : ℕ) → inRange kind body ≡ true → M c m area kind body ≡ N c m area kind body)
         (λ _ body _. p .second .selects c m area body fit ∙ sym (q .second .selects c m area body fit))
@@ -434,7 +434,8 @@ module _ (M N : Model) (p : Meets M) (q : Meets N) (c : Chip) (m area : List ℕ
         (λ _ body i. ticks-same fit 0x05 body body (many-ticks body (leb-true 1 body (and-left (leb 1 body) (leb body 65535) i)) (leb-true body 65535 (and-right (leb 1 body) (leb body 65535) i))) (refusals-same 0x05 body))
         (λ _ body i. let small : body ≤ 1 = leb-true body 1 (and-right (leb 0 body) (leb body 1) i) in p .second .levels c m area body fit small ∙ sym (q .second .levels c m area body fit small))
         (λ _ body _. p .second .power-cut c m area body fit ∙ sym (q .second .power-cut c m area body fit))
-        (λ kind none known body i. absurd (false≢true (sym (none .not-known) ∙ known)))
+        (λ known body i. absurd (false≢true known))
+        (λ kind none known body i. absurd (false≢true (sym (none-known none) ∙ known)))
 
   -- The demands leave no choice: whatever the event, the two models answer the same.
   pub decided : (kind body : ℕ) → M c m area kind body ≡ N c m area kind body

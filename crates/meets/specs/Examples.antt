@@ -11,7 +11,7 @@ use lib.ListN.{length, getD, drop}
 use Rattle.cells.specs.Cells.{sweep, later, blanked, anded}
 use Rattle.cells.specs.Laws.{sweep-changes, sweep-outside}
 use Rattle.part.specs.Part.{Setting, setting}
-use Rattle.kinds.specs.Kinds.{SELECT, EXCHANGE, DESELECT, TICK, TICKS, knownInScript, kindRowIn, knownKind, kindRow}
+use Rattle.kinds.specs.Kinds.{SELECT, EXCHANGE, DESELECT, TICK, TICKS, STAMP, knownInScript, kindRowIn, knownKind, kindRow}
 use Rattle.commands.specs.Table.{rowOf, rowIn, fitsRule, isRead, isProgram}
 use Rattle.part.specs.declared.Protected.the-variants.{NoSector, Sectors}
 use Rattle.part.specs.Protection.{protectedCount, protectedSectors, isProtected}
@@ -25,7 +25,8 @@ use Rattle.frame.specs.Frame.{judge, taken, exchanged}
 use Rattle.verdict.specs.Verdict.{jobOf, jobVerdict, commandVerdict, listed, verdict, recordOf}
 use Rattle.verdict.specs.Effect.{instantly, acted, settled, heldAfter}
 use Rattle.event.specs.Event.{applied}
-use Rattle.script.specs.Script.{Event, faultAt, walk, eventsFrom, events, room}
+use Rattle.clock.specs.Clock.{unset, movedOn}
+use Rattle.script.specs.Script.{Event, faultAt, walk, eventsFrom, events, timed, room}
 use Rattle.script.specs.Run.{World, world, runs}
 use Rattle.script.specs.Laws.{runs-add}
 use Rattle.chip.specs.declared.JobKind.the-variants.{Program, SmallErase}
@@ -48,7 +49,7 @@ one = setting 1 []
 
 -- a script run from a fresh state of that status byte, on S sectors with memory m and an empty area
 abbrev pub played : ℕ → ℕ → List ℕ → List ℕ → World
-played S status s m = runs (setting S []) (events s) (world (fresh status) m [] 0)
+played S status s m = runs (setting S []) (timed unset (events s)) (world (fresh status) m [] 0)
 
 -- P1: a read of two bytes at the top address of the real part drives its last cell and then its first (RULES, Commands)
 abbrev pub P1 : Type 0
@@ -58,7 +59,7 @@ P1 =
     ≡ 0x80 ∷ 0x80 ∷ 0x80 ∷ 0x80 ∷ 0x81 ∷ getD m 2097151 0 ∷ 0x81 ∷ getD m 0 0 ∷ 0x82 ∷ 0 ∷ []
 
 p1 : P1
-unfolding runs eventsFrom walk faultAt knownKind knownInScript kindRow kindRowIn applied exchanged taken judge fresh rowOf rowIn isProgram verdict recordOf listed isRead settled acted heldAfter statusByte
+unfolding runs timed eventsFrom walk faultAt knownKind knownInScript kindRow kindRowIn applied exchanged taken judge fresh rowOf rowIn isProgram verdict recordOf listed isRead settled acted heldAfter statusByte
 p1 m = refl
 
 -- P2: 260 data bytes from offset 250 of a page: six offsets of the load, some of them written twice (RULES, Commands)
@@ -77,7 +78,7 @@ P2 =
     ≡ 5 ∷ 8 ∷ 4 ∷ 5 ∷ 6 ∷ 4 ∷ []
 
 p2 : P2
-unfolding runs eventsFrom walk faultAt knownKind knownInScript kindRow kindRowIn applied exchanged taken judge fresh rowOf rowIn isProgram
+unfolding runs timed eventsFrom walk faultAt knownKind knownInScript kindRow kindRowIn applied exchanged taken judge fresh rowOf rowIn isProgram
 p2 m = refl
 
 -- P3: the status byte once WEN is set, once a program runs, while a suspend waits for its tick, and once the program is suspended (RULES, Status)
@@ -100,7 +101,7 @@ abbrev pub P4 : Type 0
 P4 = (m : List ℕ) → statusAfter (frame (0x06 ∷ []) ++ (frame (0x01 ∷ 0xFF ∷ []) ++ (TICK ∷ []))) m ≡ 0xBC
 
 p4 : P4
-unfolding runs eventsFrom walk faultAt knownKind knownInScript kindRow kindRowIn applied exchanged taken judge fresh rowOf rowIn isProgram verdict recordOf listed isRead commandVerdict jobVerdict jobOf fitsRule settled acted heldAfter instantly statusByte ticksCore tickCore worked
+unfolding runs timed eventsFrom walk faultAt knownKind knownInScript kindRow kindRowIn applied exchanged taken judge fresh rowOf rowIn isProgram verdict recordOf listed isRead commandVerdict jobVerdict jobOf fitsRule settled acted heldAfter instantly statusByte ticksCore tickCore worked
 p4 m = refl
 
 -- P6: at level 1, TB 0, the real part's top sector, 31, is protected and the one below it free: an erase is told so in the one and begins in the other (RULES, Protection)
@@ -111,7 +112,7 @@ P6 =
     × (played 32 0x04 (frame (0x06 ∷ []) ++ frame (0xD8 ∷ 0x1E ∷ 0xFF ∷ 0xFF ∷ [])) m .written ≡ 0x80 ∷ 0x82 ∷ 1 ∷ 0x80 ∷ 0x80 ∷ 0x80 ∷ 0x80 ∷ 0x82 ∷ 2 ∷ [])
 
 p6 : P6
-unfolding runs eventsFrom walk faultAt knownKind knownInScript kindRow kindRowIn applied exchanged taken judge fresh rowOf rowIn isProgram verdict recordOf listed isRead commandVerdict jobVerdict jobOf fitsRule settled acted heldAfter instantly protectedSectors protectedCount
+unfolding runs timed eventsFrom walk faultAt knownKind knownInScript kindRow kindRowIn applied exchanged taken judge fresh rowOf rowIn isProgram verdict recordOf listed isRead commandVerdict jobVerdict jobOf fitsRule settled acted heldAfter instantly protectedSectors protectedCount
 p6 m = (refl, refl)
 
 -- P7: a part of one sector is protected whole at level 5: sectors 0 to 0 (RULES, Protection)
@@ -122,7 +123,7 @@ P7 =
     → played 1 0x14 (frame (0x06 ∷ []) ++ frame (0x20 ∷ 0x00 ∷ 0xF0 ∷ 0x00 ∷ [])) m .written ≡ 0x80 ∷ 0x82 ∷ 1 ∷ 0x80 ∷ 0x80 ∷ 0x80 ∷ 0x80 ∷ 0x83 ∷ 0 ∷ 0 ∷ [])
 
 p7 : P7
-unfolding runs eventsFrom walk faultAt knownKind knownInScript kindRow kindRowIn applied exchanged taken judge fresh rowOf rowIn isProgram verdict recordOf listed isRead commandVerdict jobVerdict jobOf fitsRule settled acted heldAfter instantly protectedSectors protectedCount
+unfolding runs timed eventsFrom walk faultAt knownKind knownInScript kindRow kindRowIn applied exchanged taken judge fresh rowOf rowIn isProgram verdict recordOf listed isRead commandVerdict jobVerdict jobOf fitsRule settled acted heldAfter instantly protectedSectors protectedCount
 p7 = (sectors-all, λ m. refl)
   where
     only : (tb : Bool) → isProtected 5 tb 1 0 ≡ true
@@ -139,7 +140,7 @@ P8 =
     → played 1 0x00 (frame (0x66 ∷ []) ++ (frame (0x05 ∷ []) ++ frame (0x99 ∷ []))) m .written ≡ 0x80 ∷ 0x82 ∷ 1 ∷ 0x80 ∷ 0x82 ∷ 0 ∷ 0x80 ∷ 0x82 ∷ 11 ∷ []
 
 p8 : P8
-unfolding runs eventsFrom walk faultAt knownKind knownInScript kindRow kindRowIn applied exchanged taken judge fresh rowOf rowIn isProgram verdict recordOf listed isRead commandVerdict jobVerdict jobOf fitsRule settled acted heldAfter instantly statusByte
+unfolding runs timed eventsFrom walk faultAt knownKind knownInScript kindRow kindRowIn applied exchanged taken judge fresh rowOf rowIn isProgram verdict recordOf listed isRead commandVerdict jobVerdict jobOf fitsRule settled acted heldAfter instantly statusByte
 p8 m = refl
 
 -- P10: an erase with two address bytes has the wrong length (RULES, Verdicts)
@@ -147,7 +148,7 @@ abbrev pub P10 : Type 0
 P10 = (m : List ℕ) → played 1 0x00 (frame (0x20 ∷ 0x00 ∷ 0x00 ∷ [])) m .written ≡ 0x80 ∷ 0x80 ∷ 0x80 ∷ 0x82 ∷ 4 ∷ []
 
 p10 : P10
-unfolding runs eventsFrom walk faultAt knownKind knownInScript kindRow kindRowIn applied exchanged taken judge fresh rowOf rowIn isProgram verdict recordOf listed isRead fitsRule settled acted heldAfter
+unfolding runs timed eventsFrom walk faultAt knownKind knownInScript kindRow kindRowIn applied exchanged taken judge fresh rowOf rowIn isProgram verdict recordOf listed isRead fitsRule settled acted heldAfter
 p10 m = refl
 
 -- ---- P5 and P9, on any memory: the job begun by a frame, and n ticks of it
@@ -202,11 +203,11 @@ ticked-memory n kind w job e =
     ∙ ap (λ (k : ℕ). steps kind 0 (w .chip .held) 0 k (w .memory)) (ticked-works n w ∙ e)
 
 erasing-core : (m : List ℕ) → erasing m .chip .core ≡ begunCore SmallErase
-unfolding runs eventsFrom walk faultAt knownKind knownInScript kindRow kindRowIn applied exchanged taken judge fresh rowOf rowIn isProgram verdict recordOf listed isRead commandVerdict jobVerdict jobOf fitsRule settled acted heldAfter instantly protectedSectors protectedCount
+unfolding runs timed eventsFrom walk faultAt knownKind knownInScript kindRow kindRowIn applied exchanged taken judge fresh rowOf rowIn isProgram verdict recordOf listed isRead commandVerdict jobVerdict jobOf fitsRule settled acted heldAfter instantly protectedSectors protectedCount
 erasing-core m = refl
 
 erasing-memory : (m : List ℕ) → erasing m .memory ≡ m
-unfolding runs eventsFrom walk faultAt knownKind knownInScript kindRow kindRowIn applied exchanged taken judge fresh rowOf rowIn isProgram verdict recordOf listed isRead commandVerdict jobVerdict jobOf fitsRule settled acted heldAfter instantly protectedSectors protectedCount
+unfolding runs timed eventsFrom walk faultAt knownKind knownInScript kindRow kindRowIn applied exchanged taken judge fresh rowOf rowIn isProgram verdict recordOf listed isRead commandVerdict jobVerdict jobOf fitsRule settled acted heldAfter instantly protectedSectors protectedCount
 erasing-memory m = refl
 
 erasing-job : (m : List ℕ) → UnderWay one SmallErase 0 (erasing m .chip .held) 0 (erasing m)
@@ -242,15 +243,15 @@ p9 m h =
         ap (λ (q : ℕ). getD (sweep (later blanked 0) m 0 n) q 0) (sym (zero-add i)) ∙ sweep-changes (later blanked 0) m 0 n i l (omega arith)
 
 programming-core : (m : List ℕ) → programming m .chip .core ≡ begunCore Program
-unfolding runs eventsFrom walk faultAt knownKind knownInScript kindRow kindRowIn applied exchanged taken judge fresh rowOf rowIn isProgram verdict recordOf listed isRead commandVerdict jobVerdict jobOf fitsRule settled acted heldAfter instantly protectedSectors protectedCount
+unfolding runs timed eventsFrom walk faultAt knownKind knownInScript kindRow kindRowIn applied exchanged taken judge fresh rowOf rowIn isProgram verdict recordOf listed isRead commandVerdict jobVerdict jobOf fitsRule settled acted heldAfter instantly protectedSectors protectedCount
 programming-core m = refl
 
 programming-memory : (m : List ℕ) → programming m .memory ≡ m
-unfolding runs eventsFrom walk faultAt knownKind knownInScript kindRow kindRowIn applied exchanged taken judge fresh rowOf rowIn isProgram verdict recordOf listed isRead commandVerdict jobVerdict jobOf fitsRule settled acted heldAfter instantly protectedSectors protectedCount
+unfolding runs timed eventsFrom walk faultAt knownKind knownInScript kindRow kindRowIn applied exchanged taken judge fresh rowOf rowIn isProgram verdict recordOf listed isRead commandVerdict jobVerdict jobOf fitsRule settled acted heldAfter instantly protectedSectors protectedCount
 programming-memory m = refl
 
 programming-load : (m : List ℕ) → getD (programming m .chip .held) 0 0 ≡ 0x0F
-unfolding runs eventsFrom walk faultAt knownKind knownInScript kindRow kindRowIn applied exchanged taken judge fresh rowOf rowIn isProgram verdict recordOf listed isRead commandVerdict jobVerdict jobOf fitsRule settled acted heldAfter instantly protectedSectors protectedCount
+unfolding runs timed eventsFrom walk faultAt knownKind knownInScript kindRow kindRowIn applied exchanged taken judge fresh rowOf rowIn isProgram verdict recordOf listed isRead commandVerdict jobVerdict jobOf fitsRule settled acted heldAfter instantly protectedSectors protectedCount
 programming-load m = refl
 
 programming-job : (m : List ℕ) → UnderWay one Program 0 (programming m .chip .held) 0 (programming m)
@@ -268,7 +269,7 @@ p5 m h c =
 -- ---- P3, on any memory: the program of P5, then the frame that suspends it
 
 programming-frame : (m : List ℕ) → programming m .chip .frame ≡ emptyFrame
-unfolding runs eventsFrom walk faultAt knownKind knownInScript kindRow kindRowIn applied exchanged taken judge fresh rowOf rowIn isProgram verdict recordOf listed isRead commandVerdict jobVerdict jobOf fitsRule settled acted heldAfter instantly protectedSectors protectedCount
+unfolding runs timed eventsFrom walk faultAt knownKind knownInScript kindRow kindRowIn applied exchanged taken judge fresh rowOf rowIn isProgram verdict recordOf listed isRead commandVerdict jobVerdict jobOf fitsRule settled acted heldAfter instantly protectedSectors protectedCount
 programming-frame m = refl
 
 begun-status : statusByte (begunCore Program) ≡ 0x03
@@ -276,15 +277,15 @@ unfolding statusByte
 begun-status = refl
 
 enabled-status : (m : List ℕ) → statusAfter (frame (0x06 ∷ [])) m ≡ 0x02
-unfolding runs eventsFrom walk faultAt knownKind knownInScript kindRow kindRowIn applied exchanged taken judge fresh rowOf rowIn isProgram verdict recordOf listed isRead commandVerdict jobVerdict jobOf fitsRule settled acted heldAfter instantly statusByte
+unfolding runs timed eventsFrom walk faultAt knownKind knownInScript kindRow kindRowIn applied exchanged taken judge fresh rowOf rowIn isProgram verdict recordOf listed isRead commandVerdict jobVerdict jobOf fitsRule settled acted heldAfter instantly statusByte
 enabled-status m = refl
 
 -- what comes after the program has begun: its events, and that they come after those that began it
 abbrev afterwards : List ℕ → List Event
-afterwards tail = eventsFrom (programs ++ tail) (length programs)
+afterwards tail = timed unset (eventsFrom (programs ++ tail) (length programs))
 
 abbrev InTwo : List ℕ → Type 0
-InTwo tail = events (programs ++ tail) ≡ events programs ++ afterwards tail
+InTwo tail = timed unset (events (programs ++ tail)) ≡ timed unset (events programs) ++ afterwards tail
 
 -- so its core is what they make of the begun program, whatever the loads and the memory are
 then-core : {A : Type 0} (g : Core → A) (tail : List ℕ) (x : A) → InTwo tail
@@ -293,12 +294,12 @@ then-core : {A : Type 0} (g : Core → A) (tail : List ℕ) (x : A) → InTwo ta
 then-core g tail x in-two shows m =
     let w : World = programming m in
     ap (λ (es : List Event). g (runs one es (world (fresh 0x00) m [] 0) .chip .core)) in-two
-    ∙ ap (λ (x : World). g (x .chip .core)) (runs-add one (events programs) (afterwards tail) (world (fresh 0x00) m [] 0))
+    ∙ ap (λ (x : World). g (x .chip .core)) (runs-add one (timed unset (events programs)) (afterwards tail) (world (fresh 0x00) m [] 0))
     ∙ (λ i. g (runs one (afterwards tail) (world (whole (programming-core m i) (programming-frame m i) (w .chip .load) (w .chip .held)) (w .memory) (w .written) (w .ticks)) .chip .core))
     ∙ shows (w .chip .load) (w .chip .held) (w .memory) (w .written) (w .ticks)
 
 p3 : P3
-unfolding runs eventsFrom walk faultAt knownKind knownInScript kindRow kindRowIn applied exchanged taken judge fresh rowOf rowIn isProgram verdict recordOf listed isRead commandVerdict jobVerdict jobOf fitsRule settled acted heldAfter instantly statusByte ticksCore tickCore
+unfolding runs timed eventsFrom walk faultAt knownKind knownInScript kindRow kindRowIn applied exchanged taken judge fresh rowOf rowIn isProgram verdict recordOf listed isRead commandVerdict jobVerdict jobOf fitsRule settled acted heldAfter instantly statusByte ticksCore tickCore
 p3 m = (
   enabled-status m,
   ap statusByte (programming-core m) ∙ begun-status,
@@ -318,12 +319,24 @@ pub suspend-takes-a-tick : (m : List ℕ)
     × (statusByte (suspendedAfter 3 m) ≡ 0x42)
     × (suspendedAfter 15 m .job ≡ noJob)
     × (statusByte (suspendedAfter 15 m) ≡ 0x00)
-unfolding runs eventsFrom walk faultAt knownKind knownInScript kindRow kindRowIn applied exchanged taken judge fresh rowOf rowIn isProgram verdict recordOf listed isRead commandVerdict jobVerdict jobOf fitsRule settled acted heldAfter instantly statusByte ticksCore tickCore
+unfolding runs timed eventsFrom walk faultAt knownKind knownInScript kindRow kindRowIn applied exchanged taken judge fresh rowOf rowIn isProgram verdict recordOf listed isRead commandVerdict jobVerdict jobOf fitsRule settled acted heldAfter instantly statusByte ticksCore tickCore
 suspend-takes-a-tick m = (
   then-core (λ k. k .job) (TICKS ∷ 0 ∷ 3 ∷ (frame (0xB0 ∷ []) ++ (TICK ∷ []))) _ refl (λ load held m written ticks. refl) m,
   then-core statusByte (TICKS ∷ 0 ∷ 3 ∷ (frame (0xB0 ∷ []) ++ (TICK ∷ []))) _ refl (λ load held m written ticks. refl) m,
   then-core (λ k. k .job) (TICKS ∷ 0 ∷ 15 ∷ (frame (0xB0 ∷ []) ++ (TICK ∷ []))) _ refl (λ load held m written ticks. refl) m,
   then-core statusByte (TICKS ∷ 0 ∷ 15 ∷ (frame (0xB0 ∷ []) ++ (TICK ∷ []))) _ refl (λ load held m written ticks. refl) m,
+)
+
+-- ---- stamps as ticks (RULES, Stamps)
+
+-- Two stamps 16 apart see a program through, with the roll-over between them; after 15 of the ticks it still runs.
+pub stamps-see-it-through : (m : List ℕ)
+    → (statusAfter (programs ++ (STAMP ∷ 0xFF ∷ 0xF8 ∷ STAMP ∷ 0x00 ∷ 0x08 ∷ [])) m ≡ 0x00)
+    × (statusAfter (programs ++ (STAMP ∷ 0xFF ∷ 0xF8 ∷ STAMP ∷ 0x00 ∷ 0x07 ∷ [])) m ≡ 0x03)
+unfolding runs timed movedOn eventsFrom walk faultAt knownKind knownInScript kindRow kindRowIn applied exchanged taken judge fresh rowOf rowIn isProgram verdict recordOf listed isRead commandVerdict jobVerdict jobOf fitsRule settled acted heldAfter instantly statusByte ticksCore tickCore
+stamps-see-it-through m = (
+  then-core statusByte (STAMP ∷ 0xFF ∷ 0xF8 ∷ STAMP ∷ 0x00 ∷ 0x08 ∷ []) _ refl (λ load held m written ticks. refl) m,
+  then-core statusByte (STAMP ∷ 0xFF ∷ 0xF8 ∷ STAMP ∷ 0x00 ∷ 0x07 ∷ []) _ refl (λ load held m written ticks. refl) m,
 )
 
 -- ---- all of them under one claim
@@ -367,7 +380,7 @@ pub told-sectors : (m : List ℕ)
     × (toldAt 8 0x2C (0x60 ∷ []) m ≡ 0x83 ∷ 0 ∷ 3 ∷ [])
     × (toldAt 32 0x34 (0x02 ∷ 0x07 ∷ 0x00 ∷ 0x00 ∷ 0x5A ∷ []) m ≡ 0x83 ∷ 0 ∷ 15 ∷ [])
     × (toldAt 32 0x0C (0x20 ∷ 0x1F ∷ 0xF0 ∷ 0x00 ∷ []) m ≡ 0x83 ∷ 28 ∷ 31 ∷ [])
-unfolding runs eventsFrom walk faultAt knownKind knownInScript kindRow kindRowIn applied exchanged taken judge fresh rowOf rowIn isProgram verdict recordOf listed isRead commandVerdict jobVerdict jobOf fitsRule settled acted heldAfter instantly protectedSectors protectedCount
+unfolding runs timed eventsFrom walk faultAt knownKind knownInScript kindRow kindRowIn applied exchanged taken judge fresh rowOf rowIn isProgram verdict recordOf listed isRead commandVerdict jobVerdict jobOf fitsRule settled acted heldAfter instantly protectedSectors protectedCount
 told-sectors m = (refl, refl, refl, refl)
 
 -- ---- the rule book's first worked exchange (RULES, Worked exchanges)
@@ -382,5 +395,5 @@ workedExchange =
 
 -- It writes 40 bytes of output, and has to be lent 64.
 pub worked-exchange : (m : List ℕ) → (length (played 1 0x00 workedExchange m .written) ≡ 40) × (room (events workedExchange) ≡ 64)
-unfolding room runs eventsFrom walk faultAt knownKind knownInScript kindRow kindRowIn applied exchanged taken judge fresh rowOf rowIn isProgram verdict recordOf listed isRead commandVerdict jobVerdict jobOf fitsRule settled acted heldAfter instantly protectedSectors protectedCount statusByte ticksCore tickCore worked
+unfolding room runs timed eventsFrom walk faultAt knownKind knownInScript kindRow kindRowIn applied exchanged taken judge fresh rowOf rowIn isProgram verdict recordOf listed isRead commandVerdict jobVerdict jobOf fitsRule settled acted heldAfter instantly protectedSectors protectedCount statusByte ticksCore tickCore worked
 worked-exchange m = (refl, refl)

@@ -46,7 +46,7 @@ inside-each T c m e ok P selects bytes ticks levels =
     (λ k. of k (ticks (e .body)))
     (λ k. of k (levels (e .body)))
     (λ k. outside k refl)
-    (λ none. absurd (false≢true (sym (none .not-known) ∙ ok .0 .0)))
+    (λ none. absurd (false≢true (sym none ∙ ok .0 .0)))
   where
     of : {o : Outcome} {kind : ℕ} → e .kind ≡ kind → P (cond (eqb kind 0x02) 1 0) o → P (cond (eqb (e .kind) 0x02) 1 0) o
     of {o} k p = subst (λ (q : ℕ). P (cond (eqb q 0x02) 1 0) o) (sym k) p

@@ -58,8 +58,8 @@ says-verdict : (kind : ℕ) → saysOf kind ≡ Says.verdict → kind ≡ DESELE
 unfolding kindRow kindRowIn
 says-verdict =
     kind-each (λ kind. saysOf kind ≡ Says.verdict → kind ≡ DESELECT)
-    (λ e. silent e) (λ e. line e) (λ _. refl) (λ e. silent e) (λ e. silent e) (λ e. silent e) (λ e. silent e)
-    (λ kind o e. silent (sym (ap (λ (r : KindRow). r .says) (o .no-row)) ∙ e))
+    (λ e. silent e) (λ e. line e) (λ _. refl) (λ e. silent e) (λ e. silent e) (λ e. silent e) (λ e. silent e) (λ e. silent e)
+    (λ kind none e. silent (sym (ap (λ (r : KindRow). r .says) none) ∙ e))
   where
     silent : {A : Type 0} → Says.silent ≡ Says.verdict → A
     silent e = absurd (false≢true (ap isSaid e))

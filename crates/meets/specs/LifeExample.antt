@@ -1,17 +1,18 @@
 -- A closed script that holds a whole life, cut by a suspend, a status read and a resume: the hypotheses of `whole-life` are met.
 -- They are met by tests that compute: a test over the definitions that is true gives what the demand asks of ours.
-use Prim.Native.Nat.{ℕ, _+_, _≤_}
+use Prim.Native.Nat.{ℕ, _≤_}
 use mathlib.Core.Bool.{Bool, true, false, not, _&&_, false≢true}
 use mathlib.Core.List.{List, [], _∷_, _++_}
 use mathlib.Core.Path.{_≡_, refl, sym, ap, subst, _∙_}
 use native.Mathlib.Omega.{arith}
-use lib.Dec.{eqb, leb}
+use lib.Dec.{eqb}
 use lib.ListN.{length, take, drop}
 use borrow.Author.Tests.{eq-eqb, eqb-true, leb-true}
 use Rattle.cells.specs.Choice.{and-left, and-right, and-both, and-four}
 use Rattle.part.specs.Part.{Setting, sectorsIn, settingOf, permitted}
 use Rattle.commands.specs.Table.{rowOf, rowIn, fitsRule, isRead, isProgram, reset}
-use Rattle.kinds.specs.Kinds.{TICKS, POWER, knownInScript, kindRowIn, knownKind, kindRow, bodyLength, inRange}
+use Rattle.kinds.specs.Kinds.{TICKS, POWER, knownInScript, kindRowIn, knownKind, kindRow}
+use Rattle.clock.specs.Clock.{unset}
 use Rattle.chip.specs.declared.Record.{Record}
 use Rattle.chip.specs.declared.Record.the-variants.{Nothing, Floating, Driven, Verdict, InTheWay}
 use Rattle.chip.specs.Record.{recordBytes}
@@ -26,12 +27,13 @@ use Rattle.verdict.specs.Effect.{instantly, acted, settled, heldAfter}
 use Rattle.legal.specs.Legal.{legal}
 use Rattle.event.specs.Event.{applied}
 use Rattle.event.specs.Keeps.{length-applied}
-use Rattle.script.specs.Script.{Event, eventAt, faultAt, walk, eventsFrom, events}
+use Rattle.script.specs.Script.{Event, eventAt, faultAt, walk, eventsFrom, events, timed, played, firstBad}
 use Rattle.script.specs.Run.{World, world, does, onward, runs}
 use Rattle.demands.specs.Model.{ours, Good, AllGood, Fit, doesBy, onwardBy, runsBy, workedBy}
 use Rattle.demands.specs.Demand1.{RunReply, AllSound, Heard, roomNeeded, ourRun}
 use Rattle.demands.specs.Demand3.{Spares, AllSpare, stepsOf}
 use Rattle.meets.specs.Ours.{onward-ours, setting-same, fit-onward, runs-ours, fit-runs, worked-ours}
+use Rattle.meets.specs.Refusals.{sound-script}
 use Rattle.meets.specs.Life.{told-verdict, says-ours}
 use Rattle.meets.specs.Cut.{length-runs}
 use Rattle.meets.specs.Examples.{frame, one}
@@ -166,19 +168,6 @@ module _ (area : List ℕ) (w : World) (before : List Event) (begins : Event) (f
             ∙ ap (λ (U : Setting). total (jobIn w₁ .kind) (U .sectors)) (sym part₁));
       }
 
--- whether each event of a script is sound
-unfoldable pub allSound : List ℕ → List Event → Bool
-allSound s [] = true
-allSound s (e ∷ es) = knownKind (e .kind) && leb (e .offset + 1 + bodyLength (e .kind)) (length s) && inRange (e .kind) (e .body) && allSound s es
-
--- events that pass it are
-sound-by-test : (s : List ℕ) (es : List Event) → allSound s es ≡ true → AllSound s es
-unfolding allSound AllSound
-sound-by-test s [] t = tt
-sound-by-test s (e ∷ es) t =
-    let four = and-four (knownKind (e .kind)) (leb (e .offset + 1 + bodyLength (e .kind)) (length s)) (inRange (e .kind) (e .body)) (allSound s es) t in
-    (record { known = four .0; whole = leb-true _ _ (four .1); ranged = four .2 }, sound-by-test s es (four .3))
-
 -- ---- the script
 
 -- five ticks; B0h; three ticks, of which the first works and the others find it suspended; a status read; 30h; ten ticks
@@ -191,26 +180,26 @@ erasesCut = frame (0x06 ∷ []) ++ (frame (0x20 ∷ 0 ∷ 0 ∷ 0 ∷ []) ++ cut
 
 -- the events before the deselect that begins the erase, that deselect, and the life
 abbrev pub before : List Event
-before = take 8 (events erasesCut)
+before = take 8 (played erasesCut)
 
 abbrev pub begins : Event
 begins = eventAt erasesCut 14
 
 abbrev pub life : List Event
-life = drop 9 (events erasesCut)
+life = drop 9 (played erasesCut)
 
 -- these are its events, and they are sound
-in-order : events erasesCut ≡ before ++ (begins ∷ life)
-unfolding eventsFrom walk faultAt knownKind knownInScript kindRow kindRowIn
+in-order : played erasesCut ≡ before ++ (begins ∷ life)
+unfolding timed eventsFrom walk faultAt knownKind knownInScript kindRow kindRowIn
 in-order = refl
 
-all-sound : AllSound erasesCut (events erasesCut)
-unfolding allSound eventsFrom walk faultAt knownKind knownInScript kindRow kindRowIn
-all-sound = sound-by-test erasesCut (events erasesCut) refl
+all-sound : AllSound erasesCut unset (events erasesCut)
+unfolding firstBad eventsFrom walk faultAt knownInScript kindRow kindRowIn
+all-sound = sound-script erasesCut refl
 
 -- it passes the test on the smallest part, with any memory
 passes : (m : List ℕ) → wholeLife one (world (fresh 0x00) m [] 0) before begins life ≡ true
-unfolding allSparing runs Stepwise.workedBy eventsFrom walk faultAt knownKind knownInScript kindRow kindRowIn applied exchanged taken judge fresh rowOf rowIn isProgram verdict recordOf listed isRead commandVerdict jobVerdict jobOf fitsRule settled acted heldAfter instantly ticksCore tickCore worked protectedCount protectedSectors
+unfolding allSparing runs Stepwise.workedBy timed eventsFrom walk faultAt knownKind knownInScript kindRow kindRowIn applied exchanged taken judge fresh rowOf rowIn isProgram verdict recordOf listed isRead commandVerdict jobVerdict jobOf fitsRule settled acted heldAfter instantly ticksCore tickCore worked protectedCount protectedSectors
 passes m = refl
 
 module _ (m out : List ℕ) (smallest : length m ≡ 65536) (roomy : 33 ≤ length out) where
@@ -242,7 +231,7 @@ module _ (m out : List ℕ) (smallest : length m ≡ 65536) (roomy : 33 ≤ leng
 
   good : AllGood before × (Good begins × AllGood life)
   unfolding AllGood
-  good = good-split before (begins ∷ life) (subst AllGood in-order (all-good erasesCut (events erasesCut) all-sound))
+  good = good-split before (begins ∷ life) (subst AllGood in-order (all-good erasesCut unset (events erasesCut) all-sound))
 
   holds : HoldsLife ours [] start before begins life
   holds =
@@ -259,5 +248,5 @@ module _ (m out : List ℕ) (smallest : length m ≡ 65536) (roomy : 33 ≤ leng
 
   -- Sixteen of its eighteen ticks work, and the run's own memory is the whole image: a sector of 4,096 cells FFh, every other cell as it was.
   pub cut-and-ended : (answer .refusal ≡ 0) × (answer .memory ≡ wholeImage SmallErase 1 0 blankLoad m) × (answer .chip .core .job ≡ noJob) × (answer .ticks ≡ 16)
-  unfolding runs eventsFrom walk faultAt knownKind knownInScript kindRow kindRowIn applied exchanged taken judge fresh rowOf rowIn isProgram verdict recordOf listed isRead commandVerdict jobVerdict jobOf fitsRule settled acted heldAfter instantly protectedCount protectedSectors
+  unfolding runs timed eventsFrom walk faultAt knownKind knownInScript kindRow kindRowIn applied exchanged taken judge fresh rowOf rowIn isProgram verdict recordOf listed isRead commandVerdict jobVerdict jobOf fitsRule settled acted heldAfter instantly protectedCount protectedSectors
   cut-and-ended = (done, lived .memory-is ∙ ap (λ (n : ℕ). wholeImage SmallErase (sectorsIn n) 0 blankLoad m) smallest, lived .job-gone, lived .ticks-are)

@@ -16,7 +16,7 @@ use Rattle.meets.specs.Refusals.{run-numbers}
 use Rattle.demands.specs.Words.{SmallWords, Words}
 use Rattle.meets.specs.Array.{protection-in-numbers}
 use Rattle.meets.specs.LegalStates.{length-among, legal-when, fresh-state}
-use Rattle.meets.specs.ScriptWords.{kinds-in-numbers, events-in-numbers}
+use Rattle.meets.specs.ScriptWords.{kinds-in-numbers, events-in-numbers, stamps-in-numbers}
 use Rattle.meets.specs.TableWords.{table-in-numbers}
 use Rattle.meets.specs.JobWords.{jobs-in-numbers}
 use Rattle.meets.specs.Meets2Reads.{status-bits}
@@ -48,6 +48,7 @@ words =
       fresh-states = fresh-state;
       kinds = kinds-in-numbers;
       events = events-in-numbers;
+      stamps = stamps-in-numbers;
       table = table-in-numbers;
       protection = protection-in-numbers;
       status = status-bits;
@@ -82,10 +83,11 @@ module _ (R : Runner) (p : Demand1Run ours R) (c : Chip) (m area s out : List �
   SameRefusal = (x .refusal ≡ y .refusal) × (x .offset ≡ y .offset)
 
   -- a number that has no offset
-  without : (v : ℕ) → x .refusal ≡ v → y .refusal ≡ v → (v ≡ 4 → ⊥) → (v ≡ 5 → ⊥) → (v ≡ 6 → ⊥) → SameRefusal
-  without v a b four five six = (
+  without : (v : ℕ) → x .refusal ≡ v → y .refusal ≡ v → (v ≡ 4 → ⊥) → (v ≡ 5 → ⊥) → (v ≡ 6 → ⊥) → (v ≡ 8 → ⊥) → SameRefusal
+  without v a b four five six eight = (
     a ∙ sym b,
-    when-x .no-offset (λ e. four (sym a ∙ e)) (λ e. five (sym a ∙ e)) (λ e. six (sym a ∙ e)) ∙ sym (when-y .no-offset (λ e. four (sym b ∙ e)) (λ e. five (sym b ∙ e)) (λ e. six (sym b ∙ e))),
+    when-x .no-offset (λ e. four (sym a ∙ e)) (λ e. five (sym a ∙ e)) (λ e. six (sym a ∙ e)) (λ e. eight (sym a ∙ e))
+        ∙ sym (when-y .no-offset (λ e. four (sym b ∙ e)) (λ e. five (sym b ∙ e)) (λ e. six (sym b ∙ e)) (λ e. eight (sym b ∙ e))),
   )
 
   -- a number that has one
@@ -93,11 +95,11 @@ module _ (R : Runner) (p : Demand1Run ours R) (c : Chip) (m area s out : List �
   with v a b = (a .0 ∙ sym b, a .1)
 
   -- the table has no other number
-  no-other : (v : ℕ) → v ≡ y .refusal → (v ≡ 1 → ⊥) → (v ≡ 13 → ⊥) → (v ≡ 2 → ⊥) → (v ≡ 3 → ⊥) → (v ≡ 5 → ⊥) → (v ≡ 4 → ⊥) → (v ≡ 6 → ⊥) → (v ≡ 0 → ⊥) → (v ≡ 7 → ⊥) → ⊥
-  no-other v is n₁ n₁₃ n₂ n₃ n₅ n₄ n₆ n₀ n₇ =
+  no-other : (v : ℕ) → v ≡ y .refusal → (v ≡ 1 → ⊥) → (v ≡ 13 → ⊥) → (v ≡ 2 → ⊥) → (v ≡ 3 → ⊥) → (v ≡ 5 → ⊥) → (v ≡ 4 → ⊥) → (v ≡ 6 → ⊥) → (v ≡ 8 → ⊥) → (v ≡ 0 → ⊥) → (v ≡ 7 → ⊥) → ⊥
+  no-other v is n₁ n₁₃ n₂ n₃ n₅ n₄ n₆ n₈ n₀ n₇ =
       false≢true
-      (sym (rw (not-so 1 n₁, not-so 13 n₁₃, not-so 2 n₂, not-so 3 n₃, not-so 5 n₅, not-so 4 n₄, not-so 6 n₆, not-so 0 n₀, not-so 7 n₇))
-      ∙ subst (λ (u : ℕ). (eqb 1 u || (eqb 13 u || (eqb 2 u || (eqb 3 u || ((eqb 5 u || (eqb 4 u || (eqb 6 u || eqb 0 u))) || eqb 7 u))))) ≡ true) (sym (is ∙ ScriptLaws.answer-number c m area s out))
+      (sym (rw (not-so 1 n₁, not-so 13 n₁₃, not-so 2 n₂, not-so 3 n₃, not-so 5 n₅, not-so 4 n₄, not-so 6 n₆, not-so 8 n₈, not-so 0 n₀, not-so 7 n₇))
+      ∙ subst (λ (u : ℕ). (eqb 1 u || (eqb 13 u || (eqb 2 u || (eqb 3 u || ((eqb 5 u || (eqb 4 u || (eqb 6 u || (eqb 8 u || eqb 0 u)))) || eqb 7 u))))) ≡ true) (sym (is ∙ ScriptLaws.answer-number c m area s out))
       (run-numbers c (length m) (length area) s (length out)))
     where
       not-so : (u : ℕ) → (v ≡ u → ⊥) → eqb u v ≡ false
@@ -105,16 +107,17 @@ module _ (R : Runner) (p : Demand1Run ours R) (c : Chip) (m area s out : List �
 
   same-refusal : SameRefusal
   same-refusal =
-      at 1 (λ e. without 1 (when-x .one .1 (when-y .one .0 e)) e (λ z. omega arith) (λ z. omega arith) (λ z. omega arith))
-      (λ n₁. at 13 (λ e. without 13 (when-x .thirteen .1 (when-y .thirteen .0 e)) e (λ z. omega arith) (λ z. omega arith) (λ z. omega arith))
-      (λ n₁₃. at 2 (λ e. without 2 (when-x .two .1 (when-y .two .0 e)) e (λ z. omega arith) (λ z. omega arith) (λ z. omega arith))
-      (λ n₂. at 3 (λ e. without 3 (when-x .three .1 (when-y .three .0 e)) e (λ z. omega arith) (λ z. omega arith) (λ z. omega arith))
+      at 1 (λ e. without 1 (when-x .one .1 (when-y .one .0 e)) e (λ z. omega arith) (λ z. omega arith) (λ z. omega arith) (λ z. omega arith))
+      (λ n₁. at 13 (λ e. without 13 (when-x .thirteen .1 (when-y .thirteen .0 e)) e (λ z. omega arith) (λ z. omega arith) (λ z. omega arith) (λ z. omega arith))
+      (λ n₁₃. at 2 (λ e. without 2 (when-x .two .1 (when-y .two .0 e)) e (λ z. omega arith) (λ z. omega arith) (λ z. omega arith) (λ z. omega arith))
+      (λ n₂. at 3 (λ e. without 3 (when-x .three .1 (when-y .three .0 e)) e (λ z. omega arith) (λ z. omega arith) (λ z. omega arith) (λ z. omega arith))
       (λ n₃. at 5 (λ e. with 5 (when-x .five (y .offset) .1 (when-y .five (y .offset) .0 (e, refl))) e)
       (λ n₅. at 4 (λ e. with 4 (when-x .four (y .offset) .1 (when-y .four (y .offset) .0 (e, refl))) e)
       (λ n₄. at 6 (λ e. with 6 (when-x .six (y .offset) .1 (when-y .six (y .offset) .0 (e, refl))) e)
-      (λ n₆. at 0 (λ e. without 0 (when-x .none .1 (when-y .none .0 e)) e (λ z. omega arith) (λ z. omega arith) (λ z. omega arith))
-      (λ n₀. at 7 (λ e. without 7 (when-x .seven .1 (when-y .seven .0 e)) e (λ z. omega arith) (λ z. omega arith) (λ z. omega arith))
-      (λ n₇. absurd (no-other (y .refusal) refl n₁ n₁₃ n₂ n₃ n₅ n₄ n₆ n₀ n₇))))))))))
+      (λ n₆. at 8 (λ e. with 8 (when-x .eight (y .offset) .1 (when-y .eight (y .offset) .0 (e, refl))) e)
+      (λ n₈. at 0 (λ e. without 0 (when-x .none .1 (when-y .none .0 e)) e (λ z. omega arith) (λ z. omega arith) (λ z. omega arith) (λ z. omega arith))
+      (λ n₀. at 7 (λ e. without 7 (when-x .seven .1 (when-y .seven .0 e)) e (λ z. omega arith) (λ z. omega arith) (λ z. omega arith) (λ z. omega arith))
+      (λ n₇. absurd (no-other (y .refusal) refl n₁ n₁₃ n₂ n₃ n₅ n₄ n₆ n₈ n₀ n₇)))))))))))
     where
       at : (v : ℕ) → (y .refusal ≡ v → SameRefusal) → ((y .refusal ≡ v → ⊥) → SameRefusal) → SameRefusal
       at v here there = go (ℕ-discrete (y .refusal) v)

@@ -1,22 +1,29 @@
 -- Ours meets Demand 1: the engine at one event, and the run of a script.
-use Prim.Native.Nat.{ℕ}
+use Prim.Native.Nat.{ℕ, zero, suc, _≤_}
 use mathlib.Core.List.{List, [], _∷_, _++_}
-use mathlib.Core.Path.{_≡_, sym, ap, subst, _∙_}
+use mathlib.Core.Path.{_≡_, refl, sym, ap, subst, _∙_}
 use native.Mathlib.Decide.{ℕ-discrete}
 use native.Mathlib.Omega.{arith}
+use lib.Dec.{leb}
 use lib.ListN.{length, drop}
+use borrow.Author.Tests.{le-leb}
+use Rattle.cells.specs.Choice.{cond-either, and-both}
 use Rattle.part.specs.Part.{settingOf}
 use Rattle.chip.specs.declared.Chip.{Chip}
+use Rattle.kinds.specs.Kinds.{kindRow, kindRowIn, knownKind}
+use Rattle.clock.specs.declared.Clock.{Clock}
+use Rattle.clock.specs.Clock.{unset, movedOn}
+use Rattle.clock.specs.Laws.{moved-most}
 use Rattle.event.specs.Laws as EventLaws
 use Rattle.event.specs.Keeps.{length-applied}
 use Rattle.script.specs.declared.Ran.{Ran}
-use Rattle.script.specs.Script.{Event, Refusal, refusalOf, events}
+use Rattle.script.specs.Script.{Event, Refusal, refusalOf, events, isStamp, clockAfter, ticksGiven, given, timed, played}
 use Rattle.script.specs.Run.{World, world}
 use Rattle.script.specs.Run as Run
 use Rattle.script.specs.Laws as ScriptLaws
 use Rattle.demands.specs.Model.{Reply, replied, ours, event, AllGood, Fit, runsBy}
-use Rattle.demands.specs.Demand1.{RefusedWhen, Demand1, RunReply, ran, ourRun, AllSound, RunRefusedWhen, Demand1Run}
-use Rattle.meets.specs.Refusals.{event-refused-when, event-refused-keeps, run-refused-when, run-refused-keeps}
+use Rattle.demands.specs.Demand1.{RefusedWhen, Demand1, RunReply, ran, ourRun, Sound, AllSound, RunRefusedWhen, Demand1Run}
+use Rattle.meets.specs.Refusals.{known-event, event-refused-when, event-refused-keeps, run-refused-when, run-refused-keeps}
 use Rattle.meets.specs.Ours.{done-as, fit-next, runs-ours}
 
 -- ---- one event
@@ -46,11 +53,30 @@ meets-1 =
 
 -- ---- a script run
 
--- sound events of a script are good
-pub all-good : (s : List ℕ) (es : List Event) → AllSound s es → AllGood es
-unfolding AllSound AllGood
-all-good s [] sound = tt
-all-good s (e ∷ es) sound = ((sound .0 .known, sound .0 .ranged), all-good s es (sound .1))
+-- good events, one row behind the other, are good
+good-append : (es fs : List Event) → AllGood es → AllGood fs → AllGood (es ++ fs)
+unfolding AllGood
+good-append [] fs g h = h
+good-append (e ∷ es) fs g h = (g .0, good-append es fs (g .1) h)
+
+-- the ticks that a stamp gives are a good event, if there are any
+ticks-good : (e : Event) (n : ℕ) → n ≤ 65535 → AllGood (ticksGiven e n)
+unfolding AllGood knownKind kindRow kindRowIn
+ticks-good e zero few = tt
+ticks-good e (suc n) few = ((refl, and-both (leb 1 (suc n)) (leb (suc n) 65535) (le-leb 1 (suc n) (omega arith)) (le-leb (suc n) 65535 few)), tt)
+
+-- what a run applies for a sound event is good
+given-good : (s : List ℕ) (k : Clock) (e : Event) → Sound s k e → AllGood (given k e)
+unfolding AllGood
+given-good s k e sound =
+    cond-either AllGood (isStamp e) _ _ (λ _. ticks-good e (movedOn k (e .body)) (moved-most k (e .body)))
+    (λ no-stamp. ((known-event (e .kind) (sound .known) no-stamp, sound .ranged), tt))
+
+-- what a run applies for sound events of a script is good
+pub all-good : (s : List ℕ) (k : Clock) (es : List Event) → AllSound s k es → AllGood (timed k es)
+unfolding AllSound AllGood timed
+all-good s k [] sound = tt
+all-good s k (e ∷ es) sound = good-append (given k e) (timed (clockAfter k e) es) (given-good s k e (sound .0)) (all-good s (clockAfter k e) es (sound .1))
 
 module _ (c : Chip) (m area s out : List ℕ) where
   abbrev told : Refusal
@@ -67,7 +93,7 @@ module _ (c : Chip) (m area s out : List ℕ) where
   offset-told = go (ℕ-discrete (told .number) 0)
     where
       go : Dec (told .number ≡ 0) → ourRun c m area s out .offset ≡ told .offset
-      go (yes z) = ap (λ (r : Ran). r .offset) (ScriptLaws.answer-done c m area s out z) ∙ sym (when .no-offset (λ e. omega arith) (λ e. omega arith) (λ e. omega arith))
+      go (yes z) = ap (λ (r : Ran). r .offset) (ScriptLaws.answer-done c m area s out z) ∙ sym (when .no-offset (λ e. omega arith) (λ e. omega arith) (λ e. omega arith) (λ e. omega arith))
       go (no refused) = ap (λ (r : Ran). r .offset) (ScriptLaws.answer-refused c m area s out refused)
 
   refused-kept : (ourRun c m area s out .refusal ≡ 0 → ⊥)
@@ -81,14 +107,14 @@ module _ (c : Chip) (m area s out : List ℕ) where
   abbrev done : World → RunReply
   done w = record { chip = w .chip; memory = w .memory; output = w .written ++ drop (length (w .written)) out; refusal = 0; offset = 0; written = length (w .written); ticks = w .ticks }
 
-  done-run : ourRun c m area s out .refusal ≡ 0 → ourRun c m area s out ≡ done (runsBy ours area (events s) (world c m [] 0))
+  done-run : ourRun c m area s out .refusal ≡ 0 → ourRun c m area s out ≡ done (runsBy ours area (played s) (world c m [] 0))
   unfolding Run.worldAfter
   done-run e =
       let ok : told .number ≡ 0 = sym number-told ∙ e in
       let accepted = when .none .0 ok in
       let fit : Fit c m area = record { state-legal = accepted .0 .state-legal; area-short = accepted .0 .area-short } in
       (λ i. ran (ScriptLaws.answer-done c m area s out ok i) (ScriptLaws.memory-done c m area s out ok i) (ScriptLaws.output-done c m area s out ok i))
-      ∙ ap done (sym (runs-ours area (events s) (world c m [] 0) fit (all-good s (events s) (accepted .1))))
+      ∙ ap done (sym (runs-ours area (played s) (world c m [] 0) fit (all-good s unset (events s) (accepted .1))))
 
 -- Our run meets Demand 1, over our model.
 pub meets-1-run : Demand1Run ours ourRun

@@ -16,7 +16,8 @@ use Rattle.chip.specs.declared.JobKind.the-variants.{WriteStatus, Program, Smal
 use Rattle.chip.specs.Fields.{withWen, withSuspended, withWaiting, withDeep, withArmed, withJob, withSelected, withOpcode, withPlace, withCount}
 use Rattle.chip.specs.Chip.{whole, emptyFrame, blankLoad, resting, fresh}
 use Rattle.legal.specs.Legal.{legalJob, legalCore, legalFrame, isEmpty, isBlank, legal}
-use Rattle.kinds.specs.Kinds.{SELECT, EXCHANGE, DESELECT, TICK, WP, knownInScript, kindRowIn, knownKind, kindRow}
+use Rattle.kinds.specs.Kinds.{SELECT, EXCHANGE, DESELECT, TICK, TICKS, WP, POWER, STAMP, knownInScript, kindRowIn, knownKind, kindRow}
+use Rattle.clock.specs.Clock.{unset, movedOn, wentBack}
 use Rattle.frame.specs.Frame.{judge, taken, exchanged}
 use Rattle.verdict.specs.Verdict.{jobOf, commandVerdict, listed, verdict, recordOf}
 use Rattle.verdict.specs.Effect.{instantly, acted, settled, heldAfter}
@@ -24,7 +25,8 @@ use Rattle.event.specs.Event.{applied}
 use Rattle.event.specs.Alone.{refusal}
 use Rattle.script.specs.Run.{world, runs}
 use Rattle.script.specs.Run as Run
-use Rattle.script.specs.Script.{faultAt, eventAt, walk, eventsFrom, events, refusalOf, firstBad, room}
+use Rattle.script.specs.Laws.{NoStamp}
+use Rattle.script.specs.Script.{Event, faultAt, eventAt, walk, eventsFrom, events, timed, played, refusalOf, firstBad, room}
 use Rattle.demands.specs.Demand2.{Rows, stopOf, verdictOf, Quiet, Ready, FreeAt}
 
 -- a frame of that opcode with so many bytes, selected and not judged
@@ -74,12 +76,12 @@ unfolding legal legalCore legalJob legalFrame isEmpty isBlank permitted fresh
 places-met = (refl, refl, refl, refl, refl, refl, refl)
 
 -- `event-refused-when`: each number occurs; a byte count of 7 is in no legal frame
-pub refusals-met : (refusal (fresh 0x00) 65537 0 TICK 0 ≡ 1) × (refusal (fresh 0x00) 65536 257 TICK 0 ≡ 13) × (refusal counted-to-7 65536 0 TICK 0 ≡ 2) × (refusal (fresh 0x00) 65536 0 9 0 ≡ 5) × (refusal (fresh 0x00) 65536 0 EXCHANGE 256 ≡ 6) × (refusal (fresh 0x00) 65536 256 TICK 0 ≡ 0)
+pub refusals-met : (refusal (fresh 0x00) 65537 0 TICK 0 ≡ 1) × (refusal (fresh 0x00) 65536 257 TICK 0 ≡ 13) × (refusal counted-to-7 65536 0 TICK 0 ≡ 2) × (refusal (fresh 0x00) 65536 0 0x0A 0 ≡ 5) × (refusal (fresh 0x00) 65536 0 EXCHANGE 256 ≡ 6) × (refusal (fresh 0x00) 65536 256 TICK 0 ≡ 0)
 unfolding refusal legal legalCore legalJob legalFrame isEmpty isBlank permitted fresh knownKind knownInScript kindRow kindRowIn
 refusals-met = (refl, refl, refl, refl, refl, refl)
 
 -- where several fit, 1 comes before 13, and 13 before 2, 5 and 3 (RULES, Refusals)
-pub thirteen-met : (refusal counted-to-7 65537 257 9 0 ≡ 1) × (refusal counted-to-7 65536 257 9 0 ≡ 13) × (Run.refusal counted-to-7 65537 257 (9 ∷ []) 0 .number ≡ 1) × (Run.refusal counted-to-7 65536 257 (replicate 65537 TICK) 0 .number ≡ 13)
+pub thirteen-met : (refusal counted-to-7 65537 257 0x0A 0 ≡ 1) × (refusal counted-to-7 65536 257 0x0A 0 ≡ 13) × (Run.refusal counted-to-7 65537 257 (0x0A ∷ []) 0 .number ≡ 1) × (Run.refusal counted-to-7 65536 257 (replicate 65537 TICK) 0 .number ≡ 13)
 unfolding refusal Run.refusal legal legalCore legalJob legalFrame isEmpty isBlank permitted fresh
 thirteen-met = (refl, refl, refl, refl)
 
@@ -93,10 +95,10 @@ pub ranges-met : (refuses 0x02 0 ≡ 0) × (refuses 0x02 255 ≡ 0) × (refuses 
 unfolding refusal legal legalCore legalJob legalFrame isEmpty isBlank permitted fresh knownKind knownInScript kindRow kindRowIn
 ranges-met = (refl, refl, refl, refl, refl, refl, refl, refl, refl, refl, refl, refl, refl, refl)
 
--- a kind without a body takes any number for one, and no number beside 1 to 7 is a kind (RULES, Events)
-pub bodiless-met : (body : ℕ) → (refuses 0x01 body ≡ 0) × (refuses 0x04 body ≡ 0) × (refuses 0x07 body ≡ 0) × (refuses 0x00 body ≡ 5) × (refuses 0x08 body ≡ 5) × (refuses 0x09 body ≡ 5) × (refuses 0x103 body ≡ 5)
+-- a kind without a body takes any number for one, and no number beside 1 to 7 is a kind of event, the stamp's neither, which only a script has (RULES, Events)
+pub bodiless-met : (body : ℕ) → (refuses 0x01 body ≡ 0) × (refuses 0x04 body ≡ 0) × (refuses 0x07 body ≡ 0) × (refuses 0x00 body ≡ 5) × (refuses 0x08 body ≡ 5) × (refuses 0x09 body ≡ 5) × (refuses 0x0A body ≡ 5) × (refuses 0x103 body ≡ 5)
 unfolding refusal legal legalCore legalJob legalFrame isEmpty isBlank permitted fresh knownKind knownInScript kindRow kindRowIn
-bodiless-met body = (refl, refl, refl, refl, refl, refl, refl)
+bodiless-met body = (refl, refl, refl, refl, refl, refl, refl, refl)
 
 -- a deselect on the byte boundary, and one with three bits loose
 abbrev clean : List ℕ
@@ -113,18 +115,19 @@ run-refusals-met = (refl, refl, refl, refl, refl, refl)
 
 -- the room of each kind of record: two bytes for an exchange, three for a deselect, whatever its body, though verdict 0 takes two of them (RULES, Records; Refusals)
 pub room-met : (Run.refusal (fresh 0x00) 65536 0 (EXCHANGE ∷ 0x00 ∷ []) 1 .number ≡ 7) × (Run.refusal (fresh 0x00) 65536 0 (EXCHANGE ∷ 0x00 ∷ []) 2 .number ≡ 0) × (Run.refusal (fresh 0x00) 65536 0 loose 2 .number ≡ 7)
-    × (Run.refusal (fresh 0x00) 65536 0 loose 3 .number ≡ 0) × ((m : List ℕ) → runs (setting 1 []) (events clean) (world (fresh 0x00) m [] 0) .written ≡ 0x82 ∷ 0 ∷ [])
-unfolding Run.refusal runs applied firstBad room eventsFrom walk faultAt legal legalCore legalJob legalFrame isEmpty isBlank permitted fresh knownKind knownInScript kindRow kindRowIn
+    × (Run.refusal (fresh 0x00) 65536 0 loose 3 .number ≡ 0) × ((m : List ℕ) → runs (setting 1 []) (played clean) (world (fresh 0x00) m [] 0) .written ≡ 0x82 ∷ 0 ∷ [])
+unfolding Run.refusal runs timed applied firstBad room eventsFrom walk faultAt legal legalCore legalJob legalFrame isEmpty isBlank permitted fresh knownKind knownInScript kindRow kindRowIn
 room-met = (refl, refl, refl, refl, λ m. refl)
 
--- `pieces`, `first-bad-decides`: a script without a bad event, and one for each fault
-pub scripts-met : (firstBad (events (SELECT ∷ EXCHANGE ∷ 0x06 ∷ clean)) .number ≡ 0) × (firstBad (events (TICK ∷ EXCHANGE ∷ [])) .number ≡ 4) × (firstBad (events (TICK ∷ 8 ∷ [])) .number ≡ 5) × (firstBad (events (WP ∷ 2 ∷ [])) .number ≡ 6)
-unfolding firstBad eventsFrom walk faultAt knownKind knownInScript kindRow kindRowIn
-scripts-met = (refl, refl, refl, refl)
+-- `pieces`, `first-bad-decides`: a script without a bad event and without a stamp, and one for each fault
+pub scripts-met : (firstBad unset (events (SELECT ∷ EXCHANGE ∷ 0x06 ∷ clean)) .number ≡ 0) × (firstBad unset (events (TICK ∷ EXCHANGE ∷ [])) .number ≡ 4) × (firstBad unset (events (TICK ∷ 8 ∷ [])) .number ≡ 5) × (firstBad unset (events (WP ∷ 2 ∷ [])) .number ≡ 6)
+    × NoStamp (events (SELECT ∷ EXCHANGE ∷ 0x06 ∷ clean))
+unfolding NoStamp firstBad eventsFrom walk faultAt knownKind knownInScript kindRow kindRowIn
+scripts-met = (refl, refl, refl, refl, (refl, (refl, (refl, tt))))
 
 -- what refuses a script, with its offset
 abbrev Bad : List ℕ → ℕ → ℕ → Type 0
-Bad s number offset = firstBad (events s) ≡ refusalOf number offset
+Bad s number offset = firstBad unset (events s) ≡ refusalOf number offset
 
 -- a deselect in a script: as the last byte 4, with eight bits 6, with seven good; 08h is 5, and as the last byte too; 03h 03h is one deselect; a script from before, without
 -- the bodies, ends inside its last deselect (RULES, Old scripts)
@@ -135,16 +138,16 @@ deselects-met = (refl, refl, refl, refl, refl, refl, refl)
 
 -- a write enable that ends loose is verdict 4, on the boundary 1; a status read is verdict 0 either way (RULES, Verdicts)
 abbrev says : List ℕ → List ℕ → List ℕ
-says s m = runs (setting 1 []) (events s) (world (fresh 0x00) m [] 0) .written
+says s m = runs (setting 1 []) (played s) (world (fresh 0x00) m [] 0) .written
 
 pub loose-met : (m : List ℕ)
     → (says (SELECT ∷ EXCHANGE ∷ 0x06 ∷ loose) m ≡ 0x80 ∷ 0x82 ∷ 4 ∷ []) × (says (SELECT ∷ EXCHANGE ∷ 0x06 ∷ clean) m ≡ 0x80 ∷ 0x82 ∷ 1 ∷ [])
     × (says (SELECT ∷ EXCHANGE ∷ 0x05 ∷ loose) m ≡ 0x80 ∷ 0x82 ∷ 0 ∷ []) × (says (SELECT ∷ EXCHANGE ∷ 0x05 ∷ clean) m ≡ 0x80 ∷ 0x82 ∷ 0 ∷ [])
-unfolding runs applied exchanged taken judge rowOf rowIn fitsRule isRead isProgram verdict recordOf listed commandVerdict jobOf settled acted instantly heldAfter fresh eventsFrom walk faultAt knownKind knownInScript kindRow kindRowIn
+unfolding runs timed applied exchanged taken judge rowOf rowIn fitsRule isRead isProgram verdict recordOf listed commandVerdict jobOf settled acted instantly heldAfter fresh eventsFrom walk faultAt knownKind knownInScript kindRow kindRowIn
 loose-met m = (refl, refl, refl, refl)
 
 -- `room-cut`, `bad-first`: two pieces for which an output has room, one by one, and has none for the whole; a piece that ends in an event, which the next completes
-pub cut-met : (Run.refusal (fresh 0x00) 65536 0 clean 3 .number ≡ 0) × (Run.refusal (fresh 0x00) 65536 0 (clean ++ clean) 3 .number ≡ 7) × (firstBad (events (TICK ∷ EXCHANGE ∷ [])) .number ≡ 4) × (firstBad (events (TICK ∷ EXCHANGE ∷ 0x06 ∷ [])) .number ≡ 0)
+pub cut-met : (Run.refusal (fresh 0x00) 65536 0 clean 3 .number ≡ 0) × (Run.refusal (fresh 0x00) 65536 0 (clean ++ clean) 3 .number ≡ 7) × (firstBad unset (events (TICK ∷ EXCHANGE ∷ [])) .number ≡ 4) × (firstBad unset (events (TICK ∷ EXCHANGE ∷ 0x06 ∷ [])) .number ≡ 0)
 unfolding Run.refusal firstBad room eventsFrom walk faultAt legal legalCore legalJob legalFrame isEmpty isBlank permitted fresh knownKind knownInScript kindRow kindRowIn
 cut-met = (refl, refl, refl, refl)
 
@@ -153,9 +156,48 @@ abbrev each-kind : List ℕ
 each-kind = 0x01 ∷ 0x02 ∷ 0x9F ∷ 0x03 ∷ 0x07 ∷ 0x04 ∷ 0x05 ∷ 0x01 ∷ 0x02 ∷ 0x06 ∷ 0x01 ∷ 0x07 ∷ []
 
 -- nothing is wrong with its seven events; it has an exchange to say, of two bytes, and a deselect, of three (RULES, Refusals)
-pub kinds-met : (firstBad (events each-kind) .number ≡ 0) × (length (events each-kind) ≡ 7) × (room (events each-kind) ≡ 5) × (eventAt each-kind 6 .body ≡ 258)
+pub kinds-met : (firstBad unset (events each-kind) .number ≡ 0) × (length (events each-kind) ≡ 7) × (room (events each-kind) ≡ 5) × (eventAt each-kind 6 .body ≡ 258)
 unfolding firstBad room eventsFrom walk faultAt knownKind knownInScript kindRow kindRowIn
 kinds-met = (refl, refl, refl, refl)
+
+-- ---- stamps (RULES, Stamps)
+
+-- a stamp of these two bytes, and so many ticks at an offset
+abbrev stamp : ℕ → ℕ → List ℕ
+stamp high low = STAMP ∷ high ∷ low ∷ []
+
+abbrev ticked : ℕ → ℕ → Event
+ticked offset n = record { offset = offset; kind = TICKS; body = n; fault = 0 }
+
+-- the first stamp gives no tick, and an equal one neither; FFFEh and then 0003h are five ticks, at the second stamp's offset; from 0 to 7FFFh is the longest way, 32,767 ticks; a
+-- power cut between two stamps does not touch the clock
+abbrev Ticks-given : Type 0
+Ticks-given =
+    Rows
+    ((played (stamp 0x12 0x34) ≡ [])
+    ∷ (played (stamp 0x12 0x34 ++ stamp 0x12 0x34) ≡ [])
+    ∷ (played (stamp 0xFF 0xFE ++ stamp 0x00 0x03) ≡ ticked 3 5 ∷ [])
+    ∷ (played (stamp 0x00 0x00 ++ stamp 0x7F 0xFF) ≡ ticked 3 32767 ∷ [])
+    ∷ (played (stamp 0x00 0x00 ++ (POWER ∷ stamp 0x00 0x05)) ≡ record { offset = 3; kind = POWER; body = 0; fault = 0 } ∷ ticked 4 5 ∷ [])
+    ∷ [])
+
+-- good are a roll-over and a move of 32,767; one of 32,768 is 8, at the offset of the stamp's kind byte, and so is one back by one, also after a power cut; a stamp that the script
+-- ends in is 4, though the part of it that is there would have gone back
+abbrev Stamps-refused : Type 0
+Stamps-refused =
+    Rows
+    (Bad (stamp 0xFF 0xFE ++ stamp 0x00 0x03) 0 0
+    ∷ Bad (stamp 0x00 0x00 ++ stamp 0x7F 0xFF) 0 0
+    ∷ Bad (stamp 0x00 0x00 ++ stamp 0x80 0x00) 8 3
+    ∷ Bad (TICK ∷ (stamp 0x00 0x05 ++ stamp 0x00 0x04)) 8 4
+    ∷ Bad (stamp 0x00 0x05 ++ (POWER ∷ stamp 0x00 0x04)) 8 4
+    ∷ Bad (stamp 0x00 0x05 ++ (STAMP ∷ 0x00 ∷ [])) 4 3
+    ∷ [])
+
+-- alone a stamp is 5, whatever its body is; and in a script it asks for no room
+pub stamps-met : Ticks-given × Stamps-refused × ((body : ℕ) → refuses STAMP body ≡ 5) × (room (events (stamp 0x12 0x34)) ≡ 0)
+unfolding timed movedOn wentBack firstBad room eventsFrom walk faultAt refusal legal legalCore legalJob legalFrame isEmpty isBlank permitted fresh knownKind knownInScript kindRow kindRowIn
+stamps-met = ((refl, (refl, (refl, (refl, (refl, tt))))), (refl, (refl, (refl, (refl, (refl, (refl, tt)))))), λ body. refl, refl)
 
 -- ---- verdicts 1 and 2
 

@@ -18,7 +18,7 @@ use Rattle.chip.specs.Record.{recordBytes}
 use Rattle.legal.specs.Legal.{legal}
 use Rattle.legal.specs.Legality.{chip-facts, LegalCore}
 use Rattle.kinds.specs.Kinds.{kindRow, kindRowIn, knownKind, inRange}
-use Rattle.kinds.specs.Laws.{kind-each}
+use Rattle.kinds.specs.Laws.{kind-each, none-known}
 use Rattle.job.specs.Tick.{worked, ticksLeft}
 use Rattle.job.specs.Laws.{worked-rest, worked-go, worked-over}
 use Rattle.job.specs.Legality.{running-job}
@@ -43,8 +43,8 @@ told o = reply (o .chip) (o .memory) (recordBytes (o .said)) (o .ticks)
 used-same : (T : Setting) (c : Chip) (m : List ℕ) (kind body : ℕ) → knownKind kind ≡ true → applied T c m kind (bodyUsed kind body) ≡ applied T c m kind body
 unfolding applied bodyUsed kindRow kindRowIn
 used-same T c m kind body =
-    kind-each (λ k. knownKind k ≡ true → applied T c m k (bodyUsed k body) ≡ applied T c m k body) (λ _. refl) (λ _. refl) (λ _. refl) (λ _. refl) (λ _. refl) (λ _. refl) (λ _. refl)
-    (λ k none known. absurd (false≢true (sym (none .not-known) ∙ known))) kind
+    kind-each (λ k. knownKind k ≡ true → applied T c m k (bodyUsed k body) ≡ applied T c m k body) (λ _. refl) (λ _. refl) (λ _. refl) (λ _. refl) (λ _. refl) (λ _. refl) (λ _. refl) (λ _. refl)
+    (λ k none known. absurd (false≢true (sym (none-known none) ∙ known))) kind
 
 module _ (c : Chip) (m area : List ℕ) (fit : Fit c m area) (kind body : ℕ) (known : knownKind kind ≡ true) (ranged : inRange kind body ≡ true) where
   abbrev T : Setting

@@ -1,5 +1,5 @@
 -- What can refuse a script that the program runs: one of at most 4,096 bytes, fresh from status 00h, on one sector with an empty area and 12,288 bytes of output
--- (RULES, The program). Only 4, 5 and 6 can.
+-- (RULES, The program). Only 4, 5, 6 and 8 can.
 use Prim.Native.Nat.{ℕ, zero, suc, _+_, _*_, _≤_}
 use mathlib.Core.Bool.{cond, true≢false}
 use mathlib.Core.List.{List, [], _∷_}

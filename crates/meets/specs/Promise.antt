@@ -22,7 +22,8 @@ use Rattle.chip.specs.declared.Chip.{Chip}
 use Rattle.chip.specs.Chip.{whole, emptyFrame, blankLoad}
 use Rattle.legal.specs.Legal.{legal}
 use Rattle.legal.specs.Legality.{chip-facts}
-use Rattle.script.specs.Script.{Event, events, room}
+use Rattle.clock.specs.Clock.{unset}
+use Rattle.script.specs.Script.{Event, events, played, room}
 use Rattle.script.specs.Run.{World, world, runs}
 use Rattle.script.specs.Run as Run
 use Rattle.script.specs.declared.Ran.{Ran}
@@ -325,7 +326,7 @@ module _ (c : Chip) (m area : List ℕ) (A : ℕ) (bs out : List ℕ) (able : Pr
   plays : Plays script (ofPieces (pieces A bs)) × (room (ofPieces (pieces A bs)) ≡ 16 * pagesTouched A (length bs) + 2 * length bs)
   plays = script-plays (length bs) A bs (omega arith) (able .bytes)
 
-  sound : AllSound script (events script)
+  sound : AllSound script unset (events script)
   sound = sound-script script (plays .0 .clean)
 
   asked : roomNeeded (events script) ≡ 16 * pagesTouched A (length bs) + 2 * length bs
@@ -353,7 +354,7 @@ module _ (c : Chip) (m area : List ℕ) (A : ℕ) (bs out : List ℕ) (able : Pr
   answer-is =
       meets-1-run .done-runs c m area script out done
       ∙ ap (λ (w : World). record { chip = w .chip; memory = w .memory; output = w .written ++ drop (length (w .written)) out; refusal = 0; offset = 0; written = length (w .written); ticks = w .ticks })
-      (runs-ours area (events script) (world c m [] 0) (able .ready .quiet .fit) (all-good script (events script) sound) ∙ plays .0 .goes (settingOf (length m) area) (world c m [] 0))
+      (runs-ours area (played script) (world c m [] 0) (able .ready .quiet .fit) (all-good script unset (events script) sound) ∙ plays .0 .goes (settingOf (length m) area) (world c m [] 0))
 
   programmed : Programmed c m A bs out answer
   programmed =

@@ -15,7 +15,8 @@ use Rattle.chip.specs.Chip.{bitsOf}
 use Rattle.legal.specs.Legality.{chip-facts}
 use Rattle.kinds.specs.Kinds.{inRange}
 use Rattle.kinds.specs.Laws.{deselect-range}
-use Rattle.script.specs.Script.{Event, events}
+use Rattle.clock.specs.Clock.{unset}
+use Rattle.script.specs.Script.{Event, events, played}
 use Rattle.script.specs.declared.Ran.{Ran}
 use Rattle.script.specs.Run.{World, world}
 use Rattle.script.specs.Run as Run
@@ -148,7 +149,7 @@ module _ (M : Model) (kept : LegalityKept M) (D : Demand3 M) (area : List ℕ) w
 -- A done run of a script that holds a job's whole life: its own memory, chip and count of working ticks.
 pub whole-life : (M : Model) (R : Runner) → Demand1 M → Demand1Run M R → Demand3 M
     → (c : Chip) (m area s out : List ℕ) → R c m area s out .refusal ≡ 0
-    → (before : List Event) (begins : Event) (life : List Event) → events s ≡ before ++ (begins ∷ life) → HoldsLife M area (world c m [] 0) before begins life
+    → (before : List Event) (begins : Event) (life : List Event) → played s ≡ before ++ (begins ∷ life) → HoldsLife M area (world c m [] 0) before begins life
     → LifeRun (R c m area s out) (runsBy M area before (world c m [] 0)) (onwardBy M area begins (runsBy M area before (world c m [] 0)))
 unfolding runsBy
 whole-life M R D D1 D3 c m area s out done before begins life in-order holds =
@@ -156,8 +157,8 @@ whole-life M R D D1 D3 c m area s out done before begins life in-order holds =
     let kept : LegalityKept M = legality-kept M D in
     let ok = D1 .numbers c m area s out .none .0 done in
     let fit : Fit c m area = record { state-legal = ok .0 .state-legal; area-short = ok .0 .area-short } in
-    let good : AllGood (before ++ (begins ∷ life)) = subst AllGood in-order (all-good s (events s) (ok .1)) in
-    let after : runsBy M area (events s) w ≡ runsBy M area life (onwardBy M area begins (runsBy M area before w)) = ap (λ (es : List Event). runsBy M area es w) in-order ∙ runsBy-add M area before (begins ∷ life) w in
+    let good : AllGood (before ++ (begins ∷ life)) = subst AllGood in-order (all-good s unset (events s) (ok .1)) in
+    let after : runsBy M area (played s) w ≡ runsBy M area life (onwardBy M area begins (runsBy M area before w)) = ap (λ (es : List Event). runsBy M area es w) in-order ∙ runsBy-add M area before (begins ∷ life) w in
     let answer = D1 .done-runs c m area s out done in
     record {
       memory-is = ap (λ (r : RunReply). r .memory) answer ∙ ap (λ (v : World). v .memory) after ∙ life-memory M kept D3 area w fit before begins life good holds;
@@ -169,7 +170,7 @@ whole-life M R D D1 D3 c m area s out done before begins life in-order holds =
 -- A script that `script::run` has done, and that holds a job's whole life: what it answers, and the memory that it leaves.
 pub script-whole-life : (c : Chip) (m area s out : List ℕ) (r : Ran) (m′ out′ : List ℕ)
     → (r ≡ Run.answerOf c m area s out) × (m′ ≡ Run.memoryOf c m area s out) × (out′ ≡ Run.outputOf c m area s out) → r .refusal ≡ 0
-    → (before : List Event) (begins : Event) (life : List Event) → events s ≡ before ++ (begins ∷ life) → HoldsLife ours area (world c m [] 0) before begins life
+    → (before : List Event) (begins : Event) (life : List Event) → played s ≡ before ++ (begins ∷ life) → HoldsLife ours area (world c m [] 0) before begins life
     → LifeRun (ran r m′ out′) (runsBy ours area before (world c m [] 0)) (onwardBy ours area begins (runsBy ours area before (world c m [] 0)))
 script-whole-life c m area s out r m′ out′ contract done before begins life in-order holds =
     let same : ran r m′ out′ ≡ ourRun c m area s out = runner-is-ours c m area s out r m′ out′ contract in

@@ -18,7 +18,7 @@ use Rattle.frame.specs.Frame.{judge, taken, exchanged}
 use Rattle.verdict.specs.Verdict.{jobOf, jobVerdict, commandVerdict, listed, verdict, recordOf}
 use Rattle.verdict.specs.Effect.{instantly, acted, settled, heldAfter}
 use Rattle.event.specs.Event.{applied}
-use Rattle.script.specs.Script.{faultAt, walk, eventsFrom, firstBad, room}
+use Rattle.script.specs.Script.{faultAt, walk, eventsFrom, timed, firstBad, room}
 use Rattle.script.specs.Run.{runs, refusal, worldAfter, memoryOf}
 use Rattle.writer.specs.Writer.{cut, pieces, exchangesOf, scriptOf}
 use Rattle.demands.specs.Demand1.{ourRun}
@@ -79,7 +79,7 @@ pub record WrongWriters : Type 0 where
 
 -- The promise refutes them.
 pub wrong-writers : WrongWriters
-unfolding fresh memoryOf worldAfter refusal legal legalCore legalJob legalFrame isEmpty isBlank permitted knownKind knownInScript kindRow kindRowIn applied exchanged taken judge rowOf rowIn isProgram verdict recordOf listed isRead commandVerdict jobVerdict jobOf fitsRule settled acted heldAfter instantly protectedSectors protectedCount ticksCore tickCore tickLoad ticksLoad tickMemory ticksMemory worked sweep runs firstBad room eventsFrom walk faultAt cut pieces exchangesOf scriptOf butLast tooShort bodiless allAt withAllLeft
+unfolding fresh memoryOf worldAfter refusal legal legalCore legalJob legalFrame isEmpty isBlank permitted knownKind knownInScript kindRow kindRowIn applied exchanged taken judge rowOf rowIn isProgram verdict recordOf listed isRead commandVerdict jobVerdict jobOf fitsRule settled acted heldAfter instantly protectedSectors protectedCount ticksCore tickCore tickLoad ticksLoad tickMemory ticksMemory worked sweep runs timed firstBad room eventsFrom walk faultAt cut pieces exchangesOf scriptOf butLast tooShort bodiless allAt withAllLeft
 wrong-writers =
     record {
       over-the-edge = λ d. absurd (omega (arith, d .programs chip blank [] 0xFF (0 ∷ 0 ∷ []) output two-bytes (omega arith) .cells-and 1 (omega arith)));

@@ -1,6 +1,6 @@
 -- What is true of scripts and runs: a script event by event, its faults, its stamps and its room, and a run in two parts.
 use Prim.Native.Nat.{ℕ, zero, suc, _+_, _<_, _≤_}
-use mathlib.Core.Bool.{Bool, true, false, cond, not, _&&_}
+use mathlib.Core.Bool.{Bool, true, false, cond, not, _&&_, false≢true}
 use mathlib.Core.List.{List, [], _∷_, _++_, append-nil, append-assoc}
 use mathlib.Core.Path.{_≡_, refl, sym, ap, _∙_}
 use native.Mathlib.Nat.{add-zero}
@@ -9,7 +9,7 @@ use native.Mathlib.Decide.{ℕ-discrete}
 use lib.Dec.{eqb, ltb, leb}
 use lib.ListN.{length, getD, take, drop}
 use borrow.Author.Tests.{eq-eqb, ne-eqb, eqb-true, eqb-false, lt-ltb, le-ltb, lt-leb, le-leb, ltb-false}
-use Rattle.cells.specs.Choice.{cond-yes, cond-no, chosen-number}
+use Rattle.cells.specs.Choice.{cond-yes, cond-no, and-right, not-so, chosen-number}
 use Rattle.cells.specs.Put.{Put}
 use Rattle.cells.specs.PutLaws.{put-between}
 use Rattle.part.specs.Part.{permitted, sectorsIn, Setting, setting}
@@ -111,6 +111,44 @@ good-event s at = go (knownInScript (getD s at 0)) (ltb (length s) (nextAt s at)
     go true false false a b d h = absurd (omega arith)
     go true true r a b d h = absurd (omega arith)
     go false l r a b d h = absurd (omega arith)
+
+-- ---- what refuses an event, test by test
+
+module _ (k : Clock) (s : List ℕ) (at : ℕ) where
+  -- a fault as it is written is the fault
+  as-written : (v : ℕ) → (v ≡ 0 → ⊥) → faultAt s at ≡ v → faultBy k (eventAt s at) ≡ v
+  as-written v some e = cond-no (eqb (faultAt s at) 0) _ _ (ne-eqb (faultAt s at) 0 (λ z. some (sym e ∙ z))) ∙ e
+
+  pub fault-five : knownInScript (getD s at 0) ≡ false → faultBy k (eventAt s at) ≡ 5
+  unfolding faultAt
+  fault-five none = as-written 5 (λ z. omega arith) (cond-yes _ _ _ (ap not none))
+
+  module _ (known : knownInScript (getD s at 0) ≡ true) where
+    pub fault-four : length s < nextAt s at → faultBy k (eventAt s at) ≡ 4
+    unfolding faultAt
+    fault-four short = as-written 4 (λ z. omega arith) (cond-no _ _ _ (ap not known) ∙ cond-yes _ _ _ (lt-ltb (length s) (nextAt s at) short))
+
+    module _ (whole : nextAt s at ≤ length s) where
+      pub fault-six : inRange (getD s at 0) (bodyAt s at) ≡ false → faultBy k (eventAt s at) ≡ 6
+      unfolding faultAt
+      fault-six beyond = as-written 6 (λ z. omega arith) (cond-no _ _ _ (ap not known) ∙ cond-no _ _ _ (le-ltb (length s) (nextAt s at) whole) ∙ cond-yes _ _ _ (ap not beyond))
+
+      module _ (ranged : inRange (getD s at 0) (bodyAt s at) ≡ true) where
+        written-well : faultAt s at ≡ 0
+        unfolding faultAt
+        written-well = cond-no _ _ _ (ap not known) ∙ cond-no _ _ _ (le-ltb (length s) (nextAt s at) whole) ∙ cond-no _ _ _ (ap not ranged)
+
+        by-the-clock : (b : Bool) → (isStamp (eventAt s at) && wentBack k (bodyAt s at)) ≡ b → faultBy k (eventAt s at) ≡ cond b 8 0
+        by-the-clock b e = cond-yes (eqb (faultAt s at) 0) _ _ (eq-eqb _ _ written-well) ∙ ap (λ (back : Bool). cond back 8 0) e
+
+        pub fault-eight : getD s at 0 ≡ STAMP → wentBack k (bodyAt s at) ≡ true → faultBy k (eventAt s at) ≡ 8
+        fault-eight stamp back = by-the-clock true (rw (eq-eqb _ _ stamp) back)
+
+        pub fault-none-forward : wentBack k (bodyAt s at) ≡ false → faultBy k (eventAt s at) ≡ 0
+        fault-none-forward forward = by-the-clock false (not-so _ (λ both. false≢true (sym forward ∙ and-right (isStamp (eventAt s at)) (wentBack k (bodyAt s at)) both)))
+
+        pub fault-none-other : (getD s at 0 ≡ STAMP → ⊥) → faultBy k (eventAt s at) ≡ 0
+        fault-none-other other = by-the-clock false (rw (ne-eqb _ _ other))
 
 -- ---- stamps
 

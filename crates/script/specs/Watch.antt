@@ -23,7 +23,7 @@ use Rattle.script.specs.Report.{reportAfter}
 
 -- whether an event is ticks
 abbrev pub ticking : ℕ → Bool
-ticking kind = eqb kind TICKS || (eqb kind TICK || eqb kind STAMP)
+ticking kind = eqb kind TICKS || eqb kind TICK || eqb kind STAMP
 
 -- how many, where the clock stands so; and the clock after an event
 unfoldable pub ticksOf : Clock → ℕ → ℕ → ℕ

@@ -1,3 +1,5 @@
+use mathlib.Core.Path.{sym, ap}
+use Rattle.script.specs.Jobs.{isTwo}
 use borrow.Author.Needs.{needs}
 use Rattle.script.proofs.begins_job.Statement.{statement}
 use Rattle.script.proofs.begins_job.Tie as tie
@@ -38,7 +40,7 @@ returns-3 c = search needs
 
 -- src/lib.rt:223:1
 returns-4 : tie.Need-returns-4
-returns-4 c = search needs
+returns-4 c = ap isTwo (sym (c .before .said .given .1))
 
 -- src/lib.rt:223:1
 returns-5 : tie.Need-returns-5

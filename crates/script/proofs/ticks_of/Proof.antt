@@ -1,3 +1,9 @@
+use mathlib.Core.Path.{sym, _∙_}
+use native.Mathlib.Omega.{arith}
+use borrow.Author.Tests.{eq-eqb, ne-eqb}
+use Rattle.cells.specs.Choice.{cond-yes, cond-no}
+use Rattle.clock.specs.Laws.{moved-most}
+use Rattle.script.specs.Watch.{ticksOf}
 use borrow.Author.Needs.{needs}
 use Rattle.script.proofs.ticks_of.Statement.{statement}
 use Rattle.script.proofs.ticks_of.Tie as tie
@@ -7,7 +13,8 @@ use Rattle.clock.proofs.moved_on.Reads as moved-on-reads
 
 -- src/lib.rt:206:9
 returns : tie.Need-returns
-returns c = search needs
+unfolding ticksOf
+returns c = (sym (cond-yes _ _ _ (eq-eqb _ _ (c .if1 .taken))), search needs)
 
 -- src/lib.rt:209:16
 moved-on-requires : tie.Need-moved-on-requires
@@ -19,11 +26,13 @@ cast-result c = search needs
 
 -- src/lib.rt:209:9
 returns-2 : tie.Need-returns-2
-returns-2 c = search needs
+unfolding ticksOf
+returns-2 c = (c .moved-on .ensures ∙ sym (cond-no _ _ _ (ne-eqb _ _ (c .before .before .if1 .left)) ∙ cond-yes _ _ _ (eq-eqb _ _ (c .before .if2 .taken))), omega (arith, c .moved-on .ensures, moved-most (c .before .before .before .args .clock) (c .before .before .before .args .body)))
 
 -- src/lib.rt:202:1
 returns-3 : tie.Need-returns-3
-returns-3 c = search needs
+unfolding ticksOf
+returns-3 c = (sym (cond-no _ _ _ (ne-eqb _ _ (c .before .if1 .left)) ∙ cond-no _ _ _ (ne-eqb _ _ (c .if2 .left))), omega (arith, c .before .before .fits .body))
 
 pub ticks-of-spec : {M : Type 1} → statement M
 ticks-of-spec = tie.close (tie.spec returns moved-on-requires cast-result returns-2 returns-3)
