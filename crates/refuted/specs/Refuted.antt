@@ -1,9 +1,10 @@
 -- Each wrong model of `Wrong` is refuted by a demand. A demand is asked at one closed moment, and what it says there computes to something false of that model.
-use Prim.Native.Nat.{ℕ, zero, suc, _%_}
-use mathlib.Core.Bool.{true, false, false≢true}
+use Prim.Native.Nat.{ℕ, zero, suc, _%_, _≤_}
+use mathlib.Core.Bool.{true, false, cond, false≢true}
 use mathlib.Core.List.{List, [], _∷_, _++_}
 use mathlib.Core.Path.{_≡_, refl, sym, ap, _∙_}
 use native.Mathlib.Omega.{arith}
+use lib.Dec.{eqb}
 use lib.ListN.{length, getD, replicate}
 use Rattle.cells.specs.Cells.{sweep, image, imageFrom}
 use Rattle.part.specs.Part.{permitted}
@@ -24,15 +25,17 @@ use Rattle.verdict.specs.Verdict.{jobOf, jobVerdict, commandVerdict, listed, ve
 use Rattle.verdict.specs.Effect.{instantly, acted, settled, heldAfter}
 use Rattle.event.specs.Event.{applied}
 use Rattle.event.specs.Alone.{bodyUsed, refusal, happens, answerOf, memoryOf, saidOf}
-use Rattle.script.specs.Script.{Event, faultAt, walk, eventsFrom, firstBad, room}
+use Rattle.clock.specs.declared.Clock.{Clock}
+use Rattle.clock.specs.Clock.{unset, movedOn, wentBack}
+use Rattle.script.specs.Script.{Event, faultAt, eventAt, walk, eventsFrom, events, clockAfter, clockOver, given, timed, faultBy, Refusal, refusalOf, firstBad, room}
 use Rattle.script.specs.Run.{World, world}
 use Rattle.script.specs.Run as Run
 use Rattle.demands.specs.Model.{Model, ours, event, sends, address, AllGood, Fit, runsBy, workedBy}
-use Rattle.demands.specs.Demand1.{Demand1, AllSound, roomNeeded, Demand1Run}
+use Rattle.demands.specs.Demand1.{Demand1, RunReply, ourRun, AllSound, roomNeeded, Heard, BackAt, Demand1Run}
 use Rattle.demands.specs.Moments.{Demand2Gives, Demand2Does, Demand2Begins, Demand2LeavesWen, Demand2Reads, Demand2Loads, Demand2Stops, Demand2Status, Demand3Starts, Demand3At, Demand3End, Demand3Counts, Demand3Keeps, Demand3Reports}
 use Rattle.demands.specs.Demand2.{Ending, Quiet, Ready, AllInside, bytesOf, AllBytes, SaysStatus}
 use Rattle.demands.specs.Demand3.{Spares, AllSpare, one-tick, Spared}
-use Rattle.refuted.specs.Wrong.{ignoresAll, refusesEvents, refusesCommands, readsBlank, ticksIdle, wholeJobAtOnce, inventsTicks, laysFromPageStart, laysFromAddress, storesBytes, nineTenCostWen, spoiltLoads, answersLate, keepsNine, swapsEnds, endsLate, tellsTarget, chipEraseTellsAll, deselects, twoADeselect, suspendsAtOnce, waitUncounted, waitsTwo, showsSusEarly, suspendsTwice, markSurvivesReset, markSurvivesEnd, boundaryIsLoose, takesEight, cutsTheBody, knows08h, bodied, bodyUncounted, firstReads, firstLoads, secondLoads, secondWen, thirdErases, thirdSuspends}
+use Rattle.refuted.specs.Wrong.{ignoresAll, refusesEvents, refusesCommands, readsBlank, ticksIdle, wholeJobAtOnce, inventsTicks, laysFromPageStart, laysFromAddress, storesBytes, nineTenCostWen, spoiltLoads, answersLate, keepsNine, swapsEnds, endsLate, tellsTarget, chipEraseTellsAll, deselects, twoADeselect, suspendsAtOnce, waitUncounted, waitsTwo, showsSusEarly, suspendsTwice, markSurvivesReset, markSurvivesEnd, boundaryIsLoose, takesEight, cutsTheBody, knows08h, bodied, bodyUncounted, answering, firstBadBy, timedBy, clocked, firstStampTicks, clockDiesWithPower, takesHalfWay, neverRollsOver, knows09hAlone, firstReads, firstLoads, secondLoads, secondWen, thirdErases, thirdSuspends}
 
 -- ---- the moments
 
@@ -375,6 +378,99 @@ the-deselect =
       knows-08h = λ d. false≢true (d .numbers (unselected resting) (cells 0) [] 0x08 3 .none .0 refl .3);
       body-uncounted = λ d. absurd (omega (arith, d .numbers (unselected resting) (cells 0) [] (0x03 ∷ []) (0 ∷ 0 ∷ 0 ∷ []) .none .0 refl .1 .0 .whole));
     }
+
+-- ---- wrong stamps
+
+-- Nothing but the clock's rules is changed in them: by its own rules the run is ours.
+pub clocked-is-ours : (c : Chip) (m area s out : List ℕ) → clocked clockAfter wentBack movedOn c m area s out ≡ ourRun c m area s out
+unfolding Run.answerOf Run.memoryOf Run.outputOf Run.refusal Run.worldAfter firstBadBy firstBad timedBy timed
+clocked-is-ours c m area s out = λ i. answering (same-bad unset (events s) i) (same-events unset (events s) i) c m area s out
+  where
+    same-bad : (k : Clock) (es : List Event) → firstBadBy clockAfter wentBack k es ≡ firstBad k es
+    same-bad k [] = refl
+    same-bad k (e ∷ es) = ap (λ (r : Refusal). cond (eqb (faultBy k e) 0) r (refusalOf (faultBy k e) (e .offset))) (same-bad (clockAfter k e) es)
+
+    same-events : (k : Clock) (es : List Event) → timedBy clockAfter movedOn k es ≡ timed k es
+    same-events k [] = refl
+    same-events k (e ∷ es) = ap (λ (rest : List Event). given k e ++ rest) (same-events (clockAfter k e) es)
+
+-- scripts: a stamp of 1; 5, a power cut and 4; 0 and 32,768; 65,534 and 3
+abbrev one-stamp : List ℕ
+one-stamp = 0x09 ∷ 0x00 ∷ 0x01 ∷ []
+
+abbrev cut-between : List ℕ
+cut-between = 0x09 ∷ 0x00 ∷ 0x05 ∷ 0x07 ∷ 0x09 ∷ 0x00 ∷ 0x04 ∷ []
+
+abbrev half-way : List ℕ
+half-way = 0x09 ∷ 0x00 ∷ 0x00 ∷ 0x09 ∷ 0x80 ∷ 0x00 ∷ []
+
+abbrev rolling-over : List ℕ
+rolling-over = 0x09 ∷ 0xFF ∷ 0xFE ∷ 0x09 ∷ 0x00 ∷ 0x03 ∷ []
+
+pub record TheStamps : Type 0 where
+  -- an erase runs, and a first stamp of 1 is a working tick of it
+  pub first-stamp-ticks : Demand1Run ours firstStampTicks → ⊥
+  -- 4 after 5 is not refused by 8, since power was cut between them; nor is 32,768 after 0
+  pub clock-dies-with-power : Demand1Run ours clockDiesWithPower → ⊥
+  pub takes-half-way : Demand1Run ours takesHalfWay → ⊥
+  -- 3 after 65,534 is refused, and not done
+  pub never-rolls-over : Demand1Run ours neverRollsOver → ⊥
+  -- 09h alone is done, and not refused by 5
+  pub knows-09h-alone : Demand1 knows09hAlone → ⊥
+
+-- The demands refute them.
+pub the-stamps : TheStamps
+unfolding answerOf refusal legal legalCore legalJob legalFrame isEmpty isBlank permitted knownKind knownInScript kindRow kindRowIn applied ticksCore worked AllSound roomNeeded runsBy movedOn wentBack clockOver firstBadBy timed timedBy Run.runs room eventsFrom walk faultAt
+the-stamps =
+    record {
+      first-stamp-ticks = λ d. absurd (omega (arith, ap (λ (r : RunReply). r .ticks) (d .done-runs (unselected (erasing 0)) (cells 0) [] one-stamp [] refl)));
+      clock-dies-with-power = λ d. absurd (omega (arith, d .numbers (unselected resting) (cells 0) [] cut-between [] .eight 4 .1 (heard cut-between (omega arith), went-back-after-cut) .0));
+      takes-half-way = λ d. absurd (omega (arith, d .numbers (unselected resting) (cells 0) [] half-way [] .eight 3 .1 (heard half-way (omega arith), went-half-way) .0));
+      never-rolls-over = λ d. absurd (omega (arith, d .numbers (unselected resting) (cells 0) [] rolling-over [] .none .1 (heard rolling-over (omega arith), all-sound, omega arith)));
+      knows-09h-alone = λ d. absurd (omega (arith, d .numbers (unselected resting) (cells 0) [] 0x09 0 .five .1 (refl, omega arith, refl, refl)));
+    }
+  where
+    heard : (s : List ℕ) → length s ≤ 65536 → Heard (unselected resting) (length (cells 0)) 0 s
+    heard s short = record { length-permitted = refl; area-short = omega arith; state-legal = refl; script-short = short }
+
+    went-back-after-cut : BackAt cut-between 4
+    went-back-after-cut =
+        record {
+          first = record {
+            before = eventAt cut-between 0 ∷ eventAt cut-between 3 ∷ [];
+            behind = [];
+            in-order = refl;
+            before-sound = (
+              record { known = refl; whole = omega arith; ranged = refl; forward = λ _. refl },
+              (record { known = refl; whole = omega arith; ranged = refl; forward = λ e. absurd (omega (arith, e)) }, tt),
+            );
+          };
+          stamp = refl;
+          whole = omega arith;
+          ranged = omega arith;
+          back = refl;
+        }
+
+    went-half-way : BackAt half-way 3
+    went-half-way =
+        record {
+          first = record {
+            before = eventAt half-way 0 ∷ [];
+            behind = [];
+            in-order = refl;
+            before-sound = (record { known = refl; whole = omega arith; ranged = refl; forward = λ _. refl }, tt);
+          };
+          stamp = refl;
+          whole = omega arith;
+          ranged = omega arith;
+          back = refl;
+        }
+
+    all-sound : AllSound rolling-over unset (events rolling-over)
+    all-sound = (
+        record { known = refl; whole = omega arith; ranged = refl; forward = λ _. refl },
+        (record { known = refl; whole = omega arith; ranged = refl; forward = λ _. refl }, tt),
+    )
 
 -- ---- our three earlier versions
 

@@ -3,9 +3,10 @@ use Prim.Native.Nat.{ℕ, zero, suc, _+_, _*_, _/_, _%_, _-_, min}
 use mathlib.Core.Bool.{Bool, true, false, cond, not, _&&_, _||_}
 use mathlib.Core.List.{List, [], _∷_, _++_}
 use lib.Dec.{eqb, ltb, leb}
-use lib.ListN.{length, getD, take, replicate}
+use lib.ListN.{length, getD, take, drop, replicate}
 use Rattle.cells.specs.Cells.{Rule, sweep, later}
-use Rattle.part.specs.Part.{sectorsIn}
+use Rattle.part.specs.Part.{permitted, settingOf, sectorsIn}
+use Rattle.part.specs.Area.{longestArea}
 use Rattle.kinds.specs.Kinds.{bodyLength}
 use Rattle.chip.specs.declared.Chip.{Chip}
 use Rattle.chip.specs.declared.Core.{Core}
@@ -15,11 +16,14 @@ use Rattle.chip.specs.declared.JobKind.the-variants.{Idle, WriteStatus, Program
 use Rattle.chip.specs.Fields.{withWen, withSuspended, withWaiting, withArmed, withJudgement}
 use Rattle.chip.specs.Chip.{whole, running}
 use Rattle.chip.specs.Job.{isJob, total}
+use Rattle.legal.specs.Legal.{legal}
+use Rattle.clock.specs.declared.Clock.{Clock}
+use Rattle.clock.specs.Clock.{unset, movedOn, wentBack}
 use Rattle.script.specs.declared.Ran.{Ran}
-use Rattle.script.specs.Script.{Event, events}
-use Rattle.script.specs.Run.{answerOf, memoryOf, outputOf}
-use Rattle.demands.specs.Model.{Reply, Model, ours}
-use Rattle.demands.specs.Demand1.{Runner, ourRun}
+use Rattle.script.specs.Script.{Event, events, isStamp, clockAfter, ticksGiven, Refusal, refusalOf, room}
+use Rattle.script.specs.Run.{World, world, runs, refused, done, answerOf, memoryOf, outputOf}
+use Rattle.demands.specs.Model.{Reply, Model, reply, ours}
+use Rattle.demands.specs.Demand1.{Runner, ran, ourRun}
 
 -- ---- how a model is changed
 
@@ -314,6 +318,59 @@ bodied (suc n) (b ∷ s) = b ∷ bodied n s
 
 abbrev pub bodyUncounted : Runner
 bodyUncounted c m area s out = ourRun c m area (bodied 0 s) out
+
+-- ---- wrong stamps
+
+-- a run as ours, but for its first bad event and for the events that it applies
+abbrev pub answering : Refusal → List Event → Runner
+answering bad es c m area s out =
+    let r : Refusal =
+        cond (not (permitted (length m))) (refusalOf 1 0)
+        (cond (ltb longestArea (length area)) (refusalOf 13 0)
+        (cond (not (legal c (length m))) (refusalOf 2 0)
+        (cond (ltb 65536 (length s)) (refusalOf 3 0)
+        (cond (not (eqb (bad .number) 0)) bad
+        (cond (ltb (length out) (room (events s))) (refusalOf 7 0) (refusalOf 0 0)))))) in
+    let w : World = runs (settingOf (length m) area) es (world c m [] 0) in
+    ran (cond (eqb (r .number) 0) (done w) (refused c r)) (cond (eqb (r .number) 0) (w .memory) m)
+    (cond (eqb (r .number) 0) (w .written ++ drop (length (w .written)) out) out)
+
+-- the first bad event and the events applied, as ours has them, where the clock has rules of its own: where an event leaves it, whether a stamp went back, and the ticks that it gives
+unfoldable pub firstBadBy : (Clock → Event → Clock) → (Clock → ℕ → Bool) → Clock → List Event → Refusal
+firstBadBy leaves back k [] = refusalOf 0 0
+firstBadBy leaves back k (e ∷ es) =
+    let fault : ℕ = cond (eqb (e .fault) 0) (cond (isStamp e && back k (e .body)) 8 0) (e .fault) in
+    cond (eqb fault 0) (firstBadBy leaves back (leaves k e) es) (refusalOf fault (e .offset))
+
+unfoldable pub timedBy : (Clock → Event → Clock) → (Clock → ℕ → ℕ) → Clock → List Event → List Event
+timedBy leaves gives k [] = []
+timedBy leaves gives k (e ∷ es) = cond (isStamp e) (ticksGiven e (gives k (e .body))) (e ∷ []) ++ timedBy leaves gives (leaves k e) es
+
+-- a run by such a clock, not set at its start; by `clockAfter`, `wentBack` and `movedOn` it is ours
+abbrev pub clocked : (Clock → Event → Clock) → (Clock → ℕ → Bool) → (Clock → ℕ → ℕ) → Runner
+clocked leaves back gives c m area s out = answering (firstBadBy leaves back unset (events s)) (timedBy leaves gives unset (events s)) c m area s out
+
+-- the first stamp of a run gives as many ticks as it shows
+abbrev pub firstStampTicks : Runner
+firstStampTicks = clocked clockAfter wentBack (λ k stamp. cond (k .set) (movedOn k stamp) stamp)
+
+-- a power cut clears the clock
+abbrev pub clockDiesWithPower : Runner
+clockDiesWithPower = clocked (λ k e. cond (eqb (e .kind) 0x07) unset (clockAfter k e)) wentBack movedOn
+
+-- a move of 32,768 is accepted
+abbrev pub takesHalfWay : Runner
+takesHalfWay = clocked clockAfter (λ k stamp. ltb 32768 (movedOn k stamp)) movedOn
+
+-- a stamp below the last one went back, however little the counter moved on
+abbrev pub neverRollsOver : Runner
+neverRollsOver = clocked clockAfter (λ k stamp. wentBack k stamp || k .set && ltb stamp (k .stamp)) movedOn
+
+-- a stamp alone is an event too: it does nothing
+abbrev pub knows09hAlone : Model
+knows09hAlone c m area kind body =
+    let r : Reply = ours c m area kind body in
+    cond (eqb (r .refusal) 5 && eqb kind 0x09 && leb body 65535) (reply c m [] 0) r
 
 -- ---- our three earlier versions
 

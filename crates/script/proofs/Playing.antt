@@ -1,15 +1,19 @@
--- The invariant of `play`: what is left of the script, run from here, comes to what the whole script comes to; and one turn of it.
+-- The invariant of `play`: what is left of the script, run from here, comes to what the whole script comes to, and the jobs told from here on to the whole report;
+-- and one turn of it.
 use Prim.Native.Nat.{ℕ, _+_, _*_, _<_, _≤_}
 use mathlib.Core.List.{List, [], _++_}
-use mathlib.Core.Bool.{false}
+use mathlib.Core.Bool.{true, false, false≢true}
 use mathlib.Core.Path.{_≡_, refl, sym, ap, subst, _∙_}
 use native.Mathlib.Nat.{add-zero}
 use native.Mathlib.Omega.{arith}
-use lib.ListN.{length, getD, take, drop, take-append-drop}
+use lib.Dec.{eqb}
+use lib.ListN.{length, getD, take, drop, replicate, take-append-drop}
 use lib.Seq.{drop-drop, length-take-le}
 use Rattle.part.specs.Part.{Setting}
-use Rattle.kinds.specs.Kinds.{EXCHANGE, TICKS, roomOf}
+use Rattle.kinds.specs.Kinds.{EXCHANGE, STAMP, roomOf, saysOf, kindRow, kindRowIn}
 use Rattle.kinds.specs.Body.{nextAt, bodyAt}
+use Rattle.clock.specs.declared.Clock.{Clock}
+use Rattle.clock.specs.Clock.{unset}
 use Rattle.chip.specs.declared.Chip.{Chip}
 use Rattle.chip.specs.declared.Core.{Core}
 use Rattle.chip.specs.declared.Frame.{Frame}
@@ -17,28 +21,37 @@ use Rattle.chip.specs.declared.Record.{Record}
 use Rattle.chip.specs.declared.Record.the-variants.{Nothing}
 use Rattle.chip.specs.Chip.{whole, running}
 use Rattle.chip.specs.Record.{recordBytes}
-use Rattle.job.specs.Tick.{TicksAnswer}
+use Rattle.margins.specs.declared.Allowances.{Allowances}
+use Rattle.margins.specs.declared.Report.{Report}
+use Rattle.job.specs.Tick.{TicksAnswer, worked}
 use Rattle.job.specs.Laws.{answer-rests}
 use Rattle.frame.specs.Frame.{exchange, exchanged}
-use Rattle.event.specs.Event.{Outcome, outcome, settleExchange, applied}
-use Rattle.event.specs.Laws.{applied-exchange, applied-ticks, said-room}
-use Rattle.script.specs.Script.{Refusal, events, eventsFrom, firstBad, room}
-use Rattle.script.specs.Run.{World, world, after, runs, Stored, Playable, Played, finished, done}
-use Rattle.script.specs.Laws.{exchange-body, exchange-next, no-fault, good-event, Good, firstBad-later, room-more, stored-none, runs-more, runs-none}
+use Rattle.event.specs.Event.{Outcome, outcome, settleExchange, applied, tick, sortOf}
+use Rattle.event.specs.Laws.{applied-exchange, says-its-kind, said-room}
+use Rattle.script.specs.declared.Watch.{Watch}
+use Rattle.script.specs.Script.{Event, eventAt, events, eventsFrom, played, timed, clockAfter, isStamp, firstBad, room}
+use Rattle.script.specs.Run.{World, world, after, onward, runs, Stored, Playable, Played, finished, done}
+use Rattle.script.specs.Jobs.{Finished, Followed, nothing, follows, jobs, jobsOf, tickByTick, oneTick, isTwo}
+use Rattle.script.specs.Report.{reportAfter}
+use Rattle.script.specs.Watch.{ticking, ticksOf, clockBy, watch, afterEvent, afterTicks, Reports}
+use Rattle.script.specs.Laws.{exchange-body, exchange-next, exchange-clock, no-fault, clean-later, clean-event, good-event, Good, room-more, stored-none, timed-none, runs-more, runs-none, clock-stays}
+use Rattle.script.specs.WatchLaws.{clock-as, ticks-few, runs-ticking, jobs-ticking, jobs-plain, NotTicking, not-ticking, watch-ticks, watch-event, watch-stays, line-not-two, event-modest, ticks-modest, unwatched-ticks, Watches, Keeps, isOn}
 
-pub record Playing (T : Setting) (s : List ℕ) (c₀ : Chip) (m₀ out₀ : List ℕ) (c : Chip) (m out : List ℕ) (at pos ticks : ℕ) : Type 0 where
-  pub same : runs T (events s) (world c₀ m₀ [] 0) ≡ runs T (eventsFrom s at) (world c m (take pos out) ticks)
+-- ---- the run
+
+pub record Playing (T : Setting) (s : List ℕ) (c₀ : Chip) (m₀ out₀ : List ℕ) (c : Chip) (m out : List ℕ) (k : Clock) (at pos ticks : ℕ) : Type 0 where
+  pub same : runs T (played s) (world c₀ m₀ [] 0) ≡ runs T (timed k (eventsFrom s at)) (world c m (take pos out) ticks)
   pub rest : drop pos out ≡ drop pos out₀
   pub fits : pos + room (eventsFrom s at) ≤ length out
   pub memory : length m ≡ length m₀
   pub output : length out ≡ length out₀
-  pub clean : firstBad (eventsFrom s at) .number ≡ 0
+  pub clean : firstBad k (eventsFrom s at) .number ≡ 0
   pub inside : at ≤ length s
   pub short : length s ≤ 65536
   pub few : ticks ≤ at * 4294967296
 
 -- before the first event
-pub starts : (T : Setting) (s : List ℕ) (c : Chip) (m out : List ℕ) → Playable s (length out) → Playing T s c m out c m out 0 0 0
+pub starts : (T : Setting) (s : List ℕ) (c : Chip) (m out : List ℕ) → Playable s (length out) → Playing T s c m out c m out unset 0 0 0
 starts T s c m out p =
     record {
       same = refl;
@@ -52,48 +65,57 @@ starts T s c m out p =
       few = omega arith;
     }
 
-module _ {T : Setting} {s : List ℕ} {c₀ : Chip} {m₀ out₀ : List ℕ} {c : Chip} {m out : List ℕ} {at pos ticks : ℕ} (i : Playing T s c₀ m₀ out₀ c m out at pos ticks) where
+module _ {T : Setting} {s : List ℕ} {c₀ : Chip} {m₀ out₀ : List ℕ} {c : Chip} {m out : List ℕ} {k : Clock} {at pos ticks : ℕ} (i : Playing T s c₀ m₀ out₀ c m out k at pos ticks) where
+  abbrev here : World
+  here = world c m (take pos out) ticks
+
   module _ (more : at < length s) where
     -- the event at hand has no fault
     pub good : Good s at
-    good = good-event s at (no-fault s at more (i .clean))
+    good = good-event s at (clean-event k (eventAt s at) (no-fault k s at more (i .clean)) .as-written)
 
-    -- and its record finds room
-    pub finds-room : (o : Outcome) → o ≡ applied T c m (getD s at 0) (bodyAt s at) → pos + length (recordBytes (o .said)) ≤ length out
-    finds-room o e =
-        let r : length (recordBytes (applied T c m (getD s at 0) (bodyAt s at) .said)) ≤ roomOf (getD s at 0) = said-room T c m (getD s at 0) (bodyAt s at) in
-        let q : length (recordBytes (o .said)) ≡ length (recordBytes (applied T c m (getD s at 0) (bodyAt s at) .said)) = ap (λ (x : Outcome). length (recordBytes (x .said))) e in
-        omega (arith, i .fits, room-more s at more)
-
-    -- one event more
-    pub turns : (o : Outcome) (pos′ : ℕ) (out′ : List ℕ) → o ≡ applied T c m (getD s at 0) (bodyAt s at) → Stored out pos (o .said) pos′ out′ → o .ticks < 4294967296
-        → length (o .memory) ≡ length m → length out′ ≡ length out → Playing T s c₀ m₀ out₀ (o .chip) (o .memory) out′ (nextAt s at) pos′ (ticks + o .ticks)
-    turns o pos′ out′ e st t lm lo =
+    -- one event more, which comes to an outcome whose record finds room
+    turned : (o : Outcome) (k′ : Clock) (pos′ : ℕ) (out′ : List ℕ) → k′ ≡ clockAfter k (eventAt s at)
+        → runs T (timed k (eventsFrom s at)) here ≡ runs T (timed k′ (eventsFrom s (nextAt s at))) (after here o)
+        → length (recordBytes (o .said)) ≤ roomOf (getD s at 0) → Stored out pos (o .said) pos′ out′ → o .ticks < 4294967296
+        → length (o .memory) ≡ length m → length out′ ≡ length out → Playing T s c₀ m₀ out₀ (o .chip) (o .memory) out′ k′ (nextAt s at) pos′ (ticks + o .ticks)
+    turned o k′ pos′ out′ clock e r st t lm lo =
         record {
-          same =
-              i .same
-              ∙ runs-more T s at (world c m (take pos out) ticks) more
-              ∙ ap (λ (x : Outcome). runs T (eventsFrom s (nextAt s at)) (after (world c m (take pos out) ticks) x)) (sym e)
-              ∙ ap (λ (w : List ℕ). runs T (eventsFrom s (nextAt s at)) (world (o .chip) (o .memory) w (ticks + o .ticks))) (sym (st .before));
+          same = i .same ∙ e ∙ ap (λ (w : List ℕ). runs T (timed k′ (eventsFrom s (nextAt s at))) (world (o .chip) (o .memory) w (ticks + o .ticks))) (sym (st .before));
           rest =
-              let k : ℕ = length (recordBytes (o .said)) in
+              let n : ℕ = length (recordBytes (o .said)) in
               st .beyond
               ∙ ap (λ (q : ℕ). drop q out) (st .end)
-              ∙ sym (drop-drop k pos out)
-              ∙ ap (drop k) (i .rest)
-              ∙ drop-drop k pos out₀
+              ∙ sym (drop-drop n pos out)
+              ∙ ap (drop n) (i .rest)
+              ∙ drop-drop n pos out₀
               ∙ ap (λ (q : ℕ). drop q out₀) (sym (st .end));
-          fits =
-              let r : length (recordBytes (applied T c m (getD s at 0) (bodyAt s at) .said)) ≤ roomOf (getD s at 0) = said-room T c m (getD s at 0) (bodyAt s at) in
-              let q : length (recordBytes (o .said)) ≡ length (recordBytes (applied T c m (getD s at 0) (bodyAt s at) .said)) = ap (λ (x : Outcome). length (recordBytes (x .said))) e in
-              omega (arith, i .fits, room-more s at more, st .end);
+          fits = omega (arith, i .fits, room-more s at more, st .end);
           memory = lm ∙ i .memory;
           output = lo ∙ i .output;
-          clean = ap (λ (r : Refusal). r .number) (sym (firstBad-later s at more (no-fault s at more (i .clean)))) ∙ i .clean;
+          clean = ap (λ (q : Clock). firstBad q (eventsFrom s (nextAt s at)) .number) clock ∙ clean-later k s at more (i .clean);
           inside = good .inside;
           short = i .short;
           few = omega (arith, i .few, t);
         }
+
+    -- the record of an event as it is written finds room
+    record-room : (o : Outcome) → o ≡ applied T c m (getD s at 0) (bodyAt s at) → length (recordBytes (o .said)) ≤ roomOf (getD s at 0)
+    record-room o e =
+        let r : length (recordBytes (applied T c m (getD s at 0) (bodyAt s at) .said)) ≤ roomOf (getD s at 0) = said-room T c m (getD s at 0) (bodyAt s at) in
+        let q : length (recordBytes (o .said)) ≡ length (recordBytes (applied T c m (getD s at 0) (bodyAt s at) .said)) = ap (λ (x : Outcome). length (recordBytes (x .said))) e in
+        omega arith
+
+    pub finds-room : (o : Outcome) → o ≡ applied T c m (getD s at 0) (bodyAt s at) → pos + length (recordBytes (o .said)) ≤ length out
+    finds-room o e = omega (arith, i .fits, room-more s at more, record-room o e)
+
+    -- one event more that is no stamp
+    pub turns : isStamp (eventAt s at) ≡ false → (o : Outcome) (pos′ : ℕ) (out′ : List ℕ) → o ≡ applied T c m (getD s at 0) (bodyAt s at) → Stored out pos (o .said) pos′ out′
+        → o .ticks < 4294967296 → length (o .memory) ≡ length m → length out′ ≡ length out → Playing T s c₀ m₀ out₀ (o .chip) (o .memory) out′ k (nextAt s at) pos′ (ticks + o .ticks)
+    turns no-stamp o pos′ out′ e st t lm lo =
+        turned o k pos′ out′ (sym (clock-stays k (eventAt s at) no-stamp))
+        (runs-more T k s at here more no-stamp ∙ ap (λ (x : Outcome). runs T (timed k (eventsFrom s (nextAt s at))) (after here x)) (sym e))
+        (record-room o e) st t lm lo
 
     -- an exchange stands whole in the script
     pub exchange-inside : getD s at 0 ≡ EXCHANGE → at + 2 ≤ length s
@@ -105,7 +127,7 @@ module _ {T : Setting} {s : List ℕ} {c₀ : Chip} {m₀ out₀ : List ℕ} {c 
       abbrev heard : Outcome
       heard = settleExchange c m (exchange said f′ load′)
 
-      heard-is : heard ≡ applied T c m (getD s at 0) (bodyAt s at)
+      pub heard-is : heard ≡ applied T c m (getD s at 0) (bodyAt s at)
       heard-is =
           ap (settleExchange c m) e
           ∙ sym (applied-exchange T c m (getD s at 0) (getD s (at + 1) 0) is-exchange byte)
@@ -115,29 +137,40 @@ module _ {T : Setting} {s : List ℕ} {c₀ : Chip} {m₀ out₀ : List ℕ} {c 
       exchange-finds-room = finds-room heard heard-is
 
       pub exchange-turns : (pos′ : ℕ) (out′ : List ℕ) → Stored out pos said pos′ out′ → length out′ ≡ length out
-          → Playing T s c₀ m₀ out₀ (whole (c .core) f′ load′ (c .held)) m out′ (at + 2) pos′ ticks
+          → Playing T s c₀ m₀ out₀ (whole (c .core) f′ load′ (c .held)) m out′ k (at + 2) pos′ ticks
       exchange-turns pos′ out′ st lo =
-          let p : Playing T s c₀ m₀ out₀ (heard .chip) m out′ (nextAt s at) pos′ (ticks + 0) = turns heard pos′ out′ heard-is st (omega arith) refl lo in
+          let p : Playing T s c₀ m₀ out₀ (heard .chip) m out′ k (nextAt s at) pos′ (ticks + 0) = turns (ap (λ (kind : ℕ). eqb kind STAMP) is-exchange) heard pos′ out′ heard-is st (omega arith) refl lo in
           rw (exchange-next s at is-exchange, add-zero ticks) at p
 
     -- the same of ticks, which say nothing and ask nothing of the frame
-    pub ticks-turn : getD s at 0 ≡ TICKS → (n : ℕ) → n ≡ bodyAt s at → (k′ : Core) (w : ℕ) (held′ m′ : List ℕ) → TicksAnswer (T .sectors) n (c .core) (c .held) m k′ w held′ m′
-        → w < 4294967296 → length m′ ≡ length m → Playing T s c₀ m₀ out₀ (whole k′ (c .frame) (c .load) held′) m′ out (nextAt s at) pos (ticks + w)
-    ticks-turn is-ticks n body k′ w held′ m′ a few kept =
-        turns (outcome k′ (c .frame) (c .load) held′ m′ Nothing w) pos out
-        ((λ i. outcome (a .core i) (c .frame) (c .load) (a .load i) (a .memory i) Nothing (a .working i)) ∙ sym (applied-ticks T c m (getD s at 0) n is-ticks) ∙ ap (applied T c m (getD s at 0)) body)
-        (stored-none out pos Nothing refl) few kept refl
+    module _ (is-ticking : ticking (getD s at 0) ≡ true) (body : ℕ) (is-body : body ≡ bodyAt s at) (n : ℕ) (is : n ≡ ticksOf k (getD s at 0) body) (k′ : Clock) (is-clock : k′ ≡ clockBy k (getD s at 0) body) where
+      number : n ≡ ticksOf k (getD s at 0) (bodyAt s at)
+      number = is ∙ ap (ticksOf k (getD s at 0)) is-body
 
-    -- where no job runs they change nothing, and none of them works
-    pub idle-turn : getD s at 0 ≡ TICKS → running (c .core) ≡ false → Playing T s c₀ m₀ out₀ c m out (nextAt s at) pos ticks
-    idle-turn is-ticks rests =
-        subst (λ (t : ℕ). Playing T s c₀ m₀ out₀ c m out (nextAt s at) pos t) (add-zero ticks)
-        (ticks-turn is-ticks (bodyAt s at) refl (c .core) 0 (c .held) m (answer-rests (T .sectors) (bodyAt s at) (c .core) (c .held) m rests) (omega arith) refl)
+      clock : k′ ≡ clockAfter k (eventAt s at)
+      clock = is-clock ∙ ap (clockBy k (getD s at 0)) is-body ∙ clock-as k s at
+
+      pub ticks-turn : (q : Core) (w : ℕ) (held′ m′ : List ℕ) → TicksAnswer (T .sectors) n (c .core) (c .held) m q w held′ m′
+          → w < 4294967296 → length m′ ≡ length m → Playing T s c₀ m₀ out₀ (whole q (c .frame) (c .load) held′) m′ out k′ (nextAt s at) pos (ticks + w)
+      ticks-turn q w held′ m′ a few kept =
+          let o : Outcome = outcome q (c .frame) (c .load) held′ m′ Nothing w in
+          let does : o ≡ tick T c m n = (λ j. outcome (a .core j) (c .frame) (c .load) (a .load j) (a .memory j) Nothing (a .working j)) in
+          turned o k′ pos out clock
+          (runs-ticking T k s at here more is-ticking
+          ∙ (λ j. runs T (timed (sym clock j) (eventsFrom s (nextAt s at))) (after here (tick T c m (sym number j))))
+          ∙ ap (λ (x : Outcome). runs T (timed k′ (eventsFrom s (nextAt s at))) (after here x)) (sym does))
+          (omega arith) (stored-none out pos Nothing refl) few kept refl
+
+      -- where no job runs they change nothing, and none of them works
+      pub idle-turn : running (c .core) ≡ false → Playing T s c₀ m₀ out₀ c m out k′ (nextAt s at) pos ticks
+      idle-turn rests =
+          subst (λ (t : ℕ). Playing T s c₀ m₀ out₀ c m out k′ (nextAt s at) pos t) (add-zero ticks)
+          (ticks-turn (c .core) 0 (c .held) m (answer-rests (T .sectors) n (c .core) (c .held) m rests) (omega arith) refl)
 
   -- after the last event
   pub ends : length s ≤ at → Played T c₀ m₀ s out₀ (finished c pos ticks) m out
   ends over =
-      let w : runs T (events s) (world c₀ m₀ [] 0) ≡ world c m (take pos out) ticks = i .same ∙ runs-none T s at (world c m (take pos out) ticks) over in
+      let w : runs T (played s) (world c₀ m₀ [] 0) ≡ here = i .same ∙ runs-none T k s at here over in
       let l : length (take pos out) ≡ pos = length-take-le pos out (omega (arith, i .fits)) in
       record {
         answer = ap (λ (n : ℕ). finished c n ticks) (sym l) ∙ ap done (sym w);
@@ -147,3 +180,105 @@ module _ {T : Setting} {s : List ℕ} {c₀ : Chip} {m₀ out₀ : List ℕ} {c 
             ∙ ap (λ (d : List ℕ). take pos out ++ d) (i .rest ∙ ap (λ (n : ℕ). drop n out₀) (sym l))
             ∙ ap (λ (x : World). x .written ++ drop (length (x .written)) out₀) (sym w);
       }
+
+-- ---- the report
+
+pub record Watching (T : Setting) (a : Allowances) (s : List ℕ) (c₀ : Chip) (m₀ : List ℕ) (r₀ : Report) (c : Chip) (m : List ℕ) (k : Clock) (at : ℕ) (w : Watch) : Type 0 where
+  pub watches : Watches T a w (jobsOf T s c₀ m₀) (tickByTick (timed k (eventsFrom s at))) c m r₀
+  pub modest : w .used ≤ 21845 * at
+
+-- before the first event nothing is followed
+pub watch-starts : (T : Setting) (a : Allowances) (s : List ℕ) (c : Chip) (m : List ℕ) (r : Report) → Watching T a s c m r c m unset 0 (watch false 0 r)
+watch-starts T a s c m r =
+    record {
+      watches = record { followed = nothing; keeps = record { same-on = refl; same-used = refl; there = λ h. absurd (false≢true h) }; comes-to = refl };
+      modest = omega arith;
+    }
+
+module _ {T : Setting} {a : Allowances} {s : List ℕ} {c₀ : Chip} {m₀ : List ℕ} {r₀ : Report} {c : Chip} {m : List ℕ} {k : Clock} {at : ℕ} {w : Watch}
+    (i : Watching T a s c₀ m₀ r₀ c m k at w) where
+  -- what is watched from here on, after a turn
+  goes-on : {w′ : Watch} {es : List Event} {c′ : Chip} {m′ : List ℕ} (js : List Finished)
+      → jobs T (i .watches .followed) (tickByTick (timed k (eventsFrom s at))) c m ≡ js → Watches T a w′ js es c′ m′ (w .report) → Watches T a w′ (jobsOf T s c₀ m₀) es c′ m′ r₀
+  goes-on js e next =
+      record {
+        followed = next .followed;
+        keeps = next .keeps;
+        comes-to = i .watches .comes-to ∙ ap (λ (q : List Finished). reportAfter a q (w .report)) e ∙ next .comes-to;
+      }
+
+  -- a job that is followed stands, so ticks that find no job running and none followed are skipped
+  pub unwatched : w .on ≡ false → i .watches .followed ≡ nothing
+  unwatched off = go (i .watches .followed) (sym (i .watches .keeps .same-on) ∙ off)
+    where
+      go : (f : Followed) → isOn f ≡ false → f ≡ nothing
+      go nothing h = refl
+      go (follows begin used working suspended) h = absurd (false≢true (sym h))
+
+  module _ (more : at < length s) where
+    -- an event that is no ticks
+    pub event-watched : ticking (getD s at 0) ≡ false → (q : Core) (f : Frame) (l held m′ : List ℕ) (said : Record) (t : ℕ) → outcome q f l held m′ said t ≡ applied T c m (getD s at 0) (bodyAt s at)
+        → Watching T a s c₀ m₀ r₀ (whole q f l held) m′ k (nextAt s at) (afterEvent q said w)
+    event-watched plain q f l held m′ said t e =
+        let other = not-ticking (getD s at 0) plain in
+        let kept = i .watches .keeps in
+        subst (λ (o : Outcome). Watching T a s c₀ m₀ r₀ (o .chip) (o .memory) k (nextAt s at) (afterEvent (o .chip .core) (o .said) w)) (sym e)
+        (record {
+          watches = goes-on _ (jobs-plain T (i .watches .followed) k s at c m more other) (watch-event T a (eventAt s at) _ c m (other .not-one) w (i .watches .followed) (kept .same-on) (kept .same-used));
+          modest = omega (arith, i .modest, event-modest (applied T c m (getD s at 0) (bodyAt s at) .chip .core) (applied T c m (getD s at 0) (bodyAt s at) .said) w);
+        })
+    -- an exchange, which leaves the job and says no verdict
+    pub exchange-watched : getD s at 0 ≡ EXCHANGE → (f : Frame) (l : List ℕ) (said : Record)
+        → outcome (c .core) f l (c .held) m said 0 ≡ applied T c m (getD s at 0) (bodyAt s at) → Watching T a s c₀ m₀ r₀ (whole (c .core) f l (c .held)) m k (at + 2) w
+    unfolding kindRow kindRowIn
+    exchange-watched is f l said e =
+        let other = not-ticking (getD s at 0) (ap ticking is) in
+        let quiet = line-not-two said (ap (λ (o : Outcome). sortOf (o .said)) e ∙ says-its-kind T c m (getD s at 0) (bodyAt s at) ∙ ap saysOf is) in
+        subst (λ (next : ℕ). Watching T a s c₀ m₀ r₀ (whole (c .core) f l (c .held)) m k next w) (exchange-next s at is)
+        (subst (λ (o : Outcome). Watching T a s c₀ m₀ r₀ (o .chip) (o .memory) k (nextAt s at) w) (sym e)
+        (record {
+          watches = goes-on _ (jobs-plain T (i .watches .followed) k s at c m more other)
+              (watch-stays T a (eventAt s at) _ c m (other .not-one) w (i .watches .followed) (i .watches .keeps) (ap (λ (o : Outcome). o .chip .core) (sym e)) (ap (λ (o : Outcome). isTwo (o .said)) (sym e) ∙ quiet));
+          modest = omega (arith, i .modest);
+        }))
+
+    -- ticks
+    module _ (is-ticking : ticking (getD s at 0) ≡ true) (body : ℕ) (is-body : body ≡ bodyAt s at) (n : ℕ) (is : n ≡ ticksOf k (getD s at 0) body) (most : n ≤ 65535)
+        (k′ : Clock) (is-clock : k′ ≡ clockBy k (getD s at 0) body) where
+      number-of : ticksOf k (getD s at 0) (bodyAt s at) ≡ n
+      number-of = sym (is ∙ ap (ticksOf k (getD s at 0)) is-body)
+
+      clock-of : clockAfter k (eventAt s at) ≡ k′
+      clock-of = sym (is-clock ∙ ap (clockBy k (getD s at 0)) is-body ∙ clock-as k s at)
+
+      -- all that were used so far, with these, are no more than the script's bytes allow
+      pub modest-then : w .used + n ≤ 21845 * nextAt s at
+      modest-then = omega (arith, i .modest, number-of, ticks-few k s at is-ticking (omega (arith, number-of, most)))
+
+      jobs-then : jobs T (i .watches .followed) (tickByTick (timed k (eventsFrom s at))) c m
+          ≡ jobs T (i .watches .followed) (replicate n (oneTick at) ++ tickByTick (timed k′ (eventsFrom s (nextAt s at)))) c m
+      jobs-then =
+          jobs-ticking T (i .watches .followed) k s at c m more is-ticking
+          ∙ (λ j. jobs T (i .watches .followed) (replicate (number-of j) (oneTick at) ++ tickByTick (timed (clock-of j) (eventsFrom s (nextAt s at)))) c m)
+
+      pub ticks-watched : (q : Core) (t : ℕ) (held m′ : List ℕ) → TicksAnswer (T .sectors) n (c .core) (c .held) m q t held m′
+          → Watching T a s c₀ m₀ r₀ (whole q (c .frame) (c .load) held) m′ k′ (nextAt s at) (afterTicks a (c .core) q n t w)
+      ticks-watched q t held m′ ans =
+          let does : outcome q (c .frame) (c .load) held m′ Nothing t ≡ tick T c m n = (λ j. outcome (ans .core j) (c .frame) (c .load) (ans .load j) (ans .memory j) Nothing (ans .working j)) in
+          subst (λ (o : Outcome). Watching T a s c₀ m₀ r₀ (o .chip) (o .memory) k′ (nextAt s at) (afterTicks a (c .core) (o .chip .core) n (o .ticks) w)) (sym does)
+          (record {
+            watches = goes-on _ jobs-then (watch-ticks T a at (tickByTick (timed k′ (eventsFrom s (nextAt s at)))) n c m w (i .watches .followed) (i .watches .keeps));
+            modest = omega (arith, modest-then, ticks-modest a (c .core) (tick T c m n .chip .core) n (worked (T .sectors) n (c .core)) w);
+          })
+
+      -- where no job runs and none is followed, nothing is told
+      pub idle-watched : running (c .core) ≡ false → w .on ≡ false → Watching T a s c₀ m₀ r₀ c m k′ (nextAt s at) w
+      idle-watched rests off =
+          subst (λ (v : Watch). Watching T a s c₀ m₀ r₀ c m k′ (nextAt s at) v) (unwatched-ticks a (c .core) (c .core) n 0 w off)
+          (ticks-watched (c .core) 0 (c .held) m (answer-rests (T .sectors) n (c .core) (c .held) m rests))
+
+  -- after the last event the report is that of all jobs
+  pub reports : length s ≤ at → Reports T a c₀ m₀ s r₀ (w .report)
+  unfolding jobs tickByTick reportAfter
+  reports over =
+      sym (i .watches .comes-to ∙ ap (λ (es : List Event). reportAfter a (jobs T (i .watches .followed) (tickByTick es) c m) (w .report)) (timed-none k s at over))

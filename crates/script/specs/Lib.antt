@@ -4,3 +4,4 @@ pub mod Jobs
 pub mod Report
 pub mod Watch
 pub mod Laws
+pub mod WatchLaws

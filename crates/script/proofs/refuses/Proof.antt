@@ -7,6 +7,7 @@ use borrow.Author.Tests.{not-true, not-false}
 use Rattle.part.specs.Part.{permitted}
 use Rattle.part.specs.Laws.{no-sectors, some-sectors}
 use Rattle.legal.specs.Legal.{legal}
+use Rattle.clock.specs.Clock.{unset}
 use Rattle.script.specs.Script.{firstBad, events, room, Refusal}
 use Rattle.script.specs.Laws.{refusal-length, refusal-area, refusal-state, refusal-long, refusal-bad, refusal-room, refusal-none}
 use borrow.Author.Needs.{needs}
@@ -58,7 +59,7 @@ returns-5 : tie.Need-returns-5
 returns-5 c =
     let p : permitted (c .before .before .before .before .before .before .before .before .before .before .before .args .n) ≡ true = some-sectors (c .before .before .before .before .before .before .before .before .before .before .before .args .n) _ (c .before .before .before .before .before .before .before .before .before .sectors-of .ensures) (c .before .before .before .before .before .before .before .before .if1 .left) in
     let l : legal (c .before .before .before .before .before .before .before .before .before .before .before .args .chip) (c .before .before .before .before .before .before .before .before .before .before .before .args .n) ≡ true = sym (c .before .before .before .before .before .before .is-legal .ensures) ∙ not-false _ (c .before .before .before .before .before .if3 .left) in
-    let b : firstBad (events (c .before .before .before .before .before .before .before .before .before .before .before .args .script .now)) .number ≡ 0 → ⊥ = λ e. c .if5 .taken (ap (λ (r : Refusal). r .number) (c .before .before .before .scan .ensures .bad) ∙ e) in
+    let b : firstBad unset (events (c .before .before .before .before .before .before .before .before .before .before .before .args .script .now)) .number ≡ 0 → ⊥ = λ e. c .if5 .taken (ap (λ (r : Refusal). r .number) (c .before .before .before .scan .ensures .bad) ∙ e) in
     c .before .before .before .scan .ensures .bad ∙ sym (refusal-bad _ _ _ _ _ p (c .before .before .before .before .before .before .before .if2 .left) l (c .before .before .before .before .if4 .left) b)
 
 refuse-requires-5 : tie.Need-refuse-requires-5
@@ -68,7 +69,7 @@ returns-6 : tie.Need-returns-6
 returns-6 c =
     let p : permitted (c .before .before .before .before .before .before .before .before .before .before .before .before .before .before .args .n) ≡ true = some-sectors (c .before .before .before .before .before .before .before .before .before .before .before .before .before .before .args .n) _ (c .before .before .before .before .before .before .before .before .before .before .before .before .sectors-of .ensures) (c .before .before .before .before .before .before .before .before .before .before .before .if1 .left) in
     let l : legal (c .before .before .before .before .before .before .before .before .before .before .before .before .before .before .args .chip) (c .before .before .before .before .before .before .before .before .before .before .before .before .before .before .args .n) ≡ true = sym (c .before .before .before .before .before .before .before .before .before .is-legal .ensures) ∙ not-false _ (c .before .before .before .before .before .before .before .before .if3 .left) in
-    let b : firstBad (events (c .before .before .before .before .before .before .before .before .before .before .before .before .before .before .args .script .now)) .number ≡ 0 = sym (ap (λ (r : Refusal). r .number) (c .before .before .before .before .before .before .scan .ensures .bad)) ∙ c .before .before .before .if5 .left in
+    let b : firstBad unset (events (c .before .before .before .before .before .before .before .before .before .before .before .before .before .before .args .script .now)) .number ≡ 0 = sym (ap (λ (r : Refusal). r .number) (c .before .before .before .before .before .before .scan .ensures .bad)) ∙ c .before .before .before .if5 .left in
     let h : c .before .before .before .before .before .before .before .before .before .before .before .before .before .before .args .space < room (events (c .before .before .before .before .before .before .before .before .before .before .before .before .before .before .args .script .now)) = omega (arith, c .before .if6 .taken, c .before .before .before .before .before .before .scan .ensures .rooms (c .before .before .before .if5 .left)) in
     rw (c .refuse5 .ensures) (sym (refusal-room _ _ _ _ _ p (c .before .before .before .before .before .before .before .before .before .before .if2 .left) l (c .before .before .before .before .before .before .before .if4 .left) b h))
 
@@ -79,7 +80,7 @@ returns-7 : tie.Need-returns-7
 returns-7 c =
     let p : permitted (c .before .before .before .before .before .before .before .before .before .before .before .before .before .before .args .n) ≡ true = some-sectors (c .before .before .before .before .before .before .before .before .before .before .before .before .before .before .args .n) _ (c .before .before .before .before .before .before .before .before .before .before .before .before .sectors-of .ensures) (c .before .before .before .before .before .before .before .before .before .before .before .if1 .left) in
     let l : legal (c .before .before .before .before .before .before .before .before .before .before .before .before .before .before .args .chip) (c .before .before .before .before .before .before .before .before .before .before .before .before .before .before .args .n) ≡ true = sym (c .before .before .before .before .before .before .before .before .before .is-legal .ensures) ∙ not-false _ (c .before .before .before .before .before .before .before .before .if3 .left) in
-    let b : firstBad (events (c .before .before .before .before .before .before .before .before .before .before .before .before .before .before .args .script .now)) .number ≡ 0 = sym (ap (λ (r : Refusal). r .number) (c .before .before .before .before .before .before .scan .ensures .bad)) ∙ c .before .before .before .if5 .left in
+    let b : firstBad unset (events (c .before .before .before .before .before .before .before .before .before .before .before .before .before .before .args .script .now)) .number ≡ 0 = sym (ap (λ (r : Refusal). r .number) (c .before .before .before .before .before .before .scan .ensures .bad)) ∙ c .before .before .before .if5 .left in
     let h : room (events (c .before .before .before .before .before .before .before .before .before .before .before .before .before .before .args .script .now)) ≤ c .before .before .before .before .before .before .before .before .before .before .before .before .before .before .args .space = omega (arith, c .before .if6 .left, c .before .before .before .before .before .before .scan .ensures .rooms (c .before .before .before .if5 .left)) in
     rw (c .refuse6 .ensures) (sym (refusal-none _ _ _ _ _ p (c .before .before .before .before .before .before .before .before .before .before .if2 .left) l (c .before .before .before .before .before .before .before .if4 .left) b h))
 

@@ -1,3 +1,20 @@
+use Prim.Native.Nat.{ℕ, _≤_, _<_, _+_, _*_, _-_}
+use mathlib.Core.Bool.{true, _&&_}
+use mathlib.Core.Path.{_≡_, refl, sym, _∙_, ap}
+use native.Mathlib.Nat.{add-zero, add-assoc, zero-add}
+use native.Mathlib.Omega.{arith}
+use lib.Dec.{eqb, ltb}
+use lib.ListN.{length, getD}
+use borrow.Author.Tests.{eqb-true, ltb-true}
+use Rattle.cells.specs.Choice.{and-left, and-right}
+use Rattle.kinds.specs.Kinds.{EXCHANGE, roomOf, mostRoom}
+use Rattle.kinds.specs.Body.{nextAt, bodyAt}
+use Rattle.kinds.specs.Laws.{step-inside}
+use Rattle.clock.specs.declared.Clock.{Clock}
+use Rattle.clock.specs.Clock.{unset}
+use Rattle.script.specs.Script.{events, eventsFrom, eventAt, clockAfter, firstBad, room, refusalOf, faultBy}
+use Rattle.script.specs.Watch.{clockBy}
+use Rattle.script.specs.Laws.{firstBad-none, firstBad-here, firstBad-later, clean-event, good-event, exchange-next, exchange-good, exchange-clock, exchange-room, room-none, room-more}
 use borrow.Author.Needs.{needs}
 use Rattle.script.proofs.scan.Statement.{statement}
 use Rattle.script.proofs.scan.Tie as tie
@@ -10,14 +27,14 @@ use Rattle.script.proofs.clock_after.Reads as clock-after-reads
 use Rattle.script.proofs.fault_at.Reads as fault-at-reads
 
 abbrev Inv-loop : tie.InvT-loop
-Inv-loop s at₀ space₀ clock₀ at space clock = ?
+Inv-loop s at₀ space₀ clock₀ at space clock = (at ≤ length s) × (space ≤ mostRoom * at) × (firstBad unset (events s) ≡ firstBad clock (eventsFrom s at)) × (room (events s) ≡ space + room (eventsFrom s at))
 
 abbrev μ-loop : tie.MeasureT-loop
-μ-loop s at₀ space₀ clock₀ at space clock = ?
+μ-loop s at₀ space₀ clock₀ at space clock = length s - at
 
 -- src/lib.rt:108:5
 loop-holds : tie.Need-loop-holds Inv-loop μ-loop
-loop-holds c = search needs
+loop-holds c = (search needs, search needs, refl, sym (zero-add _))
 
 -- src/lib.rt:110:13
 shared-slice-read-if1 : tie.Need-shared-slice-read-if1 Inv-loop μ-loop
@@ -25,7 +42,7 @@ shared-slice-read-if1 c = search needs
 
 -- src/lib.rt:110:13
 cast-if1 : tie.Need-cast-if1 Inv-loop μ-loop
-cast-if1 c = search needs
+cast-if1 c = omega (arith, c .shared-slice-known2 .given (c .before .before .loop .at))
 
 -- src/lib.rt:110:48
 add-if1 : tie.Need-add-if1 Inv-loop μ-loop
@@ -37,19 +54,30 @@ room-of-requires c κs = search needs
 
 -- src/lib.rt:111:13
 add-space : tie.Need-add-space Inv-loop μ-loop
-add-space c = search needs
+add-space c = omega (arith, c .before .before .before .before .loop .inv .1, c .before .before .before .before .before .before .pre)
 
 -- src/lib.rt:112:13
 add-at : tie.Need-add-at Inv-loop μ-loop
-add-at c = search needs
+add-at c = omega (arith, c .before .before .before .before .loop .inv .0, c .before .before .before .before .before .before .pre)
 
 -- src/lib.rt:108:5
 loop-less : tie.Need-loop-less Inv-loop μ-loop
-loop-less c = search needs
+loop-less c = omega (arith, c .before .before .before .loop-test .taken)
 
 -- src/lib.rt:108:5
 loop-again : tie.Need-loop-again Inv-loop μ-loop
-loop-again c = search needs
+loop-again c =
+    let s = c .before .before .before .before .before .before .args .s .now in
+    let at = c .before .before .before .before .loop .at in
+    let both : (eqb (getD s at 0) EXCHANGE && ltb (at + 1) (length s)) ≡ true = c .before .if1 .taken in
+    let e : getD s at 0 ≡ EXCHANGE = eqb-true _ _ (and-left (eqb (getD s at 0) EXCHANGE) (ltb (at + 1) (length s)) both) in
+    let more : at + 1 < length s = ltb-true _ _ (and-right (eqb (getD s at 0) EXCHANGE) (ltb (at + 1) (length s)) both) in
+    let z : faultBy (c .before .before .before .before .loop .clock) (eventAt s at) ≡ 0 = exchange-good (c .before .before .before .before .loop .clock) s at e more (c .before .before .shared-slice-known2 .given (at + 1) .fits) in (
+      omega (arith, more),
+      omega (arith, c .before .before .before .before .loop .inv .1),
+      c .before .before .before .before .loop .inv .2 ∙ firstBad-later (c .before .before .before .before .loop .clock) s at (c .before .before .before .loop-test .taken) z ∙ (λ i. firstBad (exchange-clock (c .before .before .before .before .loop .clock) s at e i) (eventsFrom s (exchange-next s at e i))),
+      c .before .before .before .before .loop .inv .3 ∙ ap (λ (r : ℕ). c .before .before .before .before .loop .space + r) (exchange-room s at e (c .before .before .before .loop-test .taken)) ∙ rw (c .room-of .ensures .0) (sym (add-assoc (c .before .before .before .before .loop .space) (roomOf EXCHANGE) _)),
+    )
 
 -- src/lib.rt:115:13
 fault-at-requires : tie.Need-fault-at-requires Inv-loop μ-loop
@@ -57,7 +85,12 @@ fault-at-requires c κs = search needs
 
 -- src/lib.rt:117:13
 returns : tie.Need-returns Inv-loop μ-loop
-returns c = search needs
+returns c =
+    let is : c .before .fault-at .result ≡ faultBy (c .before .before .before .before .before .loop .clock) (eventAt (c .before .before .before .before .before .before .before .args .s .now) (c .before .before .before .before .before .loop .at)) = c .before .fault-at .ensures in
+    record {
+      bad = ap (λ (n : ℕ). refusalOf n (c .before .before .before .before .before .loop .at)) is ∙ sym (c .before .before .before .before .before .loop .inv .2 ∙ firstBad-here _ _ _ (c .before .before .before .before .loop-test .taken) (λ e. c .if2 .taken (is ∙ e)));
+      rooms = λ e. absurd (c .if2 .taken e);
+    }
 
 -- src/lib.rt:125:20
 shared-slice-read-kind : tie.Need-shared-slice-read-kind Inv-loop μ-loop
@@ -65,7 +98,7 @@ shared-slice-read-kind c = search needs
 
 -- src/lib.rt:125:20
 cast-kind : tie.Need-cast-kind Inv-loop μ-loop
-cast-kind c = search needs
+cast-kind c = omega (arith, c .shared-slice-known3 .given (c .before .before .before .before .before .before .loop .at))
 
 -- src/lib.rt:126:42
 body-at-requires : tie.Need-body-at-requires Inv-loop μ-loop
@@ -73,7 +106,7 @@ body-at-requires c κs = search needs
 
 -- src/lib.rt:126:42
 cast-clock-after : tie.Need-cast-clock-after Inv-loop μ-loop
-cast-clock-after c = search needs
+cast-clock-after c = omega (arith, c .body-at .ensures .1)
 
 -- src/lib.rt:126:9
 clock-after-requires : tie.Need-clock-after-requires Inv-loop μ-loop
@@ -93,15 +126,30 @@ next-at-requires c κs = search needs
 
 -- src/lib.rt:108:5
 loop-less-2 : tie.Need-loop-less-2 Inv-loop μ-loop
-loop-less-2 c = search needs
+loop-less-2 c = omega (arith, c .next-at .ensures, step-inside (c .before .before .before .before .before .before .before .before .before .before .before .before .args .s .now) (c .before .before .before .before .before .before .before .before .before .before .loop .at) (c .before .before .before .before .before .before .before .before .before .loop-test .taken))
 
 -- src/lib.rt:108:5
 loop-again-2 : tie.Need-loop-again-2 Inv-loop μ-loop
-loop-again-2 c = search needs
+loop-again-2 c =
+    let s = c .before .before .before .before .before .before .before .before .before .before .before .before .args .s .now in
+    let at = c .before .before .before .before .before .before .before .before .before .before .loop .at in
+    let z : faultBy (c .before .before .before .before .before .before .before .before .before .before .loop .clock) (eventAt s at) ≡ 0 = sym (c .before .before .before .before .before .before .fault-at .ensures) ∙ c .before .before .before .before .before .if2 .left in
+    let next : c .next-at .result ≡ nextAt s at = c .next-at .ensures ∙ step-inside s at (c .before .before .before .before .before .before .before .before .before .loop-test .taken) in
+    let on : clockAfter (c .before .before .before .before .before .before .before .before .before .before .loop .clock) (eventAt s at) ≡ c .before .before .clock-after .result = ?
+    in (
+      omega (arith, next, good-event s at (clean-event _ _ z .as-written) .inside),
+      omega (arith, next, c .before .room-of2 .ensures .1, c .before .before .before .before .before .before .before .before .before .before .loop .inv .1),
+      c .before .before .before .before .before .before .before .before .before .before .loop .inv .2 ∙ firstBad-later (c .before .before .before .before .before .before .before .before .before .before .loop .clock) s at (c .before .before .before .before .before .before .before .before .before .loop-test .taken) z ∙ (λ i. firstBad (on i) (eventsFrom s (next (~ i)))),
+      c .before .before .before .before .before .before .before .before .before .before .loop .inv .3 ∙ ap (λ (r : ℕ). c .before .before .before .before .before .before .before .before .before .before .loop .space + r) (room-more s at (c .before .before .before .before .before .before .before .before .before .loop-test .taken)) ∙ rw (next, c .before .room-of2 .ensures .0) (sym (add-assoc _ _ _)),
+    )
 
 -- src/lib.rt:98:1
 returns-2 : tie.Need-returns-2 Inv-loop μ-loop
-returns-2 c = search needs
+returns-2 c =
+    record {
+      bad = sym (c .before .loop .inv .2 ∙ firstBad-none _ _ _ (c .loop-test .left));
+      rooms = λ _. sym (c .before .loop .inv .3 ∙ ap (λ (r : ℕ). c .before .loop .space + r) (room-none _ _ (c .loop-test .left)) ∙ add-zero _);
+    }
 
 pub scan-spec : {M : Type 1} → statement M
 scan-spec =

@@ -1,3 +1,5 @@
+use mir.Syntax.{w32}
+use mir.Facts.{toZ-ofZ}
 use borrow.Author.Tests.{not-true, not-false}
 use Prim.Native.Nat.{_+_}
 use Rattle.margins.specs.Margins.{counted, margin}
@@ -54,7 +56,7 @@ count-requires c κs = search needs
 -- src/lib.rt:256:1
 returns-3 : tie.Need-returns-3
 unfolding afterTicks
-returns-3 c = ap (watch false 0) (c .count .ensures ∙ (λ i. counted (c .before .before .before .before .before .before .before .before .before .before .before .args .core .job .kind) ((c .before .margin .ensures ∙ (λ j. margin (c .before .before .before .allowance-of .ensures j) (c .before .before .before .before .before .before .before .before .before .before .before .args .watch .used + c .before .before .before .before .before .before .before .before .before .before .before .args .worked))) i) (c .before .before .before .before .before .before .before .before .before .before .before .args .watch .report))) ∙ sym (cond-no _ _ _ (c .before .before .before .before .before .before .before .before .before .if1 .left) ∙ cond-no _ _ _ (sym (c .before .before .before .before .before .before .before .is-job .ensures) ∙ c .before .before .before .before .before .before .if2 .left))
+returns-3 c = ap (watch false 0) (c .count .ensures ∙ (λ i. counted (c .before .before .before .before .before .before .before .before .before .before .before .args .core .job .kind) ((toZ-ofZ {w = w32} (record { sfits = c .before .margin .ok }) ∙ c .before .margin .ensures ∙ (λ j. margin (c .before .before .before .allowance-of .ensures j) (c .before .before .before .before .before .before .before .before .before .before .before .args .watch .used + c .before .before .before .before .before .before .before .before .before .before .before .args .worked))) i) (c .before .before .before .before .before .before .before .before .before .before .before .args .watch .report))) ∙ sym (cond-no _ _ _ (c .before .before .before .before .before .before .before .before .before .if1 .left) ∙ cond-no _ _ _ (sym (c .before .before .before .before .before .before .before .is-job .ensures) ∙ c .before .before .before .before .before .before .if2 .left))
 
 pub watch-ticks-spec : {M : Type 1} → statement M
 watch-ticks-spec =
