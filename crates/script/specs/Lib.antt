@@ -5,3 +5,4 @@ pub mod Report
 pub mod Watch
 pub mod Laws
 pub mod WatchLaws
+pub mod ReportLaws

@@ -1,3 +1,18 @@
+use Prim.Native.Nat.{_+_, _<_, _-_}
+use mathlib.Core.Bool.{Bool, true, false, _||_}
+use mathlib.Core.Path.{_≡_, refl, sym, _∙_, ap, subst}
+use native.Mathlib.Omega.{arith}
+use borrow.Author.Tests.{not-true}
+use lib.ListN.{length, getD}
+use Rattle.cells.specs.Choice.{either-false}
+use Rattle.part.specs.Part.{setting}
+use Rattle.kinds.specs.Body.{nextAt, bodyAt}
+use Rattle.kinds.specs.Laws.{step-inside}
+use Rattle.chip.specs.Chip.{whole, running}
+use Rattle.frame.specs.StreamLaws.{exchanged-stream}
+use Rattle.event.specs.Event.{applied}
+use Rattle.script.specs.WatchLaws.{worked-most, not-ticking}
+use Rattle.script.proofs.Playing.{Playing, starts, finds-room, exchange-inside, turns, heard-is, exchange-finds-room, exchange-turns, ticks-turn, idle-turn, ends, Watching, watch-starts, event-watched, exchange-watched, modest-then, ticks-watched, idle-watched, reports, good}
 use borrow.Author.Needs.{needs}
 use Rattle.script.proofs.play.Statement.{statement}
 use Rattle.script.proofs.play.Tie as tie
@@ -19,13 +34,15 @@ use Rattle.script.proofs.ticks_of.Reads as ticks-of-reads
 use Rattle.script.proofs.watch_event.Reads as watch-event-reads
 use Rattle.script.proofs.watch_ticks.Reads as watch-ticks-reads
 
+or-false : (b : Bool) → (b || false) ≡ b
+or-false true = refl
+or-false false = refl
+
 abbrev Inv-loop : tie.InvT-loop
-Inv-loop mem₀ script out₀ sectors area allowances core₀ frame₀ load₀ held₀ busy₀ clock₀ watch₀ at₀ pos₀ ticks₀ mem out core frame load held busy clock watch at pos ticks =
-    ?
+Inv-loop mem₀ script out₀ sectors area allowances core₀ frame₀ load₀ held₀ busy₀ clock₀ watch₀ at₀ pos₀ ticks₀ mem out core frame load held busy clock watch at pos ticks = Playing (setting sectors area) script (whole core₀ frame₀ load₀ held₀) mem₀ out₀ (whole core frame load held) mem out clock at pos ticks × (busy ≡ (running core || watch .on)) × Watching (setting sectors area) allowances script (whole core₀ frame₀ load₀ held₀) mem₀ (watch₀ .report) (whole core frame load held) mem clock at watch
 
 abbrev μ-loop : tie.MeasureT-loop
-μ-loop mem₀ script out₀ sectors area allowances core₀ frame₀ load₀ held₀ busy₀ clock₀ watch₀ at₀ pos₀ ticks₀ mem out core frame load held busy clock watch at pos ticks =
-    ?
+μ-loop mem₀ script out₀ sectors area allowances core₀ frame₀ load₀ held₀ busy₀ clock₀ watch₀ at₀ pos₀ ticks₀ mem out core frame load held busy clock watch at pos ticks = length script - at
 
 -- src/lib.rt:315:9
 is-running-requires : tie.Need-is-running-requires Inv-loop μ-loop
@@ -33,7 +50,7 @@ is-running-requires c κs = search needs
 
 -- src/lib.rt:328:5
 loop-holds : tie.Need-loop-holds Inv-loop μ-loop
-loop-holds c = search needs
+loop-holds c = (starts _ _ _ _ _ (c .before .before .before .before .before .before .before .before .before .pre .1), c .is-running .ensures ∙ sym (or-false _), watch-starts _ _ _ _ _ _)
 
 -- src/lib.rt:329:20
 shared-slice-read-kind : tie.Need-shared-slice-read-kind Inv-loop μ-loop
@@ -41,15 +58,15 @@ shared-slice-read-kind c = search needs
 
 -- src/lib.rt:329:20
 cast-kind : tie.Need-cast-kind Inv-loop μ-loop
-cast-kind c = search needs
+cast-kind c = omega (arith, c .shared-slice-known3 .given (c .before .before .loop .at))
 
 -- src/lib.rt:331:28
 add-b : tie.Need-add-b Inv-loop μ-loop
-add-b c = search needs
+add-b c = omega (arith, exchange-inside (c .before .before .before .loop .inv .0) (c .before .before .loop-test .taken) (c .if1 .taken))
 
 -- src/lib.rt:331:21
 shared-slice-read-b : tie.Need-shared-slice-read-b Inv-loop μ-loop
-shared-slice-read-b c = search needs
+shared-slice-read-b c = omega (arith, exchange-inside (c .before .before .before .before .loop .inv .0) (c .before .before .before .loop-test .taken) (c .before .if1 .taken))
 
 -- src/lib.rt:332:16
 streams-requires : tie.Need-streams-requires Inv-loop μ-loop
@@ -61,19 +78,19 @@ stream-requires c κs = search needs
 
 -- src/lib.rt:335:17
 put-requires : tie.Need-put-requires Inv-loop μ-loop
-put-requires c κs = search needs
+put-requires c κs = exchange-finds-room (c .before .before .before .before .before .before .before .before .before .before .loop .inv .0) (c .before .before .before .before .before .before .before .before .before .loop-test .taken) (c .before .before .before .before .before .before .before .if1 .taken) (c .before .before .before .before .before .before .shared-slice-known4 .given (c .before .before .before .before .before .before .before .before .before .before .loop .at + 1) .fits) _ _ _ (c .before .stream .ensures ∙ sym (exchanged-stream _ _ _ _ _ _ (sym (c .before .before .before .before .before .streams .ensures) ∙ c .before .before .before .before .if2 .taken)))
 
 -- src/lib.rt:337:17
 add-at : tie.Need-add-at Inv-loop μ-loop
-add-at c = search needs
+add-at c = omega (arith, exchange-inside (c .before .before .before .before .before .before .before .before .before .before .before .before .before .before .loop .inv .0) (c .before .before .before .before .before .before .before .before .before .before .before .before .before .loop-test .taken) (c .before .before .before .before .before .before .before .before .before .before .before .if1 .taken))
 
 -- src/lib.rt:328:5
 loop-less : tie.Need-loop-less Inv-loop μ-loop
-loop-less c = search needs
+loop-less c = omega (arith, c .before .before .before .before .before .before .before .before .before .before .before .before .before .loop-test .taken)
 
 -- src/lib.rt:328:5
 loop-again : tie.Need-loop-again Inv-loop μ-loop
-loop-again c = search needs
+loop-again c = (exchange-turns (c .before .before .before .before .before .before .before .before .before .before .before .before .before .before .loop .inv .0) (c .before .before .before .before .before .before .before .before .before .before .before .before .before .loop-test .taken) (c .before .before .before .before .before .before .before .before .before .before .before .if1 .taken) (c .before .before .before .before .before .before .before .before .before .before .shared-slice-known4 .given (c .before .before .before .before .before .before .before .before .before .before .before .before .before .before .loop .at + 1) .fits) _ _ _ (c .before .before .before .before .before .stream .ensures ∙ sym (exchanged-stream _ _ _ _ _ _ (sym (c .before .before .before .before .before .before .before .before .before .streams .ensures) ∙ c .before .before .before .before .before .before .before .before .if2 .taken))) _ _ (c .before .before .before .put .ensures) (c .before .before .before .put .kept .0), c .before .before .before .before .before .before .before .before .before .before .before .before .before .before .loop .inv .1, exchange-watched (c .before .before .before .before .before .before .before .before .before .before .before .before .before .before .loop .inv .2) (c .before .before .before .before .before .before .before .before .before .before .before .before .before .loop-test .taken) (c .before .before .before .before .before .before .before .before .before .before .before .if1 .taken) _ _ _ (heard-is (c .before .before .before .before .before .before .before .before .before .before .before .before .before .before .loop .inv .0) (c .before .before .before .before .before .before .before .before .before .before .before .before .before .loop-test .taken) (c .before .before .before .before .before .before .before .before .before .before .before .if1 .taken) (c .before .before .before .before .before .before .before .before .before .before .shared-slice-known4 .given (c .before .before .before .before .before .before .before .before .before .before .before .before .before .before .loop .at + 1) .fits) _ _ _ (c .before .before .before .before .before .stream .ensures ∙ sym (exchanged-stream _ _ _ _ _ _ (sym (c .before .before .before .before .before .before .before .before .before .streams .ensures) ∙ c .before .before .before .before .before .before .before .before .if2 .taken)))))
 
 -- src/lib.rt:341:17
 exchange-requires : tie.Need-exchange-requires Inv-loop μ-loop
@@ -81,19 +98,19 @@ exchange-requires c κs = search needs
 
 -- src/lib.rt:343:13
 put-requires-2 : tie.Need-put-requires-2 Inv-loop μ-loop
-put-requires-2 c κs = search needs
+put-requires-2 c κs = exchange-finds-room (c .before .before .before .before .before .before .before .before .before .before .loop .inv .0) (c .before .before .before .before .before .before .before .before .before .loop-test .taken) (c .before .before .before .before .before .before .before .if1 .taken) (c .before .before .before .before .before .before .shared-slice-known4 .given (c .before .before .before .before .before .before .before .before .before .before .loop .at + 1) .fits) _ _ _ (c .before .exchange .ensures)
 
 -- src/lib.rt:345:13
 add-at-2 : tie.Need-add-at-2 Inv-loop μ-loop
-add-at-2 c = search needs
+add-at-2 c = omega (arith, exchange-inside (c .before .before .before .before .before .before .before .before .before .before .before .before .before .before .loop .inv .0) (c .before .before .before .before .before .before .before .before .before .before .before .before .before .loop-test .taken) (c .before .before .before .before .before .before .before .before .before .before .before .if1 .taken))
 
 -- src/lib.rt:328:5
 loop-less-2 : tie.Need-loop-less-2 Inv-loop μ-loop
-loop-less-2 c = search needs
+loop-less-2 c = omega (arith, c .before .before .before .before .before .before .before .before .before .before .before .before .before .loop-test .taken)
 
 -- src/lib.rt:328:5
 loop-again-2 : tie.Need-loop-again-2 Inv-loop μ-loop
-loop-again-2 c = search needs
+loop-again-2 c = (exchange-turns (c .before .before .before .before .before .before .before .before .before .before .before .before .before .before .loop .inv .0) (c .before .before .before .before .before .before .before .before .before .before .before .before .before .loop-test .taken) (c .before .before .before .before .before .before .before .before .before .before .before .if1 .taken) (c .before .before .before .before .before .before .before .before .before .before .shared-slice-known4 .given (c .before .before .before .before .before .before .before .before .before .before .before .before .before .before .loop .at + 1) .fits) _ _ _ (c .before .before .before .before .before .exchange .ensures) _ _ (c .before .before .before .put2 .ensures) (c .before .before .before .put2 .kept .0), c .before .before .before .before .before .before .before .before .before .before .before .before .before .before .loop .inv .1, exchange-watched (c .before .before .before .before .before .before .before .before .before .before .before .before .before .before .loop .inv .2) (c .before .before .before .before .before .before .before .before .before .before .before .before .before .loop-test .taken) (c .before .before .before .before .before .before .before .before .before .before .before .if1 .taken) _ _ _ (heard-is (c .before .before .before .before .before .before .before .before .before .before .before .before .before .before .loop .inv .0) (c .before .before .before .before .before .before .before .before .before .before .before .before .before .loop-test .taken) (c .before .before .before .before .before .before .before .before .before .before .before .if1 .taken) (c .before .before .before .before .before .before .before .before .before .before .shared-slice-known4 .given (c .before .before .before .before .before .before .before .before .before .before .before .before .before .before .loop .at + 1) .fits) _ _ _ (c .before .before .before .before .before .exchange .ensures)))
 
 -- src/lib.rt:348:13
 body-at-requires : tie.Need-body-at-requires Inv-loop μ-loop
@@ -105,7 +122,7 @@ is-ticking-requires c κs = search needs
 
 -- src/lib.rt:350:43
 cast-ticks-of : tie.Need-cast-ticks-of Inv-loop μ-loop
-cast-ticks-of c = search needs
+cast-ticks-of c = omega (arith, c .before .before .body-at .ensures .1)
 
 -- src/lib.rt:350:17
 ticks-of-requires : tie.Need-ticks-of-requires Inv-loop μ-loop
@@ -113,7 +130,7 @@ ticks-of-requires c κs = search needs
 
 -- src/lib.rt:351:46
 cast-clock-after : tie.Need-cast-clock-after Inv-loop μ-loop
-cast-clock-after c = search needs
+cast-clock-after c = omega (arith, c .before .before .before .body-at .ensures .1)
 
 -- src/lib.rt:351:13
 clock-after-requires : tie.Need-clock-after-requires Inv-loop μ-loop
@@ -125,11 +142,19 @@ next-at-requires c κs = search needs
 
 -- src/lib.rt:328:5
 loop-less-3 : tie.Need-loop-less-3 Inv-loop μ-loop
-loop-less-3 c = search needs
+loop-less-3 c =
+    let next : c .next-at .result ≡ nextAt (c .before .before .before .before .before .before .before .before .before .before .before .before .before .before .before .before .before .before .before .before .args .script .now) (c .before .before .before .before .before .before .before .before .before .before .loop .at) = c .next-at .ensures ∙ step-inside (c .before .before .before .before .before .before .before .before .before .before .before .before .before .before .before .before .before .before .before .before .args .script .now) (c .before .before .before .before .before .before .before .before .before .before .loop .at) (c .before .before .before .before .before .before .before .before .before .loop-test .taken) in
+    omega (arith, next, c .before .before .before .before .before .before .before .before .before .loop-test .taken)
 
 -- src/lib.rt:328:5
 loop-again-3 : tie.Need-loop-again-3 Inv-loop μ-loop
-loop-again-3 c = search needs
+loop-again-3 c =
+    let next : c .next-at .result ≡ nextAt (c .before .before .before .before .before .before .before .before .before .before .before .before .before .before .before .before .before .before .before .before .args .script .now) (c .before .before .before .before .before .before .before .before .before .before .loop .at) = c .next-at .ensures ∙ step-inside (c .before .before .before .before .before .before .before .before .before .before .before .before .before .before .before .before .before .before .before .before .args .script .now) (c .before .before .before .before .before .before .before .before .before .before .loop .at) (c .before .before .before .before .before .before .before .before .before .loop-test .taken) in
+    let idle = either-false (running (c .before .before .before .before .before .before .before .before .before .before .loop .core)) (c .before .before .before .before .before .before .before .before .before .before .loop .watch .on) .0 (sym (c .before .before .before .before .before .before .before .before .before .before .loop .inv .1) ∙ not-true _ (c .before .if4 .taken)) in
+    let ticking = sym (c .before .before .before .before .before .is-ticking .ensures) ∙ c .before .before .before .before .if3 .taken in
+    ( rw next (idle-turn (c .before .before .before .before .before .before .before .before .before .before .loop .inv .0) (c .before .before .before .before .before .before .before .before .before .loop-test .taken) ticking _ (c .before .before .before .before .before .before .body-at .ensures .0) _ (c .before .before .before .ticks-of .ensures .0) _ (c .before .before .clock-after .ensures) (idle .0))
+    , c .before .before .before .before .before .before .before .before .before .before .loop .inv .1
+    , rw next (idle-watched (c .before .before .before .before .before .before .before .before .before .before .loop .inv .2) (c .before .before .before .before .before .before .before .before .before .loop-test .taken) ticking _ (c .before .before .before .before .before .before .body-at .ensures .0) _ (c .before .before .before .ticks-of .ensures .0) (c .before .before .before .ticks-of .ensures .1) _ (c .before .before .clock-after .ensures) (idle .0) (idle .1)))
 
 -- src/lib.rt:356:17
 ticks-requires : tie.Need-ticks-requires Inv-loop μ-loop
@@ -137,7 +162,12 @@ ticks-requires c κs = search needs
 
 -- src/lib.rt:357:13
 watch-ticks-requires : tie.Need-watch-ticks-requires Inv-loop μ-loop
-watch-ticks-requires c κs = search needs
+watch-ticks-requires c κs =
+    let ticking = sym (c .before .before .before .before .before .before .before .before .before .is-ticking .ensures) ∙ c .before .before .before .before .before .before .before .before .if3 .taken in
+    let modest = modest-then (c .before .before .before .before .before .before .before .before .before .before .before .before .before .before .loop .inv .2) (c .before .before .before .before .before .before .before .before .before .before .before .before .before .loop-test .taken) ticking _ (c .before .before .before .before .before .before .before .before .before .before .body-at .ensures .0) _ (c .before .before .before .before .before .before .before .ticks-of .ensures .0) (c .before .before .before .before .before .before .before .ticks-of .ensures .1) _ (c .before .before .before .before .before .before .clock-after .ensures) in
+    ( c .before .before .before .before .before .before .before .before .before .before .before .before .before .before .before .before .before .before .before .before .before .before .before .before .pre .0
+    , omega (arith, modest, good (c .before .before .before .before .before .before .before .before .before .before .before .before .before .before .loop .inv .0) (c .before .before .before .before .before .before .before .before .before .before .before .before .before .loop-test .taken) .inside, c .before .before .before .before .before .before .before .before .before .before .before .before .before .before .loop .inv .0 .short)
+    , omega (arith, c .before .before .ticks .ensures .working, worked-most (c .before .before .before .before .before .before .before .before .before .before .before .before .before .before .before .before .before .before .before .before .before .before .before .before .args .sectors) (c .before .before .before .before .before .before .before .ticks-of .result) (c .before .before .before .before .before .before .before .before .before .before .before .before .before .before .loop .core)))
 
 -- src/lib.rt:359:20
 is-running-requires-2 : tie.Need-is-running-requires-2 Inv-loop μ-loop
@@ -149,7 +179,9 @@ cast-ticks c = search needs
 
 -- src/lib.rt:360:13
 add-ticks : tie.Need-add-ticks Inv-loop μ-loop
-add-ticks c = search needs
+add-ticks c =
+    let t : c .before .before .before .before .before .before .before .ticks .result .worked < 4294967296 = search needs in
+    omega (arith, c .before .before .before .before .before .before .before .before .before .before .before .before .before .before .before .before .before .before .before .loop .inv .0 .few, c .before .before .before .before .before .before .before .before .before .before .before .before .before .before .before .before .before .before .before .loop .inv .0 .inside, c .before .before .before .before .before .before .before .before .before .before .before .before .before .before .before .before .before .before .before .loop .inv .0 .short)
 
 -- src/lib.rt:361:13
 next-at-requires-2 : tie.Need-next-at-requires-2 Inv-loop μ-loop
@@ -157,15 +189,22 @@ next-at-requires-2 c κs = search needs
 
 -- src/lib.rt:328:5
 loop-less-4 : tie.Need-loop-less-4 Inv-loop μ-loop
-loop-less-4 c = search needs
+loop-less-4 c =
+    let next : c .next-at2 .result ≡ nextAt (c .before .before .before .before .before .before .before .before .before .before .before .before .before .before .before .before .before .before .before .before .before .before .before .before .before .before .before .before .before .before .args .script .now) (c .before .before .before .before .before .before .before .before .before .before .before .before .before .before .before .before .before .before .before .before .loop .at) = c .next-at2 .ensures ∙ step-inside (c .before .before .before .before .before .before .before .before .before .before .before .before .before .before .before .before .before .before .before .before .before .before .before .before .before .before .before .before .before .before .args .script .now) (c .before .before .before .before .before .before .before .before .before .before .before .before .before .before .before .before .before .before .before .before .loop .at) (c .before .before .before .before .before .before .before .before .before .before .before .before .before .before .before .before .before .before .before .loop-test .taken) in
+    omega (arith, next, c .before .before .before .before .before .before .before .before .before .before .before .before .before .before .before .before .before .before .before .loop-test .taken)
 
 -- src/lib.rt:328:5
 loop-again-4 : tie.Need-loop-again-4 Inv-loop μ-loop
-loop-again-4 c = search needs
+loop-again-4 c =
+    let next : c .next-at2 .result ≡ nextAt (c .before .before .before .before .before .before .before .before .before .before .before .before .before .before .before .before .before .before .before .before .before .before .before .before .before .before .before .before .before .before .args .script .now) (c .before .before .before .before .before .before .before .before .before .before .before .before .before .before .before .before .before .before .before .before .loop .at) = c .next-at2 .ensures ∙ step-inside (c .before .before .before .before .before .before .before .before .before .before .before .before .before .before .before .before .before .before .before .before .before .before .before .before .before .before .before .before .before .before .args .script .now) (c .before .before .before .before .before .before .before .before .before .before .before .before .before .before .before .before .before .before .before .before .loop .at) (c .before .before .before .before .before .before .before .before .before .before .before .before .before .before .before .before .before .before .before .loop-test .taken) in
+    let ticking = sym (c .before .before .before .before .before .before .before .before .before .before .before .before .before .before .before .is-ticking .ensures) ∙ c .before .before .before .before .before .before .before .before .before .before .before .before .before .before .if3 .taken in
+    ( rw next (ticks-turn (c .before .before .before .before .before .before .before .before .before .before .before .before .before .before .before .before .before .before .before .before .loop .inv .0) (c .before .before .before .before .before .before .before .before .before .before .before .before .before .before .before .before .before .before .before .loop-test .taken) ticking _ (c .before .before .before .before .before .before .before .before .before .before .before .before .before .before .before .before .body-at .ensures .0) _ (c .before .before .before .before .before .before .before .before .before .before .before .before .before .ticks-of .ensures .0) _ (c .before .before .before .before .before .before .before .before .before .before .before .before .clock-after .ensures) _ _ _ _ (c .before .before .before .before .before .before .before .before .ticks .ensures) (search needs) (c .before .before .before .before .before .before .before .before .ticks .kept .1 .1 .0))
+    , ap (λ (b : Bool). b || c .before .before .before .before .before .watch-ticks .result .on) (c .before .before .before .is-running2 .ensures)
+    , rw (next, c .before .before .before .before .before .watch-ticks .ensures) (ticks-watched (c .before .before .before .before .before .before .before .before .before .before .before .before .before .before .before .before .before .before .before .before .loop .inv .2) (c .before .before .before .before .before .before .before .before .before .before .before .before .before .before .before .before .before .before .before .loop-test .taken) ticking _ (c .before .before .before .before .before .before .before .before .before .before .before .before .before .before .before .before .body-at .ensures .0) _ (c .before .before .before .before .before .before .before .before .before .before .before .before .before .ticks-of .ensures .0) (c .before .before .before .before .before .before .before .before .before .before .before .before .before .ticks-of .ensures .1) _ (c .before .before .before .before .before .before .before .before .before .before .before .before .clock-after .ensures) _ _ _ _ (c .before .before .before .before .before .before .before .before .ticks .ensures)))
 
 -- src/lib.rt:374:13
 cast-step : tie.Need-cast-step Inv-loop μ-loop
-cast-step c = search needs
+cast-step c = omega (arith, c .before .before .before .before .before .body-at .ensures .1)
 
 -- src/lib.rt:365:13
 step-requires : tie.Need-step-requires Inv-loop μ-loop
@@ -173,7 +212,7 @@ step-requires c κs = search needs
 
 -- src/lib.rt:377:9
 put-requires-3 : tie.Need-put-requires-3 Inv-loop μ-loop
-put-requires-3 c κs = search needs
+put-requires-3 c κs = finds-room (c .before .before .before .before .before .before .before .before .before .before .before .before .before .loop .inv .0) (c .before .before .before .before .before .before .before .before .before .before .before .before .loop-test .taken) _ (c .before .before .before .step .ensures ∙ ap (applied _ _ _ _) (c .before .before .before .before .before .before .before .before .before .body-at .ensures .0))
 
 -- src/lib.rt:378:9
 watch-event-requires : tie.Need-watch-event-requires Inv-loop μ-loop
@@ -189,7 +228,9 @@ cast-ticks-2 c = search needs
 
 -- src/lib.rt:382:9
 add-ticks-2 : tie.Need-add-ticks-2 Inv-loop μ-loop
-add-ticks-2 c = search needs
+add-ticks-2 c =
+    let t : c .before .before .before .before .before .before .before .before .before .before .before .before .step .result .ticks < 4294967296 = search needs in
+    omega (arith, c .before .before .before .before .before .before .before .before .before .before .before .before .before .before .before .before .before .before .before .before .before .before .loop .inv .0 .few, c .before .before .before .before .before .before .before .before .before .before .before .before .before .before .before .before .before .before .before .before .before .before .loop .inv .0 .inside, c .before .before .before .before .before .before .before .before .before .before .before .before .before .before .before .before .before .before .before .before .before .before .loop .inv .0 .short)
 
 -- src/lib.rt:383:9
 next-at-requires-3 : tie.Need-next-at-requires-3 Inv-loop μ-loop
@@ -197,11 +238,19 @@ next-at-requires-3 c κs = search needs
 
 -- src/lib.rt:328:5
 loop-less-5 : tie.Need-loop-less-5 Inv-loop μ-loop
-loop-less-5 c = search needs
+loop-less-5 c =
+    let next : c .next-at3 .result ≡ nextAt (c .before .before .before .before .before .before .before .before .before .before .before .before .before .before .before .before .before .before .before .before .before .before .before .before .before .before .before .before .before .before .before .before .before .args .script .now) (c .before .before .before .before .before .before .before .before .before .before .before .before .before .before .before .before .before .before .before .before .before .before .before .loop .at) = c .next-at3 .ensures ∙ step-inside (c .before .before .before .before .before .before .before .before .before .before .before .before .before .before .before .before .before .before .before .before .before .before .before .before .before .before .before .before .before .before .before .before .before .args .script .now) (c .before .before .before .before .before .before .before .before .before .before .before .before .before .before .before .before .before .before .before .before .before .before .before .loop .at) (c .before .before .before .before .before .before .before .before .before .before .before .before .before .before .before .before .before .before .before .before .before .before .loop-test .taken) in
+    omega (arith, next, c .before .before .before .before .before .before .before .before .before .before .before .before .before .before .before .before .before .before .before .before .before .before .loop-test .taken)
 
 -- src/lib.rt:328:5
 loop-again-5 : tie.Need-loop-again-5 Inv-loop μ-loop
-loop-again-5 c = search needs
+loop-again-5 c =
+    let next : c .next-at3 .result ≡ nextAt (c .before .before .before .before .before .before .before .before .before .before .before .before .before .before .before .before .before .before .before .before .before .before .before .before .before .before .before .before .before .before .before .before .before .args .script .now) (c .before .before .before .before .before .before .before .before .before .before .before .before .before .before .before .before .before .before .before .before .before .before .before .loop .at) = c .next-at3 .ensures ∙ step-inside (c .before .before .before .before .before .before .before .before .before .before .before .before .before .before .before .before .before .before .before .before .before .before .before .before .before .before .before .before .before .before .before .before .before .args .script .now) (c .before .before .before .before .before .before .before .before .before .before .before .before .before .before .before .before .before .before .before .before .before .before .before .loop .at) (c .before .before .before .before .before .before .before .before .before .before .before .before .before .before .before .before .before .before .before .before .before .before .loop-test .taken) in
+    let other = sym (c .before .before .before .before .before .before .before .before .before .before .before .before .before .before .before .before .before .before .is-ticking .ensures) ∙ c .before .before .before .before .before .before .before .before .before .before .before .before .before .before .before .before .before .if3 .left in
+    let does = c .before .before .before .before .before .before .before .before .before .before .before .before .before .step .ensures ∙ ap (applied _ _ _ _) (c .before .before .before .before .before .before .before .before .before .before .before .before .before .before .before .before .before .before .before .body-at .ensures .0) in
+    ( rw next (turns (c .before .before .before .before .before .before .before .before .before .before .before .before .before .before .before .before .before .before .before .before .before .before .before .loop .inv .0) (c .before .before .before .before .before .before .before .before .before .before .before .before .before .before .before .before .before .before .before .before .before .before .loop-test .taken) (not-ticking (getD (c .before .before .before .before .before .before .before .before .before .before .before .before .before .before .before .before .before .before .before .before .before .before .before .before .before .before .before .before .before .before .before .before .before .args .script .now) (c .before .before .before .before .before .before .before .before .before .before .before .before .before .before .before .before .before .before .before .before .before .before .before .loop .at) 0) other .not-stamp) _ _ _ does (c .before .before .before .before .before .before .before .before .before .put3 .ensures) (search needs) (c .before .before .before .before .before .before .before .before .before .before .before .before .before .step .kept .1 .1 .1 .1 .0) (c .before .before .before .before .before .before .before .before .before .put3 .kept .0))
+    , ap (λ (b : Bool). b || c .before .before .before .before .before .before .watch-event .result .on) (c .before .before .before .before .is-running3 .ensures)
+    , rw (next, c .before .before .before .before .before .before .watch-event .ensures) (event-watched (c .before .before .before .before .before .before .before .before .before .before .before .before .before .before .before .before .before .before .before .before .before .before .before .loop .inv .2) (c .before .before .before .before .before .before .before .before .before .before .before .before .before .before .before .before .before .before .before .before .before .before .loop-test .taken) other _ _ _ _ _ _ _ does))
 
 -- src/lib.rt:387:14
 finished-requires : tie.Need-finished-requires Inv-loop μ-loop
@@ -209,15 +258,15 @@ finished-requires c κs = search needs
 
 -- src/lib.rt:297:1
 same-length : tie.Need-same-length Inv-loop μ-loop
-same-length c = search needs
+same-length c = c .before .before .before .loop .inv .0 .memory
 
 -- src/lib.rt:297:1
 same-length-2 : tie.Need-same-length-2 Inv-loop μ-loop
-same-length-2 c = search needs
+same-length-2 c = c .before .before .before .loop .inv .0 .output
 
 -- src/lib.rt:297:1
 returns : tie.Need-returns Inv-loop μ-loop
-returns c = search needs
+returns c = (rw (c .finished .ensures) (ends (c .before .before .before .loop .inv .0) (c .before .before .loop-test .left)), reports (c .before .before .before .loop .inv .2) (c .before .before .loop-test .left))
 
 pub play-spec : {M : Type 1} → statement M
 play-spec =

@@ -1,3 +1,6 @@
+use mathlib.Core.Path.{refl, sym, _∙_}
+use Rattle.margins.specs.Margins.{allowed}
+use Rattle.script.specs.ReportLaws.{answer-with, memory-with, output-with}
 use borrow.Author.Needs.{needs}
 use Rattle.script.proofs.run.Statement.{statement}
 use Rattle.script.proofs.run.Tie as tie
@@ -40,7 +43,8 @@ same-length-2 c = search needs
 
 -- src/lib.rt:492:1
 returns : tie.Need-returns
-returns c = search needs
+unfolding allowed
+returns c = (c .before .before .before .before .before .run-with-report .ensures .0 ∙ answer-with _ _ _ _ _ _ refl, c .before .before .before .before .before .run-with-report .ensures .1 ∙ memory-with _ _ _ _ _ _ refl, c .before .before .before .before .before .run-with-report .ensures .2 ∙ output-with _ _ _ _ _ _ refl)
 
 pub run-spec : {M : Type 1} → statement M
 run-spec =

@@ -1,3 +1,4 @@
+use Rattle.script.specs.WatchLaws.{clock-as}
 use Prim.Native.Nat.{ℕ, _≤_, _<_, _+_, _*_, _-_}
 use mathlib.Core.Bool.{true, _&&_}
 use mathlib.Core.Path.{_≡_, refl, sym, _∙_, ap}
@@ -135,11 +136,10 @@ loop-again-2 c =
     let at = c .before .before .before .before .before .before .before .before .before .before .loop .at in
     let z : faultBy (c .before .before .before .before .before .before .before .before .before .before .loop .clock) (eventAt s at) ≡ 0 = sym (c .before .before .before .before .before .before .fault-at .ensures) ∙ c .before .before .before .before .before .if2 .left in
     let next : c .next-at .result ≡ nextAt s at = c .next-at .ensures ∙ step-inside s at (c .before .before .before .before .before .before .before .before .before .loop-test .taken) in
-    let on : clockAfter (c .before .before .before .before .before .before .before .before .before .before .loop .clock) (eventAt s at) ≡ c .before .before .clock-after .result = ?
-    in (
-      omega (arith, next, good-event s at (clean-event _ _ z .as-written) .inside),
+    let on : c .before .before .clock-after .result ≡ clockAfter (c .before .before .before .before .before .before .before .before .before .before .loop .clock) (eventAt s at) = c .before .before .clock-after .ensures ∙ ap (clockBy (c .before .before .before .before .before .before .before .before .before .before .loop .clock) (getD s at 0)) (c .before .before .before .body-at .ensures .0) ∙ clock-as (c .before .before .before .before .before .before .before .before .before .before .loop .clock) s at in (
+      omega (arith, next, good-event s at (clean-event (c .before .before .before .before .before .before .before .before .before .before .loop .clock) (eventAt s at) z .as-written) .inside),
       omega (arith, next, c .before .room-of2 .ensures .1, c .before .before .before .before .before .before .before .before .before .before .loop .inv .1),
-      c .before .before .before .before .before .before .before .before .before .before .loop .inv .2 ∙ firstBad-later (c .before .before .before .before .before .before .before .before .before .before .loop .clock) s at (c .before .before .before .before .before .before .before .before .before .loop-test .taken) z ∙ (λ i. firstBad (on i) (eventsFrom s (next (~ i)))),
+      c .before .before .before .before .before .before .before .before .before .before .loop .inv .2 ∙ firstBad-later (c .before .before .before .before .before .before .before .before .before .before .loop .clock) s at (c .before .before .before .before .before .before .before .before .before .loop-test .taken) z ∙ (λ i. firstBad (sym on i) (eventsFrom s (sym next i))),
       c .before .before .before .before .before .before .before .before .before .before .loop .inv .3 ∙ ap (λ (r : ℕ). c .before .before .before .before .before .before .before .before .before .before .loop .space + r) (room-more s at (c .before .before .before .before .before .before .before .before .before .loop-test .taken)) ∙ rw (next, c .before .room-of2 .ensures .0) (sym (add-assoc _ _ _)),
     )
 
