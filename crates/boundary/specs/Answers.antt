@@ -12,7 +12,11 @@ use Rattle.chip.specs.Record.{recordBytes, longestRecord}
 use Rattle.event.specs.declared.Answer.{Answer}
 use Rattle.event.specs.Alone as alone
 use Rattle.script.specs.declared.Ran.{Ran}
+use Rattle.margins.specs.declared.Allowances.{Allowances}
+use Rattle.margins.specs.declared.Report.{Report}
+use Rattle.margins.specs.Margins.{allowed}
 use Rattle.script.specs.Run as script
+use Rattle.script.specs.Report as script-report
 use Rattle.sfdp.specs.declared.Found.{Found}
 use Rattle.boundary.specs.declared.ChipNumbers.{ChipNumbers}
 use Rattle.boundary.specs.declared.EventNumbers.{EventNumbers}
@@ -75,6 +79,26 @@ runMemory c m area s out = cond (isState c) (script.memoryOf (chipOf c) m area s
 
 unfoldable pub runOutput : ChipNumbers → List ℕ → List ℕ → List ℕ → List ℕ → List ℕ
 runOutput c m area s out = cond (isState c) (script.outputOf (chipOf c) m area s out) out
+
+-- ---- a run with a margin report
+
+-- which number refuses numbers that are no state: an allowance out of range before all else
+unfoldable pub noStateReport : Allowances → ℕ → ℕ → ℕ
+noStateReport a n extent = cond (allowed a) (noState n extent) 18
+
+-- the whole answer, the memory, the output and the report afterwards
+unfoldable pub reportRunOf : Allowances → ChipNumbers → List ℕ → List ℕ → List ℕ → List ℕ → RunNumbers
+reportRunOf a c m area s out =
+    cond (isState c) (runNumbers c (script-report.answerWith a (chipOf c) m area s out)) (refusedRun c (noStateReport a (length m) (length area)) 0)
+
+unfoldable pub reportMemory : Allowances → ChipNumbers → List ℕ → List ℕ → List ℕ → List ℕ → List ℕ
+reportMemory a c m area s out = cond (isState c) (script-report.memoryWith a (chipOf c) m area s out) m
+
+unfoldable pub reportOutput : Allowances → ChipNumbers → List ℕ → List ℕ → List ℕ → List ℕ → List ℕ
+reportOutput a c m area s out = cond (isState c) (script-report.outputWith a (chipOf c) m area s out) out
+
+unfoldable pub reportNumbers : Allowances → Report → ChipNumbers → List ℕ → List ℕ → List ℕ → List ℕ → Report
+reportNumbers a r c m area s out = cond (isState c) (script-report.reportOf a r (chipOf c) m area s out) r
 
 -- ---- an SFDP area
 

@@ -17,12 +17,15 @@ use Rattle.legal.specs.Legal.{legal}
 use Rattle.event.specs.declared.Answer.{Answer}
 use Rattle.event.specs.Alone as alone
 use Rattle.script.specs.declared.Ran.{Ran}
+use Rattle.margins.specs.declared.Allowances.{Allowances}
+use Rattle.margins.specs.declared.Report.{Report}
 use Rattle.script.specs.Run as script
+use Rattle.script.specs.Report as script-report
 use Rattle.boundary.specs.declared.ChipNumbers.{ChipNumbers}
 use Rattle.boundary.specs.declared.EventNumbers.{EventNumbers}
 use Rattle.boundary.specs.declared.RunNumbers.{RunNumbers}
 use Rattle.boundary.specs.Numbers.{kindNumber, kindValue, kindOf, flagNumber, flagOf, isStateOf, isState, chipOf, numbersOf, legalNumbers}
-use Rattle.boundary.specs.Answers.{noState, refusedEvent, doneEvent, eventNumbers, eventOf, eventMemory, refusedRun, doneRun, runNumbers, runOf, runMemory, runOutput}
+use Rattle.boundary.specs.Answers.{noState, refusedEvent, doneEvent, eventNumbers, eventOf, eventMemory, refusedRun, doneRun, runNumbers, runOf, runMemory, runOutput, noStateReport, reportRunOf, reportMemory, reportOutput, reportNumbers}
 
 -- ---- a chip comes back from its numbers
 
@@ -243,6 +246,45 @@ module _ (c : ChipNumbers) (m area s out : List ℕ) where
   unfolding runOutput
   run-output-state h o is e p =
       p ∙ ap (λ (x : Chip). script.outputOf x m area s out) e ∙ sym (cond-yes (isState c) (script.outputOf (chipOf c) m area s out) out is)
+
+-- ---- a run with a margin report
+
+module _ (l : Allowances) (c : ChipNumbers) (m area s out : List ℕ) where
+  -- numbers that are no state: refused, and all as it was
+  module _ (over : isState c ≡ false) where
+    pub report-run-no-state : (v : ℕ) (r : RunNumbers) → v ≡ noStateReport l (length m) (length area) → r ≡ refusedRun c v 0 → r ≡ reportRunOf l c m area s out
+    unfolding reportRunOf
+    report-run-no-state v r e p = p ∙ ap (λ (n : ℕ). refusedRun c n 0) e ∙ sym (cond-no (isState c) _ _ over)
+
+    pub report-memory-no-state : m ≡ reportMemory l c m area s out
+    unfolding reportMemory
+    report-memory-no-state = sym (cond-no (isState c) _ _ over)
+
+    pub report-output-no-state : out ≡ reportOutput l c m area s out
+    unfolding reportOutput
+    report-output-no-state = sym (cond-no (isState c) _ _ over)
+
+    pub report-no-state : (r : Report) → r ≡ reportNumbers l r c m area s out
+    unfolding reportNumbers
+    report-no-state r = sym (cond-no (isState c) _ _ over)
+
+  -- otherwise what the run answers for the chip that they mean
+  module _ (h : Chip) (is : isState c ≡ true) (e : h ≡ chipOf c) where
+    pub report-run-state : (a : Ran) (r : RunNumbers) → a ≡ script-report.answerWith l h m area s out → r ≡ runNumbers c a → r ≡ reportRunOf l c m area s out
+    unfolding reportRunOf
+    report-run-state a r q p = p ∙ ap (runNumbers c) (q ∙ ap (λ (x : Chip). script-report.answerWith l x m area s out) e) ∙ sym (cond-yes (isState c) _ _ is)
+
+    pub report-memory-state : (z : List ℕ) → z ≡ script-report.memoryWith l h m area s out → z ≡ reportMemory l c m area s out
+    unfolding reportMemory
+    report-memory-state z p = p ∙ ap (λ (x : Chip). script-report.memoryWith l x m area s out) e ∙ sym (cond-yes (isState c) _ _ is)
+
+    pub report-output-state : (z : List ℕ) → z ≡ script-report.outputWith l h m area s out → z ≡ reportOutput l c m area s out
+    unfolding reportOutput
+    report-output-state z p = p ∙ ap (λ (x : Chip). script-report.outputWith l x m area s out) e ∙ sym (cond-yes (isState c) _ _ is)
+
+    pub report-state : (r z : Report) → z ≡ script-report.reportOf l r h m area s out → z ≡ reportNumbers l r c m area s out
+    unfolding reportNumbers
+    report-state r z p = p ∙ ap (λ (x : Chip). script-report.reportOf l r x m area s out) e ∙ sym (cond-yes (isState c) _ _ is)
 
 -- ---- on the numbers of a chip, the answers are those of the chip
 

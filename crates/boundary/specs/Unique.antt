@@ -8,6 +8,8 @@ use Rattle.part.specs.Area.{ownArea}
 use Rattle.chip.specs.Chip.{fresh}
 use Rattle.sfdp.specs.Reader.{foundOf}
 use Rattle.writer.specs.Writer.{answerOf, outputOf}
+use Rattle.margins.specs.declared.Allowances.{Allowances}
+use Rattle.margins.specs.declared.Report.{Report}
 use Rattle.boundary.specs.declared.ChipNumbers.{ChipNumbers}
 use Rattle.boundary.specs.declared.EventNumbers.{EventNumbers}
 use Rattle.boundary.specs.declared.RunNumbers.{RunNumbers}
@@ -15,7 +17,7 @@ use Rattle.boundary.specs.declared.TableNumbers.{TableNumbers}
 use Rattle.boundary.specs.declared.AreaNumbers.{AreaNumbers}
 use Rattle.boundary.specs.declared.WrittenNumbers.{WrittenNumbers}
 use Rattle.boundary.specs.Numbers.{numbersOf, legalNumbers}
-use Rattle.boundary.specs.Answers.{eventOf, eventMemory, runOf, runMemory, runOutput, tableNumbers, areaNumbers, writtenNumbers}
+use Rattle.boundary.specs.Answers.{eventOf, eventMemory, runOf, runMemory, runOutput, reportRunOf, reportMemory, reportOutput, reportNumbers, tableNumbers, areaNumbers, writtenNumbers}
 
 pub chip-fresh-unique : (status : ℕ) (r r′ : ChipNumbers) → r ≡ numbersOf (fresh status) → r′ ≡ numbersOf (fresh status) → r ≡ r′
 chip-fresh-unique status r r′ h h′ = same h h′
@@ -36,6 +38,13 @@ pub chip-run-unique : (c : ChipNumbers) (m area s out : List ℕ) (r r′ : RunN
     → (r′ ≡ runOf c m area s out) × (z′ ≡ runMemory c m area s out) × (o′ ≡ runOutput c m area s out)
     → (r ≡ r′) × (z ≡ z′) × (o ≡ o′)
 chip-run-unique c m area s out r r′ z z′ o o′ h h′ = (same (h .0) (h′ .0), same (h .1) (h′ .1), same (h .2) (h′ .2))
+
+-- `chip_run_report`: r the answer, z the memory, o the output and p the report at exit
+pub chip-run-report-unique : (l : Allowances) (c : ChipNumbers) (m area s out : List ℕ) (p₀ : Report) (r r′ : RunNumbers) (z z′ o o′ : List ℕ) (p p′ : Report)
+    → (r ≡ reportRunOf l c m area s out) × (z ≡ reportMemory l c m area s out) × (o ≡ reportOutput l c m area s out) × (p ≡ reportNumbers l p₀ c m area s out)
+    → (r′ ≡ reportRunOf l c m area s out) × (z′ ≡ reportMemory l c m area s out) × (o′ ≡ reportOutput l c m area s out) × (p′ ≡ reportNumbers l p₀ c m area s out)
+    → (r ≡ r′) × (z ≡ z′) × (o ≡ o′) × (p ≡ p′)
+chip-run-report-unique l c m area s out p₀ r r′ z z′ o o′ p p′ h h′ = (same (h .0) (h′ .0), same (h .1) (h′ .1), same (h .2) (h′ .2), same (h .3) (h′ .3))
 
 pub sfdp-find-unique : (area : List ℕ) (identity : ℕ) (r r′ : TableNumbers)
     → r ≡ tableNumbers (foundOf area identity) → r′ ≡ tableNumbers (foundOf area identity) → r ≡ r′

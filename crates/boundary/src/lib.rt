@@ -11,7 +11,7 @@ ghost use Rattle.chip.specs.Chip.{fresh};
 ghost use Rattle.sfdp.specs.Reader.{foundOf};
 ghost use Rattle.writer.specs.Writer.{answerOf, outputOf};
 ghost use Rattle.boundary.specs.Numbers.{kindOf, kindNumber, kindValue, flagNumber, isStateOf, chipOf, numbersOf, legalNumbers};
-ghost use Rattle.boundary.specs.Answers.{padded, noState, refusedEvent, doneEvent, eventOf, eventMemory, refusedRun, doneRun, runOf, runMemory, runOutput, tableNumbers, areaNumbers, writtenNumbers};
+ghost use Rattle.boundary.specs.Answers.{padded, noState, refusedEvent, doneEvent, eventOf, eventMemory, refusedRun, doneRun, runNumbers, runOf, runMemory, runOutput, noStateReport, reportRunOf, reportMemory, reportOutput, reportNumbers, tableNumbers, areaNumbers, writtenNumbers};
 use chip::Chip;
 use chip::Core;
 use chip::Frame;
@@ -19,6 +19,8 @@ use chip::Job;
 use chip::JobKind;
 use chip::Record;
 use event::Answer;
+use margins::Allowances;
+use margins::Report;
 use part::Part;
 use script::Ran;
 
@@ -74,6 +76,13 @@ pub struct RunNumbers {
     pub offset: usize,
     pub written: usize,
     pub ticks: u64,
+}
+
+// The answer to a script run with a margin report, and the report afterwards.
+#[repr(C)]
+pub struct ReportedNumbers {
+    pub run: RunNumbers,
+    pub report: Report,
 }
 
 // Where a parameter table stands in an SFDP area: its place and its length in bytes, both 0 if refused.
@@ -318,6 +327,26 @@ fn run_done(a: Ran) -> RunNumbers
     }
 }
 
+// The answer to a run on the chip that some numbers mean: refused, these numbers come back.
+fn run_numbers(given: ChipNumbers, a: Ran) -> RunNumbers
+    ensures { λ r. ⌜ r ≡ runNumbers given a ⌝ }
+{
+    if a.refusal != 0 {
+        return refuse_run(given, a.refusal, a.offset);
+    }
+    run_done(a)
+}
+
+// What refuses a run with a report on numbers that are no state: an allowance before all else.
+fn no_state_report(n: usize, extent: usize, allowances: Allowances) -> u8
+    ensures { λ r. ⌜ r ≡ noStateReport allowances n extent ⌝ }
+{
+    if !margins::are_allowed(allowances) {
+        return 18;
+    }
+    no_state(n, extent)
+}
+
 // The numbers of a fresh chip, from any status byte.
 #[no_mangle]
 pub extern "C" fn chip_fresh(status: u8) -> ChipNumbers
@@ -397,11 +426,39 @@ pub extern "C" fn chip_run(
     if !is_state(c.flags, c.kind) {
         return refuse_run(c, no_state(mem.len(), area.len()), 0);
     }
-    let a = script::run(chip_of(c), mem, area, script, out);
-    if a.refusal != 0 {
-        return refuse_run(c, a.refusal, a.offset);
+    run_numbers(c, script::run(chip_of(c), mem, area, script, out))
+}
+
+// A script run with a margin report, for every state, memory, area, script, output, allowances and report.
+#[no_mangle]
+pub extern "C" fn chip_run_report(
+    c: ChipNumbers,
+    mem: &mut [u8],
+    area: &[u8],
+    script: &[u8],
+    out: &mut [u8],
+    allowances: Allowances,
+    report: Report,
+) -> ReportedNumbers
+    ensures { λ r. ⌜ (r .run ≡ reportRunOf allowances c (now (mem .entry)) (now (area .entry)) (now (script .entry)) (now (out .entry)))
+        × (now (mem .exit) ≡ reportMemory allowances c (now (mem .entry)) (now (area .entry)) (now (script .entry)) (now (out .entry)))
+        × (now (out .exit) ≡ reportOutput allowances c (now (mem .entry)) (now (area .entry)) (now (script .entry)) (now (out .entry)))
+        × (r .report ≡ reportNumbers allowances report c (now (mem .entry)) (now (area .entry)) (now (script .entry)) (now (out .entry))) ⌝ }
+{
+    if !is_state(c.flags, c.kind) {
+        let number = no_state_report(mem.len(), area.len(), allowances);
+        return ReportedNumbers {
+            run: refuse_run(c, number, 0),
+            report: report,
+        };
     }
-    run_done(a)
+    let a = script::run_with_report(chip_of(c), mem, area, script, out, allowances, report);
+    let ran = a.ran;
+    let counted = a.report;
+    ReportedNumbers {
+        run: run_numbers(c, ran),
+        report: counted,
+    }
 }
 
 // Where the parameter table of an identity stands in an SFDP area, or what refuses it.
