@@ -9,3 +9,4 @@ pub mod Commands
 pub mod Jobs
 pub mod Words
 pub mod Programming
+pub mod Reporting
