@@ -69,7 +69,7 @@ impl Session<'_> {
         let too_long = vec![4; LONGEST + 1];
         for script in [vec![], good, unknown, unfinished, out_of_range, too_long] {
             let spare = self.rng.pick(&[0, -1, 3]);
-            steps.push(Step::Run { script, spare, length: None });
+            steps.push(self.any_run(script, spare));
         }
         for step in steps {
             let answer = self.step(step)?;
@@ -88,7 +88,8 @@ impl Session<'_> {
         let scripts: [&[u8]; 7] =
             [&[], &[1, 2, 5, 3, 0], &[1, 2, 5, 3], &[0x80], &[8, 1], &[5, 0], &[4; LONGEST + 1]];
         let script = self.rng.pick(&scripts).to_vec();
-        self.step(Step::Run { script, spare: -1, length }).map(|_| ())
+        let allowances = self.some_allowances();
+        self.step(Step::Run { script, spare: -1, length, allowances }).map(|_| ())
     }
 
     /// A step that is refused, or at least asks to be.
