@@ -134,7 +134,7 @@ impl<'a> Bench<'a> {
         let (expected, length) = (Expected::fresh(0), LENGTHS[0]);
         let (memory, output, due) = (vec![0; MEMORY_AREA], vec![0; OUTPUT_AREA], Vec::new());
         let (sfdp, area_length) = (vec![0; SFDP_AREA], 0);
-        let (scratch, differs) = (vec![0; LENGTHS[5]], true);
+        let (scratch, differs) = (vec![0; MEMORY_AREA], true);
         let (report, jobs) = (margins::EMPTY, Vec::new());
         Bench {
             expected,

@@ -53,13 +53,6 @@ pub enum Step {
     Script(Programming, Use),
 }
 
-impl Step {
-    /// A plain run over the case's memory.
-    pub fn run(script: Vec<u8>, spare: i64) -> Step {
-        Step::Run { script, spare, length: None, allowances: None }
-    }
-}
-
 /// What a script that is written is used for.
 #[derive(Clone, Copy, Debug, PartialEq)]
 pub enum Use {

@@ -33,6 +33,8 @@ mod plan_areas;
 mod plan_deselects;
 mod plan_programming;
 mod plan_protection;
+mod plan_reports;
+mod plan_stamps;
 mod plan_waits;
 mod programming;
 mod programming_coverage;

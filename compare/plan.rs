@@ -15,6 +15,8 @@ impl Session<'_> {
     pub fn planned(&mut self) -> Outcome {
         self.fresh_states()?;
         self.deselects()?;
+        self.stamps()?;
+        self.reports()?;
         self.waits()?;
         self.areas()?;
         self.script_writer()?;

@@ -204,8 +204,8 @@ impl Session<'_> {
     }
 
     /// Events of a kind, alone, by value and lent, with every body: from 8 on a deselect is refused
-    /// by 6, and 08h by 5 whatever its body; both leave the open frame as it is.
-    fn bodies_alone(&mut self, kind: u64) -> Outcome {
+    /// by 6, and any other kind here by 5 whatever its body; both leave the open frame as it is.
+    pub fn bodies_alone(&mut self, kind: u64) -> Outcome {
         self.open_fresh(LENGTHS[0], 0)?;
         for body in (0..=300).chain(WIDE) {
             for lent in [false, true] {
@@ -233,7 +233,7 @@ impl Session<'_> {
     }
 
     /// Holds an answer to the refusal and the offset that are due.
-    fn hold_refusal(&self, answer: &Answer, refusal: u8, offset: u64) -> Outcome {
+    pub fn hold_refusal(&self, answer: &Answer, refusal: u8, offset: u64) -> Outcome {
         if (answer.refusal, answer.offset) == (refusal, offset) {
             return Ok(());
         }
@@ -262,7 +262,7 @@ impl Session<'_> {
     }
 
     /// A script that is refused whatever its room, with a frame open and without one.
-    fn refused_script(&mut self, script: &[u8], refusal: u8, offset: u64) -> Outcome {
+    pub fn refused_script(&mut self, script: &[u8], refusal: u8, offset: u64) -> Outcome {
         for spare in [-1, 0, 5] {
             let step = self.any_run(script.to_vec(), spare);
             let answer = self.step(step)?;

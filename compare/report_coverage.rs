@@ -36,8 +36,9 @@ const FATES: [&str; 9] = [
 ];
 
 /// What cannot become of a write status, which B0h does not suspend and which is turned away in
-/// suspension.
-const NOT_OF_STATUS: [&str; 5] = [
+/// suspension: it uses one tick.
+const NOT_OF_STATUS: [&str; 6] = [
+    "margin below -1",
     "ended in the wait",
     "begun in suspension, ended",
     "dropped by another",

@@ -192,7 +192,7 @@ impl StampCoverage {
                 }
             }
             Step::Run { script, spare, allowances, .. } if answer.refusal != 0 => {
-                self.note_refused(before, script, *spare, answer);
+                self.note_refused(script, *spare, answer);
                 if answer.refusal == 8 {
                     self.note_back(before, script, answer, usize::from(allowances.is_some()));
                 }
@@ -202,10 +202,12 @@ impl StampCoverage {
     }
 
     /// Takes note of a script that was refused.
-    fn note_refused(&mut self, before: &Chip, script: &[u8], spare: i64, answer: &Answer) {
+    fn note_refused(&mut self, script: &[u8], spare: i64, answer: &Answer) {
         let (refusal, offset) = (answer.refusal, answer.offset as usize);
-        let (events, mut clock) = (events_of(&script[..offset]).0, Clock::default());
-        events.iter().for_each(|event| drop(clock.seen(*event)));
+        let mut clock = Clock::default();
+        for event in events_of(&script[..offset]).0 {
+            clock.seen(event);
+        }
         let refused = Refused { refusal, bytes: &script[offset..], clock, spare };
         if matches!(refusal, 4..=6 | 8) {
             for ((_, has), count) in ORDER.iter().zip(&mut self.order) {
@@ -222,7 +224,7 @@ impl StampCoverage {
             "stamp that went back, the last of 65,536 bytes, 8",
             refusal == 8 && script.len() == LONGEST && offset == LONGEST - 3,
         );
-        self.last_refused = last_stamp(script).filter(|_| before.job.is_none());
+        self.last_refused = last_stamp(script);
     }
 
     /// Takes note of a stamp that went back in a run of one of the two forms.
