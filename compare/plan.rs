@@ -7,6 +7,7 @@ use crate::commands::{Command, COMMANDS, UNKNOWN};
 use crate::event::{events_of, frame_of, kind, script_of, Event, LONGEST};
 use crate::generate::Writer;
 use crate::image::Edit;
+use crate::margins::LARGEST;
 use crate::session::{Outcome, Session};
 use crate::states;
 
@@ -36,6 +37,10 @@ impl Session<'_> {
             self.broken_states(*length)?;
         }
         self.scripts_run()?;
+        self.long_scripts_with_stamps()?;
+        for allowance in [0, LARGEST] {
+            self.latest_jobs(allowance)?;
+        }
         self.limits(LENGTHS[0])?;
         self.limits(LENGTHS[5])
     }

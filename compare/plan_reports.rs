@@ -141,11 +141,7 @@ impl Session<'_> {
         }
         self.many_jobs()?;
         self.carried_report()?;
-        self.refused_reports()?;
-        for allowance in [0, LARGEST] {
-            self.latest_jobs(allowance)?;
-        }
-        Ok(())
+        self.refused_reports()
     }
 
     /// Runs lines with allowances and holds the report after them to the one that is due.
@@ -369,7 +365,7 @@ impl Session<'_> {
     /// The latest jobs that a script of 65,536 bytes can have: a chip erase of the real part that is
     /// suspended for all of it but for what begins, suspends, resumes and ends it; it is begun in
     /// the script, or by its first event alone.
-    fn latest_jobs(&mut self, allowance: u32) -> Outcome {
+    pub fn latest_jobs(&mut self, allowance: u32) -> Outcome {
         let rows: [(&str, &str, u64, u64); 2] = [
             ("", "frame 06\nframe 60\nframe B0", 21_837, 0),
             ("frame 06\nselect\nsend 60", "deselect\nframe B0", 21_840, 1),

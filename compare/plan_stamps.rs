@@ -135,7 +135,6 @@ impl Session<'_> {
             self.stamps_of_two_runs(allowances)?;
             self.stamps_that_went_back(allowances)?;
         }
-        self.long_scripts_with_stamps()?;
         self.bodies_alone(kind::STAMP)?;
         self.stamps_alone()
     }
@@ -235,7 +234,7 @@ impl Session<'_> {
 
     /// Scripts about the longest with stamps at both ends: done, refused by 8 at the last event, and
     /// by 3; and one of stamps alone.
-    fn long_scripts_with_stamps(&mut self) -> Outcome {
+    pub fn long_scripts_with_stamps(&mut self) -> Outcome {
         self.open_fresh(LENGTHS[0], 0)?;
         for (last, refusal) in [(6, 0), (4, 8)] {
             let mut script = vec![9, 0, 5];

@@ -2,10 +2,10 @@
 
 use crate::bench::Bench;
 use crate::case::{Case, Content, Start, Step, LENGTHS};
-use crate::clock::seen_events;
+use crate::clock::{seen_events, WENT_BACK};
 use crate::event::{events_of, kind, script_of, Event};
 use crate::image::Edit;
-use crate::margins::{Report, KINDS, NO_JOBS};
+use crate::margins::{Allowances, Report, KINDS, NO_JOBS};
 use crate::model::{Chip, Job, JobKind};
 use std::time::{Duration, Instant};
 
@@ -121,30 +121,35 @@ impl Shrinker<'_, '_> {
         }
     }
 
-    /// Makes a run a plain one or its allowances smaller, and writes the ticks of its stamps out, or
-    /// has them begin at 0.
+    /// Writes the ticks of a run's stamps out, or has the stamps begin at 0, and makes it a plain one
+    /// or its allowances smaller.
     fn plainer_run(&mut self, number: usize) -> bool {
-        let Some(Step::Run { script, spare, length, allowances }) =
+        let Some(Step::Run { script, .. }) = self.case.steps.get(number) else { return false };
+        let scripts = plainer_scripts(script);
+        let mut smaller = scripts.into_iter().any(|script| self.try_script(number, script));
+        smaller |= self.try_allowances(number, |_| None);
+        for place in 0..KINDS.len() {
+            smaller |= self.try_allowances(number, |mut numbers| {
+                numbers[place] = 0;
+                Some(numbers)
+            });
+        }
+        smaller
+    }
+
+    /// Tries a run that has allowances with others, or with none.
+    fn try_allowances(
+        &mut self,
+        number: usize,
+        others: impl Fn(Allowances) -> Option<Allowances>,
+    ) -> bool {
+        let Some(Step::Run { script, spare, length, allowances: Some(numbers) }) =
             self.case.steps.get(number).cloned()
         else {
             return false;
         };
-        let mut smaller = plainer_scripts(&script)
-            .into_iter()
-            .any(|script| self.try_step(number, Step::Run { script, spare, length, allowances }));
-        let Some(numbers) = allowances else { return smaller };
-        let mut fewer = vec![None, Some([0; KINDS.len()])];
-        fewer.extend((0..KINDS.len()).map(|place| {
-            let mut numbers = numbers;
-            numbers[place] = 0;
-            Some(numbers)
-        }));
-        for allowances in fewer {
-            let Some(Step::Run { script, .. }) = self.case.steps.get(number) else { break };
-            let script = script.clone();
-            smaller |= self.try_step(number, Step::Run { script, spare, length, allowances });
-        }
-        smaller
+        let allowances = others(numbers);
+        self.try_step(number, Step::Run { script, spare, length, allowances })
     }
 
     /// Puts single events in the place of a run.
@@ -301,9 +306,14 @@ fn plainer_reports(report: &Report) -> Vec<Report> {
     plainer.collect()
 }
 
-/// Events with the same kind and a smaller body, the smallest first.
+/// Events with the same kind and a smaller body, the smallest first; of a stamp also the least that
+/// is behind 0, and the one before it that 0 is not behind.
 fn smaller_events((kind, body): Event) -> Vec<Event> {
     let mut bodies = vec![0, 1, body / 2, body.saturating_sub(1)];
+    if kind == kind::STAMP {
+        let half = u64::from(WENT_BACK);
+        bodies = vec![0, 1, half, half + 1, body / 2, body.saturating_sub(1)];
+    }
     bodies.retain(|smaller| *smaller < body);
     bodies.dedup();
     bodies.into_iter().map(|body| (kind, body)).collect()
