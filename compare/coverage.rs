@@ -210,23 +210,7 @@ impl Coverage {
         let entry = match step {
             Step::Event { lent, .. } => usize::from(*lent),
             Step::Run { allowances, .. } => RUN + usize::from(allowances.is_some()),
-            Step::Report(_) => {
-                self.reports.note_start();
-                return 0;
-            }
-            Step::Find(identity) => {
-                self.areas.note_find(*identity);
-                return 1;
-            }
-            Step::Lend(area) => {
-                self.areas.lend(area);
-                return 0;
-            }
-            Step::Script(asked, used) => {
-                self.programmings.note_script(before, asked, *used, answer.refusal, length);
-                return 1;
-            }
-            Step::HandOver | Step::OwnArea => return 0,
+            _ => return self.note_other(before, step, answer.refusal, length),
         };
         self.note_answer(before, step, entry, answer.refusal, length);
         self.deselects.note_step(&before.chip, step, entry.min(RUN), answer);
@@ -244,6 +228,21 @@ impl Coverage {
             }
             _ => 0,
         }
+    }
+
+    /// Takes note of a step that is neither an event nor a run, and gives the number of events that
+    /// it counts as.
+    fn note_other(&mut self, before: &Expected, step: &Step, refusal: u8, length: usize) -> u64 {
+        match step {
+            Step::Find(identity) => self.areas.note_find(*identity),
+            Step::Script(asked, used) => {
+                self.programmings.note_script(before, asked, *used, refusal, length);
+            }
+            Step::Lend(area) => self.areas.lend(area),
+            Step::Report(_) => self.reports.note_start(),
+            _ => {}
+        }
+        u64::from(matches!(step, Step::Find(_) | Step::Script(..)))
     }
 
     /// Takes note of a run that was done, from the chip before it, and gives the number of its

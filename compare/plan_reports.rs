@@ -69,8 +69,15 @@ fn ways_of_ticks(steps: u32) -> Vec<String> {
 const DELAYED: [(&str, u32); 4] = [
     ("frame B0\ntick\nticks 100\nframe 30", 100),
     ("frame B0\nticks 40\nstamp 10\nstamp 60\ntick\nframe 30", 90),
-    ("tick\nframe B0\nstamp 0\nstamp 32767\nselect\nsend 05\ntick\nsend 00\ndeselect\nframe 30", 32_767),
-    ("frame B0\nstamp 7\nselect\nsend B0\nstamp 8\ndeselect\nticks 65535\nframe 30\nframe B0\nticks 3\nframe 30", 65_537),
+    (
+        "tick\nframe B0\nstamp 0\nstamp 32767\nselect\nsend 05\ntick\nsend 00\ndeselect\nframe 30",
+        32_767,
+    ),
+    (
+        "frame B0\nstamp 7\nselect\nsend B0\nstamp 8\ndeselect\nticks 65535\nframe 30\n\
+         frame B0\nticks 3\nframe 30",
+        65_537,
+    ),
 ];
 
 /// A line that is handed in, the margin of a job, if there is one, and the line after it.
@@ -181,7 +188,8 @@ impl Session<'_> {
     /// A job of a class that crosses the ends of runs counts in none of them, be it suspended there;
     /// one in the last of them does.
     fn crossing_jobs(&mut self, class: Class) -> Outcome {
-        let counted = report_of(class, line(1, 100 - steps(class) as i32, 100 - steps(class) as i32));
+        let margin = 100 - steps(class) as i32;
+        let counted = report_of(class, line(1, margin, margin));
         let whole = format!("ticks 65535\n{}\nticks 65535", begin(class));
         self.open_fresh(LENGTHS[0], 0)?;
         for stands in ["", "frame B0", "frame B0\ntick\nframe 30", "stamp 5\nstamp 5"] {
@@ -260,8 +268,7 @@ impl Session<'_> {
             let margin = 700 - steps(new) as i32 - 11;
             let due = report_of(new, line(1, margin, margin));
             let first = format!("{}\nframe B0\nticks 33", begin(old));
-            let second =
-                format!("{}\nframe B0\nticks 12\nframe 30\nticks 65535", frame(new));
+            let second = format!("{}\nframe B0\nticks 12\nframe 30\nticks 65535", frame(new));
             self.step(Step::Report(EMPTY))?;
             self.report_run(&format!("{first}\n{second}"), [700; 5], &due)?;
             self.step(Step::Report(EMPTY))?;
@@ -289,7 +296,8 @@ impl Session<'_> {
         let due = report_of(Class::WriteStatus, line(2, 4, 4));
         self.report_run(&[status.as_str(), &status].join("\n"), [5; 5], &due)?;
         let all = KINDS.map(|(_, class)| format!("{}\nticks 256", begin(class))).join("\n");
-        let due = KINDS.map(|(_, class)| line(1, 256 - steps(class) as i32, 256 - steps(class) as i32));
+        let due = KINDS.map(|(_, class)| 256 - steps(class) as i32);
+        let due = due.map(|margin| line(1, margin, margin));
         self.step(Step::Report(EMPTY))?;
         self.report_run(&all, [256; 5], &due)?;
         self.close()
@@ -374,9 +382,10 @@ impl Session<'_> {
         for (before, lines, events, single) in rows {
             self.run_form(script_of_lines(before), 0, None)?;
             self.step(Step::Report(EMPTY))?;
-            let idle = format!("repeat {events} ticks 65535\nrepeat {} tick", single.max(1));
-            let idle = if single == 0 { idle.replace("\nrepeat 1 tick", "") } else { idle };
-            let mut script = script_of_lines(&format!("{lines}\n{idle}\nframe 30\nticks 65535"));
+            let single_tick = if single > 0 { "tick" } else { "" };
+            let mut script = script_of_lines(&format!(
+                "{lines}\nrepeat {events} ticks 65535\n{single_tick}\nframe 30\nticks 65535"
+            ));
             script.resize(LONGEST, 4);
             let used = 65_535 * events + single + 8_191;
             let margin = (i64::from(allowance) - used as i64) as i32;

@@ -4,9 +4,11 @@
 use crate::areas;
 use crate::case::{Content, Start, Step, LENGTHS};
 use crate::event::{kind, LONGEST};
+use crate::margins::Allowances;
 use crate::model::Chip;
 use crate::plan_waits::without_floating;
-use crate::session::{Outcome, Session};
+use crate::session::{Failure, Outcome, Session};
+use crate::side::Answer;
 use crate::states;
 use crate::text;
 
@@ -18,7 +20,11 @@ type Row = (&'static str, &'static [u8], u64);
 const WRITTEN_OUT: [Row; 14] = [
     // The first stamp sets the clock, whatever it says.
     ("frame 06\nframe 20 00 00 00\nstamp 0", &[0x82, 1, 0x82, 2], 0),
-    ("frame 06\nframe 20 00 00 00\nstamp 65535\nframe 05 +1", &[0x82, 1, 0x82, 2, 0x81, 3, 0x82, 0], 0),
+    (
+        "frame 06\nframe 20 00 00 00\nstamp 65535\nframe 05 +1",
+        &[0x82, 1, 0x82, 2, 0x81, 3, 0x82, 0],
+        0,
+    ),
     // A later one gives what the counter moved on, an equal one nothing.
     ("frame 06\nframe 20 00 00 00\nstamp 10\nstamp 13", &[0x82, 1, 0x82, 2], 3),
     ("frame 06\nframe 20 00 00 00\nstamp 10\nstamp 10\nstamp 11", &[0x82, 1, 0x82, 2], 1),
@@ -121,7 +127,7 @@ const REFUSED: [(&[u8], u8, u64); 31] = [
 ];
 
 /// The two forms of a run: plain, and with a report.
-const FORMS: [Option<[u32; 5]>; 2] = [None, Some([300; 5])];
+const FORMS: [Option<Allowances>; 2] = [None, Some([300; 5])];
 
 impl Session<'_> {
     /// Stamps in runs, those that went back, and those alone.
@@ -131,6 +137,7 @@ impl Session<'_> {
                 self.written_run(lines, records, ticks, allowances)?;
             }
             self.moves_everywhere(allowances)?;
+            self.waits_over_by_stamps(allowances)?;
             self.places_in_frame(allowances)?;
             self.stamps_of_two_runs(allowances)?;
             self.stamps_that_went_back(allowances)?;
@@ -144,8 +151,8 @@ impl Session<'_> {
         &mut self,
         script: Vec<u8>,
         spare: i64,
-        allowances: Option<[u32; 5]>,
-    ) -> Result<crate::side::Answer, crate::session::Failure> {
+        allowances: Option<Allowances>,
+    ) -> Result<Answer, Failure> {
         self.step(Step::Run { script, spare, length: None, allowances })
     }
 
@@ -155,7 +162,7 @@ impl Session<'_> {
         lines: &str,
         records: &[u8],
         ticks: u64,
-        allowances: Option<[u32; 5]>,
+        allowances: Option<Allowances>,
     ) -> Outcome {
         self.open_fresh(LENGTHS[0], 0)?;
         let answer = self.run_form(script_of_lines(lines), 0, allowances)?;
@@ -165,7 +172,7 @@ impl Session<'_> {
     }
 
     /// Every move in every state of a job, outside a frame and inside one.
-    fn moves_everywhere(&mut self, allowances: Option<[u32; 5]>) -> Outcome {
+    fn moves_everywhere(&mut self, allowances: Option<Allowances>) -> Outcome {
         for found in FOUND {
             for frame in ["", "select\nsend 05"] {
                 for moves in MOVES {
@@ -180,9 +187,26 @@ impl Session<'_> {
         Ok(())
     }
 
+    /// The tick of a wait as the first of each number that a stamp can give, before the last step of
+    /// an erase and as the last.
+    fn waits_over_by_stamps(&mut self, allowances: Option<Allowances>) -> Outcome {
+        for moved in [1, 2, 3, 300, 32_767] {
+            for (done, status) in [(3, 0x42), (15, 0x00)] {
+                let lines = format!(
+                    "frame 06\nframe 20 00 00 00\nticks {done}\nframe B0\nstamp 65535\nstamp {}\n\
+                     frame 05 +1",
+                    moved - 1
+                );
+                let records = [0x82, 1, 0x82, 2, 0x82, 1, 0x81, status, 0x82, 0];
+                self.written_run(&lines, &records, done + 1, allowances)?;
+            }
+        }
+        Ok(())
+    }
+
     /// Stamps after each byte of a frame, whose program is begun all the same and then ended by the
     /// stamps after it.
-    fn places_in_frame(&mut self, allowances: Option<[u32; 5]>) -> Outcome {
+    fn places_in_frame(&mut self, allowances: Option<Allowances>) -> Outcome {
         let bytes = ["02", "00", "00", "00", "5A", "A5", "3C"];
         for place in 0..=bytes.len() {
             let send = |bytes: &[&str]| match bytes {
@@ -200,7 +224,7 @@ impl Session<'_> {
 
     /// The clock is not kept: the first stamp of a run gives nothing and is never behind, be it
     /// before or after the last one of the run before, or of one that was refused.
-    fn stamps_of_two_runs(&mut self, allowances: Option<[u32; 5]>) -> Outcome {
+    fn stamps_of_two_runs(&mut self, allowances: Option<Allowances>) -> Outcome {
         let rows: [(&str, u8, u64); 8] = [
             ("frame 06\nframe D8 00 00 00\nstamp 100", 0, 0),
             ("stamp 99", 0, 0),
@@ -220,7 +244,7 @@ impl Session<'_> {
     }
 
     /// Scripts that are refused, whatever their room, with a frame open and without one.
-    fn stamps_that_went_back(&mut self, allowances: Option<[u32; 5]>) -> Outcome {
+    fn stamps_that_went_back(&mut self, allowances: Option<Allowances>) -> Outcome {
         self.open_fresh(LENGTHS[0], 0)?;
         for (script, refusal, offset) in REFUSED {
             for spare in [-1, 0] {

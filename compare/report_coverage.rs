@@ -6,7 +6,8 @@ use crate::class::Class;
 use crate::event::{kind, Event, LONGEST};
 use crate::kind_table::KindTable;
 use crate::margins::{
-    last_step, margin_of, place_of, Allowances, Begun, Report, Watch, EMPTY, KINDS, LARGEST, NO_JOBS,
+    last_step, margin_of, place_of, Allowances, Begun, Report, Watch, EMPTY, KINDS, LARGEST,
+    NO_JOBS,
 };
 use crate::model::{Chip, Line, Record};
 use crate::tally::{print_cells, print_head, Tally};
@@ -229,10 +230,8 @@ impl ReportCoverage {
         }
         if let Some(class) = present.stood.filter(|_| begun.is_none() && left.is_some()) {
             self.fates.saw("stood, ended", class, true);
-            self.situations.saw(
-                "job begun in a plain run, ended in one with a report",
-                self.begun_in_plain,
-            );
+            self.situations
+                .saw("job begun in a plain run, ended in one with a report", self.begun_in_plain);
             present.stood = None;
         }
         if record == Record::Verdict(2) {
@@ -242,13 +241,7 @@ impl ReportCoverage {
     }
 
     /// Takes note of a job that is dropped by an event.
-    fn note_dropped(
-        &mut self,
-        present: &mut Present,
-        before: &Chip,
-        event: Event,
-        record: Record,
-    ) {
+    fn note_dropped(&mut self, present: &mut Present, before: &Chip, event: Event, record: Record) {
         let name = match (event.0, record, before.frame.opcode) {
             (kind::POWER_CUT, ..) => "dropped by a power cut",
             (kind::DESELECT, Record::Verdict(1), 0x99) => "dropped by a reset",
@@ -321,10 +314,7 @@ impl ReportCoverage {
         );
         tally.saw("plain run between two with a report", self.plain_between);
         tally.saw("all five kinds in one script", kinds.count() == KINDS.len());
-        tally.saw(
-            "empty script, margins of a count of 0 cleared",
-            script.is_empty() && cleared,
-        );
+        tally.saw("empty script, margins of a count of 0 cleared", script.is_empty() && cleared);
         tally.saw("script of 65,536 bytes with a report", script.len() == LONGEST);
         tally.saw(
             "stamps alone that give no ticks, a job stands",
@@ -364,7 +354,9 @@ impl ReportCoverage {
         let to_status = |name: &str| !NOT_OF_STATUS.contains(&name);
         println!("\njobs that a report counts, by margin");
         let mut faults = self.margins.report(to_status);
-        println!("\njobs in runs with a report (- cannot occur: B0h is 11, and 01h in suspension 7)");
+        println!(
+            "\njobs in runs with a report (- cannot occur: B0h is 11, and 01h in suspension 7)"
+        );
         faults += self.fates.report(to_status);
         println!("\nticks of jobs that a report counts");
         faults += self.ticks.report(to_status);

@@ -56,15 +56,8 @@ fn due_verdict(opcode: Option<u8>, chip: &Chip) -> u8 {
 }
 
 /// The events that the tick of a wait can come in; a stamp of so many ticks only in a run.
-const TICKS: [&str; 7] = [
-    "04h",
-    "05h of 1",
-    "05h of 2",
-    "05h of more",
-    "stamp of 1",
-    "stamp of 2",
-    "stamp of more",
-];
+const TICKS: [&str; 7] =
+    ["04h", "05h of 1", "05h of 2", "05h of more", "stamp of 1", "stamp of 2", "stamp of more"];
 
 /// The row of the first stamps.
 const STAMPS: usize = 4;

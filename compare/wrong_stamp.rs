@@ -163,12 +163,7 @@ fn first_back(mut clock: Clock, script: &[u8]) -> Option<(u64, u64)> {
 
 /// The refusal of a run and its offset with the fault of that number, from the last stamp of the run
 /// before, the script, and what it is refused by with ticks in the place of its stamps.
-pub fn refusal(
-    fault: usize,
-    kept: Option<u16>,
-    script: &[u8],
-    otherwise: (u8, u64),
-) -> (u8, u64) {
+pub fn refusal(fault: usize, kept: Option<u16>, script: &[u8], otherwise: (u8, u64)) -> (u8, u64) {
     let Some((offset, before)) = first_back(Clock::new(fault, kept), script) else {
         return otherwise;
     };
