@@ -329,7 +329,7 @@ impl WrongCopy {
 
     /// Runs the events of a script that the model takes, one by one, with the fault.
     fn run_events(&mut self, loan: Loan, script: &[u8]) -> Answer {
-        let stamps = self.stamp_fault().unwrap_or(usize::MAX);
+        let stamps = self.stamp_fault().unwrap_or(wrong_stamp::NO_FAULT);
         let mut clock = wrong_stamp::Clock::new(stamps, self.last_stamp);
         let (mut written, mut ticks) = (0, 0);
         self.run_began = Some(self.expected.chip.clone());
@@ -455,7 +455,7 @@ impl Side for WrongCopy {
     }
 
     fn event(&mut self, loan: Loan, event: Event, _: bool) -> Result<Answer, String> {
-        let stamps = self.stamp_fault().unwrap_or(usize::MAX);
+        let stamps = self.stamp_fault().unwrap_or(wrong_stamp::NO_FAULT);
         let event = wrong_stamp::alone(stamps, event, &self.expected.chip);
         let mut answer = self.apply(loan, event);
         if answer.refusal == 0 {
@@ -493,8 +493,9 @@ impl Side for WrongCopy {
             return Ok(Answer::to_run(18, 0, 0, 0));
         }
         self.watch = Some(watch);
-        let answer = self.run(loan, script, room)?;
+        let mut answer = self.run(loan, script, room)?;
         if let Some(watch) = self.watch.take() {
+            answer.ticks += watch.ticks_more();
             *report = watch.report_after(answer.refusal);
         }
         Ok(answer)

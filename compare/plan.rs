@@ -33,14 +33,14 @@ impl Session<'_> {
             self.some_fates(length)?;
             self.erase_walk(length)?;
         }
-        for length in &LENGTHS[1..] {
-            self.broken_states(*length)?;
-        }
-        self.scripts_run()?;
         self.long_scripts_with_stamps()?;
         for allowance in [0, LARGEST] {
             self.latest_jobs(allowance)?;
         }
+        for length in &LENGTHS[1..] {
+            self.broken_states(*length)?;
+        }
+        self.scripts_run()?;
         self.limits(LENGTHS[0])?;
         self.limits(LENGTHS[5])
     }

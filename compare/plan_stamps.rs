@@ -7,8 +7,7 @@ use crate::event::{kind, LONGEST};
 use crate::margins::Allowances;
 use crate::model::Chip;
 use crate::plan_waits::without_floating;
-use crate::session::{Failure, Outcome, Session};
-use crate::side::Answer;
+use crate::session::{Outcome, Session};
 use crate::states;
 use crate::text;
 
@@ -144,16 +143,6 @@ impl Session<'_> {
         }
         self.bodies_alone(kind::STAMP)?;
         self.stamps_alone()
-    }
-
-    /// A run of a script in one of the two forms, with some room more or less than it asks for.
-    pub fn run_form(
-        &mut self,
-        script: Vec<u8>,
-        spare: i64,
-        allowances: Option<Allowances>,
-    ) -> Result<Answer, Failure> {
-        self.step(Step::Run { script, spare, length: None, allowances })
     }
 
     /// Lines that are written out, run on a fresh one-sector part.

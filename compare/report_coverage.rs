@@ -101,7 +101,7 @@ const SITUATIONS: [&str; 12] = [
     "stamps alone that give no ticks, a job stands",
 ];
 
-/// The ticks that no job of a script can use, but the latest ones nearly do.
+/// The ticks that only the latest jobs that a script can have use.
 const LATE: i32 = 1_431_000_000;
 
 /// A job of the present run, with where its ticks came from.

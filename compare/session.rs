@@ -178,6 +178,16 @@ impl<'a> Session<'a> {
         self.step(step).map(|_| ())
     }
 
+    /// Runs a script over the case's memory in one of the two forms: plain, or with the report.
+    pub fn run_form(
+        &mut self,
+        script: Vec<u8>,
+        spare: i64,
+        allowances: Option<Allowances>,
+    ) -> Result<Answer, Failure> {
+        self.step(Step::Run { script, spare, length: None, allowances })
+    }
+
     /// Runs events as one script.
     pub fn one_run(&mut self, events: &[Event]) -> Outcome {
         let spare = self.rng.pick(&[0, 0, 0, 1, 2, 7, 100]);

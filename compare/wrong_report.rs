@@ -7,8 +7,8 @@ use crate::margins::{place_of, Allowances, Report, EMPTY, LARGEST, NO_JOBS};
 use crate::model::{Chip, Line, Record};
 
 /// The faults, in words: those of the jobs, of their ticks, of their margins, of the lines, of a
-/// refused script and of the allowances.
-pub const FAULTS: [&str; 46] = [
+/// refused script and of the allowances; the last one is in the answer.
+pub const FAULTS: [&str; 49] = [
     "a job that stood at the start is counted",
     "a job that goes on is counted",
     "a job dropped by another is counted",
@@ -55,6 +55,9 @@ pub const FAULTS: [&str; 46] = [
     "18 is tested last",
     "an allowance of 1,000,000 is refused",
     "an allowance of 1,000,001 is taken",
+    "an allowance from 2^31 on is taken",
+    "the allowance of a chip erase is not tested",
+    "a run with a report answers with the ticks used as working ones",
 ];
 
 /// The places of lines.
@@ -90,6 +93,8 @@ pub struct Watch {
     report: Report,
     job: Option<Watched>,
     counted: [bool; 5],
+    /// The ticks that a job used and that did not work.
+    idle: u64,
 }
 
 impl Watch {
@@ -105,7 +110,7 @@ impl Watch {
         let job = stood.map(begun);
         let (allowances, handed) = (*allowances, *report);
         let report = if fault == Some(36) { EMPTY } else { handed };
-        Watch { fault, allowances, handed, report, job, counted: [false; 5] }
+        Watch { fault, allowances, handed, report, job, counted: [false; 5], idle: 0 }
     }
 
     /// Whether a fault is the planted one.
@@ -166,6 +171,16 @@ impl Watch {
         };
         if let Some(job) = &mut self.job {
             job.used += ticks;
+            self.idle += ticks.saturating_sub(happened.worked);
+        }
+    }
+
+    /// The ticks that the answer tells as working ones beside those that work.
+    pub fn ticks_more(&self) -> u64 {
+        if self.has(48) {
+            self.idle
+        } else {
+            0
         }
     }
 
@@ -292,10 +307,18 @@ pub fn refuses(fault: Option<usize>, allowances: &Allowances, otherwise: u8) -> 
         Some(43) => otherwise != 0,
         _ => false,
     };
-    !late && allowances.iter().any(|allowance| *allowance > largest)
+    let tested = match fault {
+        Some(47) => &allowances[..4],
+        _ => &allowances[..],
+    };
+    let taken = |allowance: u32| match fault {
+        Some(46) => allowance as i32 <= largest as i32,
+        _ => allowance <= largest,
+    };
+    !late && !tested.iter().all(|allowance| taken(*allowance))
 }
 
-/// Whether the harness's own reckoning has to find a fault: all but those of 18.
+/// Whether the harness's own reckoning has to find a fault: all but those of 18 and of the answer.
 pub fn is_reckoned(fault: usize) -> bool {
     fault < 42
 }

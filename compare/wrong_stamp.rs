@@ -13,7 +13,7 @@ pub const FAULTS: [&str; 28] = [
     "a deselect clears the clock",
     "each stamp is held to the first",
     "a stamp in suspension does not move the clock",
-    "a stamp without ticks does not set the clock",
+    "an equal stamp clears the clock",
     "stamps are read low byte first",
     "a counter that rolls over gives no ticks",
     "an equal stamp gives 65,536 ticks",
@@ -36,6 +36,9 @@ pub const FAULTS: [&str; 28] = [
     "a stamp alone gives as many ticks as its body says",
     "a stamp alone is refused by 6",
 ];
+
+/// The number that is no fault's.
+pub const NO_FAULT: usize = FAULTS.len();
 
 /// The clock of a run with the fault of that number.
 #[derive(Clone, Copy)]
