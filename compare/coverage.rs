@@ -254,7 +254,7 @@ impl Coverage {
         self.reports.begin_run(&before.chip, allowances.as_ref());
         let (after, records) = self.replay(before.clone(), &events, length);
         self.note_run(&before.chip, script, *spare, &after.chip);
-        self.reports.end_run(script, &events, &after.chip);
+        self.reports.end_run(script, &events);
         self.protection.note_room(&events, &records, *spare, 0);
         self.deselects.note_room(&events, *spare, 0);
         events.len() as u64

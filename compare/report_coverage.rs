@@ -89,7 +89,7 @@ const LEFT: [&str; 3] = ["a count", "0 with margins", "crossed"];
 const SITUATIONS: [&str; 12] = [
     "report carried over ten scripts, jobs crossing",
     "plain run between two with a report",
-    "job begun in a plain run, ended in one with a report",
+    "job begun without a report, ended in a run with one",
     "all five kinds in one script",
     "empty script, margins of a count of 0 cleared",
     "script of 65,536 bytes with a report",
@@ -104,15 +104,18 @@ const SITUATIONS: [&str; 12] = [
 /// The ticks that only the latest jobs that a script can have use.
 const LATE: i32 = 1_431_000_000;
 
-/// A job of the present run, with where its ticks came from.
+/// The present run with a report.
 struct Present {
     allowances: Allowances,
     watch: Watch,
     /// The kind of the job that stood at the start, while it is there.
     stood: Option<Class>,
+    /// Whether the run's last job was begun in suspension, and where its ticks came from.
     in_suspension: bool,
     sources: [bool; TICKS.len()],
+    /// The jobs that it counts.
     jobs: Vec<Begun>,
+    /// A job stood at the start.
     crossing: bool,
 }
 
@@ -124,6 +127,7 @@ pub struct ReportCoverage {
     lines: KindTable,
     /// Runs refused by 18 for one allowance, by what they would be refused by otherwise.
     eighteen: [[u64; OTHERWISE.len()]; KINDS.len()],
+    /// Lines that a refused run left as they were.
     left: [[u64; REFUSALS.len()]; LEFT.len()],
     situations: Tally,
     present: Option<Present>,
@@ -133,9 +137,10 @@ pub struct ReportCoverage {
     /// Runs that the present report was carried over, and jobs that crossed their ends.
     carried: usize,
     crossed: usize,
-    /// The last run was a plain one after one with a report; its job was begun in a plain one.
+    /// The last run was a plain one after one with a report.
     plain_between: bool,
-    begun_in_plain: bool,
+    /// A job was begun since the last run with a report.
+    begun_without: bool,
 }
 
 impl ReportCoverage {
@@ -155,14 +160,14 @@ impl ReportCoverage {
             carried: 0,
             crossed: 0,
             plain_between: false,
-            begun_in_plain: false,
+            begun_without: false,
         }
     }
 
     /// Takes note of the start of a case, or of a report that is handed in.
     pub fn note_start(&mut self) {
         (self.carried, self.crossed) = (0, 0);
-        (self.plain_between, self.begun_in_plain) = (false, false);
+        (self.plain_between, self.begun_without) = (false, false);
     }
 
     /// Takes note of the report before a step and after it.
@@ -217,7 +222,10 @@ impl ReportCoverage {
         record: Record,
         length: usize,
     ) {
-        let Some(mut present) = self.present.take() else { return };
+        let Some(mut present) = self.present.take() else {
+            self.begun_without |= record == Record::Verdict(2);
+            return;
+        };
         let (begun, left) = (present.watch.job, ticks_left_over(before, event, length));
         if matches!(event.0, kind::TICK | kind::TICKS) {
             present.note_ticks(source, before, left);
@@ -231,7 +239,7 @@ impl ReportCoverage {
         if let Some(class) = present.stood.filter(|_| begun.is_none() && left.is_some()) {
             self.fates.saw("stood, ended", class, true);
             self.situations
-                .saw("job begun in a plain run, ended in one with a report", self.begun_in_plain);
+                .saw("job begun without a report, ended in a run with one", self.begun_without);
             present.stood = None;
         }
         if record == Record::Verdict(2) {
@@ -281,11 +289,10 @@ impl ReportCoverage {
         tally.saw("latest job of the real part, allowance 1,000,000", late && allowance == LARGEST);
     }
 
-    /// Takes note of the end of a run that was done, from its events and the chip after it.
-    pub fn end_run(&mut self, script: &[u8], events: &[Event], after: &Chip) {
+    /// Takes note of the end of a run that was done, from its script and its events.
+    pub fn end_run(&mut self, script: &[u8], events: &[Event]) {
         let Some(present) = self.present.take() else {
             self.plain_between = self.carried > 0;
-            self.begun_in_plain = after.job.is_some();
             return;
         };
         for (place, (_, class)) in KINDS.iter().enumerate() {
@@ -298,7 +305,7 @@ impl ReportCoverage {
         self.carried += 1;
         self.crossed += usize::from(present.crossing);
         self.note_situations(&present, script, events);
-        (self.plain_between, self.begun_in_plain) = (false, false);
+        (self.plain_between, self.begun_without) = (false, false);
     }
 
     /// Takes note of a run with a report as a whole.
