@@ -3,7 +3,8 @@
 
 use crate::event::Event;
 use crate::image::Image;
-use crate::model::Chip;
+use crate::margins::{Allowances, Report, KINDS};
+use crate::model::{Chip, Line};
 use crate::programming::Programming;
 use crate::sfdp::{Found, CONTENT};
 use crate::side::{
@@ -28,6 +29,20 @@ struct RunNumbers {
     offset: usize,
     written: usize,
     ticks: u64,
+}
+
+#[repr(C)]
+#[derive(Clone, Copy)]
+struct LineNumbers {
+    count: u32,
+    smallest: i32,
+    largest: i32,
+}
+
+#[repr(C)]
+struct ReportedNumbers {
+    run: RunNumbers,
+    report: [LineNumbers; KINDS.len()],
 }
 
 #[repr(C)]
@@ -95,6 +110,20 @@ extern "C" {
         output: *mut u8,
         room: usize,
     );
+    fn chip_run_report(
+        answer: *mut ReportedNumbers,
+        chip: *mut Image,
+        memory: *mut u8,
+        length: usize,
+        area: *const u8,
+        area_length: usize,
+        script: *const u8,
+        script_length: usize,
+        output: *mut u8,
+        room: usize,
+        allowances: *mut Allowances,
+        report: *mut [LineNumbers; KINDS.len()],
+    );
 }
 
 /// A fresh chip of the library.
@@ -105,6 +134,16 @@ fn fresh(status: u8) -> Image {
         chip_fresh(chip.as_mut_ptr(), status);
         chip.assume_init()
     }
+}
+
+/// A report as the library takes it.
+fn line_numbers(report: &Report) -> [LineNumbers; KINDS.len()] {
+    report.map(|Line { count, smallest, largest }| LineNumbers { count, smallest, largest })
+}
+
+/// A report as the library gives it back.
+fn report_of(lines: [LineNumbers; KINDS.len()]) -> Report {
+    lines.map(|LineNumbers { count, smallest, largest }| Line { count, smallest, largest })
 }
 
 /// One chip of the library with its memory, its SFDP area and its output.
@@ -173,6 +212,41 @@ impl Side for Linked {
         };
         self.chip = a.chip;
         Ok(Answer::to_run(a.refusal, a.offset as u64, a.written as u64, a.ticks))
+    }
+
+    fn run_report(
+        &mut self,
+        loan: Loan,
+        script: &[u8],
+        room: usize,
+        allowances: &Allowances,
+        report: &mut Report,
+    ) -> Result<Answer, String> {
+        let (mut chip, mut answer) = (self.chip, MaybeUninit::<ReportedNumbers>::uninit());
+        let (mut numbers, mut lines) = (*allowances, line_numbers(report));
+        let area = &self.sfdp[GUARD..][..loan.area];
+        let (memory, output) = (&mut self.memory[..loan.memory], &mut self.output[..room]);
+        // All that is lent is lent for the call alone, which writes the whole answer.
+        let a = unsafe {
+            chip_run_report(
+                answer.as_mut_ptr(),
+                &mut chip,
+                memory.as_mut_ptr(),
+                memory.len(),
+                area.as_ptr(),
+                area.len(),
+                script.as_ptr(),
+                script.len(),
+                output.as_mut_ptr(),
+                output.len(),
+                &mut numbers,
+                &mut lines,
+            );
+            answer.assume_init()
+        };
+        (self.chip, *report) = (a.run.chip, report_of(a.report));
+        let RunNumbers { refusal, offset, written, ticks, .. } = a.run;
+        Ok(Answer::to_run(refusal, offset as u64, written as u64, ticks))
     }
 
     fn find(&mut self, area: usize, identity: u8) -> Result<Found, String> {

@@ -9,6 +9,9 @@ mod case;
 #[path = "../compare/class.rs"]
 mod class;
 #[allow(dead_code)]
+#[path = "../compare/clock.rs"]
+mod clock;
+#[allow(dead_code)]
 #[path = "../compare/commands.rs"]
 mod commands;
 #[path = "../compare/event.rs"]
@@ -23,6 +26,9 @@ mod generate;
 #[path = "../compare/image.rs"]
 mod image;
 mod linked;
+#[allow(dead_code)]
+#[path = "../compare/margins.rs"]
+mod margins;
 #[path = "../second/model.rs"]
 mod model;
 #[allow(dead_code)]
@@ -105,7 +111,8 @@ fn mixed(length: usize) -> Vec<Event> {
 
 /// A case of one run over a memory of so many sectors.
 fn run(words: &'static str, sectors: usize, events: &[Event], target: Option<f64>) -> Row {
-    let steps = vec![Step::Run { script: script_of(events), spare: 0, length: None }];
+    let (script, length, allowances) = (script_of(events), None, None);
+    let steps = vec![Step::Run { script, spare: 0, length, allowances }];
     row(words, sectors, steps, target)
 }
 

@@ -56,9 +56,9 @@ pub struct AreaCoverage {
     lengths: BTreeSet<usize>,
     lengths_read: BTreeSet<usize>,
     /// Steps with an area over 256 bytes, by entry point and what an empty area would get.
-    too_long: [[u64; 8]; 3],
+    too_long: [[u64; 9]; 4],
     /// Those of them on numbers that are no state, refused by 13.
-    no_state: [u64; 3],
+    no_state: [u64; 4],
     /// Frames of 5Ah past the memory length and over FFFFFFh, by memory length.
     crossed: [[u64; 2]; 6],
     reader: [u64; READER.len()],
@@ -75,8 +75,8 @@ impl AreaCoverage {
             changed: false,
             lengths: BTreeSet::new(),
             lengths_read: BTreeSet::new(),
-            too_long: [[0; 8]; 3],
-            no_state: [0; 3],
+            too_long: [[0; 9]; 4],
+            no_state: [0; 4],
             crossed: [[0; 2]; 6],
             reader: [0; READER.len()],
             situations: Tally::new(&SITUATIONS),
@@ -228,7 +228,7 @@ impl AreaCoverage {
     /// Prints what came of areas that are too long, by entry points.
     fn report_too_long(&self, entries: &[(&str, &[u8])]) -> usize {
         println!("\nareas over 256 bytes, by what an empty one would get: 1 stays, all else is 13");
-        print_head(&[0, 1, 2, 3, 4, 5, 6, 7]);
+        print_head(&[0, 1, 2, 3, 4, 5, 6, 7, 8]);
         let mut faults = 0;
         for ((name, numbers), counts) in entries.iter().zip(&self.too_long) {
             print!("{name:24}");

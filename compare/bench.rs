@@ -1,10 +1,12 @@
 // The bench: the model beside the side that is held to it, compared after each step.
 
 use crate::case::{room, Case, Content, Start, Step, Use, LENGTHS};
+use crate::clock::seen_events;
 use crate::event::{events_of, room_needed, Event};
 use crate::expected::Expected;
 use crate::image::{edited_image, image_difference, Image};
-use crate::model;
+use crate::margins::{self, report_difference, Allowances, Begun, Report, Watch};
+use crate::model::{self, Chip, RunAnswer};
 use crate::programming::{self, Programming};
 use crate::promise::{self, Promise};
 use crate::protection::sectors_difference;
@@ -30,6 +32,10 @@ pub struct Bench<'a> {
     output: Vec<u8>,
     /// The records that are due for the last step, where verdict 9 is reckoned here.
     due: Vec<u8>,
+    /// The report that the case carries from script to script.
+    pub report: Report,
+    /// The jobs that the last run began and ended, as they are reckoned here.
+    jobs: Vec<Begun>,
     /// The SFDP area with its guards.
     sfdp: Vec<u8>,
     area_length: usize,
@@ -128,8 +134,22 @@ impl<'a> Bench<'a> {
         let (expected, length) = (Expected::fresh(0), LENGTHS[0]);
         let (memory, output, due) = (vec![0; MEMORY_AREA], vec![0; OUTPUT_AREA], Vec::new());
         let (sfdp, area_length) = (vec![0; SFDP_AREA], 0);
-        let (scratch, differs) = (vec![0; LENGTHS[5]], true);
-        Bench { expected, length, memory, output, due, sfdp, area_length, scratch, differs, other }
+        let (scratch, differs) = (vec![0; MEMORY_AREA], true);
+        let (report, jobs) = (margins::EMPTY, Vec::new());
+        Bench {
+            expected,
+            length,
+            memory,
+            output,
+            due,
+            report,
+            jobs,
+            sfdp,
+            area_length,
+            scratch,
+            differs,
+            other,
+        }
     }
 
     /// The SFDP area that is lent.
@@ -162,7 +182,7 @@ impl<'a> Bench<'a> {
     /// Puts the start of a case on both sides and compares the states and their legality.
     pub fn start(&mut self, case: &Case) -> Result<(), String> {
         self.wipe();
-        self.length = case.length;
+        (self.length, self.report) = (case.length, margins::EMPTY);
         let cells = &mut self.memory[..case.length];
         match case.content {
             Content::Blank => cells.fill(0xFF),
@@ -207,8 +227,16 @@ impl<'a> Bench<'a> {
             Step::Event { event, lent, length } => {
                 self.event(length.unwrap_or(self.length), *event, *lent)
             }
-            Step::Run { script, spare, length } => {
+            Step::Run { script, spare, length, allowances: None } => {
                 self.run(length.unwrap_or(self.length), script, room(script, *spare))
+            }
+            Step::Run { script, spare, length, allowances: Some(allowances) } => {
+                let length = length.unwrap_or(self.length);
+                self.run_report(length, script, room(script, *spare), allowances)
+            }
+            Step::Report(report) => {
+                self.report = *report;
+                Ok(NO_ANSWER)
             }
             Step::HandOver => self.hand_over(),
             Step::Lend(area) => {
@@ -233,17 +261,58 @@ impl<'a> Bench<'a> {
 
     /// Runs a script on both sides and compares.
     fn run(&mut self, length: usize, script: &[u8], room: usize) -> Result<Answer, String> {
-        self.differs = true;
-        let (before, loan, end) = (self.other.image(), self.loan(length), room + GUARD);
-        mark_output(&mut self.output[..end]);
-        mark_output(&mut self.other.output()[..end]);
+        let (before, loan) = (self.begin_run(room), self.loan(length));
         let wanted = self.model_run(length, script, room);
         let found = self.other.run(loan, script, room)?;
+        self.compare_run(&before, loan, (script, room), wanted, found)
+    }
+
+    /// Runs a script that carries the report on, on both sides, and compares; both reports are held
+    /// to the harness's own reckoning.
+    fn run_report(
+        &mut self,
+        length: usize,
+        script: &[u8],
+        room: usize,
+        allowances: &Allowances,
+    ) -> Result<Answer, String> {
+        let (before, loan, handed) = (self.begin_run(room), self.loan(length), self.report);
+        let wanted = self.model_run_report(length, script, room, allowances);
+        let mut left = handed;
+        let found = self.other.run_report(loan, script, room, allowances, &mut left)?;
+        self.compare_run(&before, loan, (script, room), wanted, found)?;
+        let due = match wanted.refusal {
+            0 => margins::report_after(&handed, &self.jobs, allowances),
+            _ => handed,
+        };
+        as_error(report_difference("the model's ", &due, &self.report))?;
+        as_error(report_difference("", &due, &left))?;
+        Ok(wanted)
+    }
+
+    /// Marks both outputs for a run in a room and gives the other side's chip before it.
+    fn begin_run(&mut self, room: usize) -> Image {
+        self.differs = true;
+        mark_output(&mut self.output[..room + GUARD]);
+        mark_output(&mut self.other.output()[..room + GUARD]);
+        self.other.image()
+    }
+
+    /// Compares all that came of a run of a script in a room, and gives the answer.
+    fn compare_run(
+        &mut self,
+        before: &Image,
+        loan: Loan,
+        (script, room): (&[u8], usize),
+        wanted: Answer,
+        found: Answer,
+    ) -> Result<Answer, String> {
+        let end = room + GUARD;
         as_error(room_difference("the model's answer", &wanted, script, room))?;
         as_error(room_difference("answer", &found, script, room))?;
         let output = self.other.output()[..end.min(found.written as usize)].to_vec();
         self.compare_sectors(self.written(&wanted), &output)?;
-        self.compare_step(&before, length, end, wanted, found)
+        self.compare_step(before, loan.memory, end, wanted, found)
     }
 
     /// Holds the records of both sides to those that are due, as far as they tell verdict 9.
@@ -363,24 +432,54 @@ impl<'a> Bench<'a> {
         let area = &self.sfdp[GUARD..GUARD + self.area_length];
         let memory = &mut self.memory[..length];
         self.due.clear();
-        let answer = self.expected.event_with_due(memory, area, event, &mut self.due);
+        let (_, answer) = self.expected.event_with_due(memory, area, event, &mut self.due);
         Answer::to_event(answer.refusal, record_bytes(answer.record), answer.ticks)
     }
 
-    /// The model's answer to a run; the chip that is expected follows a run that is done event by
-    /// event, for the model's run does not say which of them ended a job.
+    /// The model's answer to a run.
     fn model_run(&mut self, length: usize, script: &[u8], room: usize) -> Answer {
         let mut chip = self.expected.chip.clone();
         let (memory, output) = (&mut self.memory[..length], &mut self.output[..room]);
         let area = &self.sfdp[GUARD..GUARD + self.area_length];
         let answer = model::run(&mut chip, memory, area, script, output);
+        self.follow(length, script, &chip, answer)
+    }
+
+    /// The model's answer to a run that carries the report on: but for 18 the one of a plain run.
+    fn model_run_report(
+        &mut self,
+        length: usize,
+        script: &[u8],
+        room: usize,
+        allowances: &Allowances,
+    ) -> Answer {
+        let (mut chip, mut plain_chip) = (self.expected.chip.clone(), self.expected.chip.clone());
+        let (memory, output) = (&mut self.memory[..length], &mut self.output[..room]);
+        let (area, report) = (&self.sfdp[GUARD..GUARD + self.area_length], &mut self.report);
+        let answer =
+            model::run_with_report(&mut chip, memory, area, script, output, allowances, report);
+        if answer.refusal != 18 {
+            let (memory, mut output) = (&mut self.scratch[..length], vec![0; room]);
+            let plain = model::run(&mut plain_chip, memory, area, script, &mut output);
+            assert!((answer, &chip) == (plain, &plain_chip), "the model's runs are not the same");
+        }
+        self.follow(length, script, &chip, answer)
+    }
+
+    /// Lets the chip that is expected follow a run that is done event by event, for the model's run
+    /// does not say which of them ended a job, and gives the answer to it.
+    fn follow(&mut self, length: usize, script: &[u8], chip: &Chip, answer: RunAnswer) -> Answer {
+        let area = &self.sfdp[GUARD..GUARD + self.area_length];
         self.due.clear();
+        self.jobs.clear();
         if answer.refusal == 0 {
-            let memory = &mut self.scratch[..length];
-            for event in events_of(script).0 {
-                self.expected.event_with_due(memory, area, event, &mut self.due);
+            let (memory, mut watch) = (&mut self.scratch[..length], Watch::default());
+            for event in seen_events(&events_of(script).0) {
+                let (before, done) =
+                    self.expected.event_with_due(memory, area, event, &mut self.due);
+                self.jobs.extend(watch.follow(&before, event, done.record, length));
             }
-            assert!(self.expected.chip == chip, "the model's run is not its events one by one");
+            assert!(self.expected.chip == *chip, "the model's run is not its events one by one");
         }
         let (offset, written) = (answer.offset as u64, answer.written as u64);
         Answer::to_run(answer.refusal, offset, written, answer.ticks)

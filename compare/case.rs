@@ -2,6 +2,7 @@
 
 use crate::event::{room_needed, Event};
 use crate::image::Edit;
+use crate::margins::{Allowances, Report};
 use crate::model::Chip;
 use crate::programming::Programming;
 use crate::side::{GUARD, OUTPUT_AREA};
@@ -35,8 +36,11 @@ pub enum Content {
 pub enum Step {
     /// One event alone, by value or through a lent chip record, perhaps over a length not the case's.
     Event { event: Event, lent: bool, length: Option<usize> },
-    /// A run, its room being that of refusal 7 and some bytes more or less.
-    Run { script: Vec<u8>, spare: i64, length: Option<usize> },
+    /// A run, its room being that of refusal 7 and some bytes more or less; with allowances it is
+    /// one that carries the report on.
+    Run { script: Vec<u8>, spare: i64, length: Option<usize>, allowances: Option<Allowances> },
+    /// A report takes the place of the one that the case has carried so far, an empty one at first.
+    Report(Report),
     /// The chip that is expected takes the place of the other side's.
     HandOver,
     /// Another SFDP area is lent from here on.

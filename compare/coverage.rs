@@ -4,16 +4,20 @@ use crate::area_coverage::AreaCoverage;
 use crate::areas::LONGEST_TAKEN;
 use crate::case::{room, Case, Start, Step, LENGTHS};
 use crate::class::Class;
+use crate::clock::{seen_events, Clock};
 use crate::commands::{COMMANDS, EMPTY, UNKNOWN, UNSELECTED};
 use crate::deselect_coverage::DeselectCoverage;
 use crate::event::{events_of, kind, Event, LONGEST};
 use crate::expected::{Expected, NOTHING};
 use crate::image::{Edit, FLAGS};
 use crate::job_table::{all_steps, JobTable, LONGER, WRITE_STATUS};
+use crate::margins::{last_step, Report};
 use crate::model::{self, Chip, Record};
 use crate::programming_coverage::ProgrammingCoverage;
 use crate::protection_coverage::ProtectionCoverage;
+use crate::report_coverage::ReportCoverage;
 use crate::side::{verdict_of, Answer};
+use crate::stamp_coverage::StampCoverage;
 use crate::states::RULES;
 use crate::tally::{print_cells, print_head, print_line, Tally};
 use crate::wait_coverage::WaitCoverage;
@@ -36,12 +40,21 @@ const REASONS: [&str; 13] = [
 ];
 
 /// The refusals, columns of their table.
-const REFUSALS: [u8; 9] = [0, 1, 2, 3, 4, 5, 6, 7, 13];
+const REFUSALS: [u8; 11] = [0, 1, 2, 3, 4, 5, 6, 7, 8, 13, 18];
 
 /// The entry points, rows of the table of refusals, each with the numbers that can occur.
-/// A single event has no script, so that 3, 4 and 7 cannot: its kind and body are two numbers.
-const ENTRIES: [(&str, &[u8]); 3] =
-    [("event", &[0, 1, 2, 5, 6, 13]), ("event, lent", &[0, 1, 2, 5, 6, 13]), ("run", &REFUSALS)];
+/// A single event has no script, so that 3, 4, 7 and 8 cannot: its kind and body are two numbers. A
+/// plain run has no allowances.
+const ENTRIES: [(&str, &[u8]); 4] = [
+    ("event", &[0, 1, 2, 5, 6, 13]),
+    ("event, lent", &[0, 1, 2, 5, 6, 13]),
+    ("run", &[0, 1, 2, 3, 4, 5, 6, 7, 8, 13]),
+    ("run, report", &REFUSALS),
+];
+
+/// The entry point of a plain run, which a run with a report is counted as where the form of a run
+/// makes no difference.
+const RUN: usize = 2;
 
 /// What can become of a job after its k steps, the one of a wait counted in those of a suspension;
 /// what ends a job in the wait has a table of its own.
@@ -102,17 +115,19 @@ const SITUATIONS: [&str; 32] = [
 /// All that has occurred.
 pub struct Coverage {
     verdicts: [[u64; 13]; COMMANDS.len()],
-    refusals: [[u64; REFUSALS.len()]; 3],
+    refusals: [[u64; REFUSALS.len()]; ENTRIES.len()],
     fates: JobTable,
     waits: WaitCoverage,
     situations: Tally,
     areas: AreaCoverage,
     deselects: DeselectCoverage,
+    stamps: StampCoverage,
+    reports: ReportCoverage,
     protection: ProtectionCoverage,
     programmings: ProgrammingCoverage,
     over_top: [[u64; 2]; 6],
     rules: [u64; RULES.len()],
-    flags: [[u64; 3]; FLAGS.len()],
+    flags: [[u64; ENTRIES.len()]; FLAGS.len()],
     /// The flag of the case that is a byte above 1.
     bad_flag: Option<usize>,
     /// The numbers of the case are no state: a flag above 1, or a job that is none of the five.
@@ -128,17 +143,19 @@ impl Coverage {
     pub fn new() -> Coverage {
         Coverage {
             verdicts: [[0; 13]; COMMANDS.len()],
-            refusals: [[0; REFUSALS.len()]; 3],
+            refusals: [[0; REFUSALS.len()]; ENTRIES.len()],
             fates: JobTable::new(&FATES),
             waits: WaitCoverage::new(),
             situations: Tally::new(&SITUATIONS),
             areas: AreaCoverage::new(),
             deselects: DeselectCoverage::new(),
+            stamps: StampCoverage::new(),
+            reports: ReportCoverage::new(),
             protection: ProtectionCoverage::new(),
             programmings: ProgrammingCoverage::new(),
             over_top: [[0; 2]; 6],
             rules: [0; RULES.len()],
-            flags: [[0; 3]; FLAGS.len()],
+            flags: [[0; ENTRIES.len()]; FLAGS.len()],
             bad_flag: None,
             no_state: false,
             frame_lent: false,
@@ -161,12 +178,19 @@ impl Coverage {
         };
         let no_job = matches!(start, Start::Lent(_, Edit::JobKind(_)));
         self.no_state = no_job || self.bad_flag.is_some();
+        self.stamps.note_start();
+        self.reports.note_start();
         self.close_frame();
         if let Start::Lent(chip, _) = start {
             self.frame_lent = chip.frame.byte_count > 0;
             self.waits.note_lent(chip, *length);
         }
         self.areas.lend(area);
+    }
+
+    /// Takes note of the report before a step and after it.
+    pub fn note_reports(&mut self, handed: &Report, after: &Report) {
+        self.reports.note_reports(handed, after);
     }
 
     /// Takes note of a rule of legality that was broken alone and refused.
@@ -185,43 +209,55 @@ impl Coverage {
     ) -> u64 {
         let entry = match step {
             Step::Event { lent, .. } => usize::from(*lent),
-            Step::Run { .. } => 2,
-            Step::Find(identity) => {
-                self.areas.note_find(*identity);
-                return 1;
-            }
-            Step::Lend(area) => {
-                self.areas.lend(area);
-                return 0;
-            }
-            Step::Script(asked, used) => {
-                self.programmings.note_script(before, asked, *used, answer.refusal, length);
-                return 1;
-            }
-            Step::HandOver | Step::OwnArea => return 0,
+            Step::Run { allowances, .. } => RUN + usize::from(allowances.is_some()),
+            _ => return self.note_other(before, step, answer.refusal, length),
         };
         self.note_answer(before, step, entry, answer.refusal, length);
-        self.deselects.note_step(&before.chip, step, entry, answer);
+        self.deselects.note_step(&before.chip, step, entry.min(RUN), answer);
+        self.stamps.note_step(&before.chip, step, entry, answer);
         match step {
             Step::Run { script, spare, .. } if answer.refusal == 7 => {
                 self.note_short_room(before, script, *spare, length);
                 1
             }
             _ if answer.refusal != 0 => 1,
-            Step::Run { script, spare, .. } => {
-                let events = events_of(script).0;
-                let (after, records) = self.replay(before.clone(), &events, length);
-                self.note_run(&before.chip, script, *spare, &after.chip);
-                self.protection.note_room(&events, &records, *spare, 0);
-                self.deselects.note_room(&events, *spare, 0);
-                events.len() as u64
-            }
+            Step::Run { .. } => self.note_done(before, step, length),
             Step::Event { event, .. } => {
                 self.replay(before.clone(), &[*event], length);
                 1
             }
             _ => 0,
         }
+    }
+
+    /// Takes note of a step that is neither an event nor a run, and gives the number of events that
+    /// it counts as.
+    fn note_other(&mut self, before: &Expected, step: &Step, refusal: u8, length: usize) -> u64 {
+        match step {
+            Step::Find(identity) => self.areas.note_find(*identity),
+            Step::Script(asked, used) => {
+                self.programmings.note_script(before, asked, *used, refusal, length);
+            }
+            Step::Lend(area) => self.areas.lend(area),
+            Step::Report(_) => self.reports.note_start(),
+            _ => {}
+        }
+        u64::from(matches!(step, Step::Find(_) | Step::Script(..)))
+    }
+
+    /// Takes note of a run that was done, from the chip before it, and gives the number of its
+    /// events.
+    fn note_done(&mut self, before: &Expected, step: &Step, length: usize) -> u64 {
+        let Step::Run { script, spare, allowances, .. } = step else { return 0 };
+        let events = events_of(script).0;
+        self.stamps.begin_run(&events, script);
+        self.reports.begin_run(&before.chip, allowances.as_ref());
+        let (after, records) = self.replay(before.clone(), &events, length);
+        self.note_run(&before.chip, script, *spare, &after.chip);
+        self.reports.end_run(script, &events);
+        self.protection.note_room(&events, &records, *spare, 0);
+        self.deselects.note_room(&events, *spare, 0);
+        events.len() as u64
     }
 
     /// Takes note of the refusal, or of none, that an event or a run got at an entry point.
@@ -242,16 +278,24 @@ impl Coverage {
             self.areas.note_lent_frame(&before.chip, refusal, length);
         }
         self.areas.note_step();
-        self.protection.note_step(entry);
-        self.waits.note_step(entry);
-        if self.areas.lent.len() > LONGEST_TAKEN {
-            let otherwise = self.refusal_without_area(before, step, length);
+        self.protection.note_step(entry.min(RUN));
+        self.waits.note_step(entry.min(RUN));
+        if self.areas.lent.len() > LONGEST_TAKEN && refusal != 18 {
+            let otherwise = self.refusal_with(&[], before, step, length);
             self.areas.note_too_long(entry, refusal, otherwise, self.no_state);
+        }
+        if let (Step::Run { allowances: Some(allowances), .. }, 1..) = (step, refusal) {
+            let area = self.areas.lent.clone();
+            let otherwise = match refusal {
+                18 => self.refusal_with(&area, before, step, length),
+                _ => refusal,
+            };
+            self.reports.note_refused(allowances, refusal, otherwise);
         }
     }
 
-    /// The number that an event or a run would be refused by if the area were empty.
-    fn refusal_without_area(&mut self, before: &Expected, step: &Step, length: usize) -> u8 {
+    /// The number that an event or a plain run would be refused by with an area, 0 for none.
+    fn refusal_with(&mut self, area: &[u8], before: &Expected, step: &Step, length: usize) -> u8 {
         let (Step::Event { length: other, .. } | Step::Run { length: other, .. }) = step else {
             return 0;
         };
@@ -262,11 +306,11 @@ impl Coverage {
         let (mut chip, memory) = (before.chip.clone(), &mut self.memory[..length]);
         match step {
             Step::Event { event: (kind, body), .. } => {
-                model::event(&mut chip, memory, &[], *kind, *body).refusal
+                model::event(&mut chip, memory, area, *kind, *body).refusal
             }
             Step::Run { script, spare, .. } => {
                 let mut output = vec![0; room(script, *spare)];
-                model::run(&mut chip, memory, &[], script, &mut output).refusal
+                model::run(&mut chip, memory, area, script, &mut output).refusal
             }
             _ => 0,
         }
@@ -291,7 +335,7 @@ impl Coverage {
     /// for the bytes of cells.
     fn note_short_room(&mut self, before: &Expected, script: &[u8], spare: i64, length: usize) {
         let (mut chip, memory) = (before.chip.clone(), &mut self.memory[..length]);
-        let (events, mut records) = (events_of(script).0, Vec::new());
+        let (events, mut records) = (seen_events(&events_of(script).0), Vec::new());
         for (kind, body) in &events {
             let answer = model::event(&mut chip, memory, &self.areas.lent, *kind, *body);
             records.push(answer.record);
@@ -308,25 +352,52 @@ impl Coverage {
         events: &[Event],
         length: usize,
     ) -> (Expected, Vec<Record>) {
-        let mut records = Vec::new();
+        let (mut records, mut clock) = (Vec::new(), Clock::default());
         for event in events {
-            let before = after.clone();
-            let answer = after.event(&mut self.memory[..length], &self.areas.lent, *event);
-            records.push(answer.record);
-            self.note_leftovers(&before, *event, answer.record, &after);
-            let (before, after) = (&before.chip, &after.chip);
-            self.note_job(before, *event, answer.record, after, length);
-            match event.0 {
-                kind::SELECT => self.saw("select while selected", before.selected),
-                kind::EXCHANGE => self.note_exchange(before, answer.record, length),
-                kind::DESELECT => self.note_deselect(before, answer.record, event.1, length),
-                kind::TICK | kind::TICKS => self.note_ticks(before, *event, after, answer.ticks),
-                kind::WP_LEVEL => self.waits.note_wp(before, after),
-                kind::POWER_CUT => self.close_frame(),
-                _ => {}
+            if event.0 == kind::STAMP {
+                let last = last_step(&after.chip, length);
+                self.stamps.note_stamp(&after.chip, &clock, event.1, last);
             }
+            let mut record = Record::None;
+            if let Some(seen) = clock.seen(*event) {
+                record = self.replay_seen(&mut after, event.0, seen, length);
+            }
+            records.push(record);
         }
+        self.stamps.end_run(&clock);
         (after, records)
+    }
+
+    /// Applies an event that a chip sees once more, given the kind that it has in its script, and
+    /// gives its record.
+    fn replay_seen(
+        &mut self,
+        after: &mut Expected,
+        source: u64,
+        event: Event,
+        length: usize,
+    ) -> Record {
+        let before = after.clone();
+        let answer = after.event(&mut self.memory[..length], &self.areas.lent, event);
+        self.note_leftovers(&before, event, answer.record, after);
+        let (before, after) = (&before.chip, &after.chip);
+        self.note_job(before, event, answer.record, after, length);
+        self.reports.follow(source, before, event, answer.record, length);
+        if source != kind::STAMP {
+            self.stamps.note_other(event, answer.record == Record::Verdict(2));
+        }
+        match event.0 {
+            kind::SELECT => self.saw("select while selected", before.selected),
+            kind::EXCHANGE => self.note_exchange(before, answer.record, length),
+            kind::DESELECT => self.note_deselect(before, answer.record, event.1, length),
+            kind::TICK | kind::TICKS => {
+                self.note_ticks(before, (source, event.1), after, answer.ticks);
+            }
+            kind::WP_LEVEL => self.waits.note_wp(before, after),
+            kind::POWER_CUT => self.close_frame(),
+            _ => {}
+        }
+        answer.record
     }
 
     /// Takes note of what an event does to leftovers; the load of a program is counted among them,
@@ -499,6 +570,8 @@ impl Coverage {
         let mut faults = self.report_verdicts();
         faults += self.report_refusals();
         faults += self.deselects.report(&ENTRIES);
+        faults += self.stamps.report();
+        faults += self.reports.report();
         faults += self.areas.report(&ENTRIES);
         faults += self.protection.report(&ENTRIES);
         faults += self.programmings.report();
@@ -544,7 +617,7 @@ impl Coverage {
             faults += print_line(name, *count);
         }
         println!("\nflags that are a byte above 1, refused by 2 at each entry point");
-        println!("{:24}{:>8}{:>8}{:>8}", "", "event", "lent", "run");
+        println!("{:24}{:>8}{:>8}{:>8}{:>8}", "", "event", "lent", "run", "report");
         for (name, counts) in FLAGS.iter().zip(&self.flags) {
             print!("{name:24}");
             faults += print_cells(counts, |_| true);

@@ -69,7 +69,7 @@ const IN_RUN: [InRun; 9] = [
     ("03h with 9 to 255, 6", 6, |bytes| matches!(bytes, [3, 9..=255, ..])),
     ("03h with a bad body, the last bytes, 6", 6, |bytes| matches!(bytes, [3, 8..=255])),
     ("03h with a bad body, then an unknown kind, 6", 6, |bytes| {
-        matches!(bytes, [3, 8..=255, 0 | 8..=255, ..])
+        matches!(bytes, [3, 8..=255, 0 | 8 | 10..=255, ..])
     }),
     ("08h with 1 to 7 behind it, 5", 5, |bytes| matches!(bytes, [8, 1..=7, ..])),
     ("08h with 0 behind it, 5", 5, |bytes| matches!(bytes, [8, 0, ..])),

@@ -21,7 +21,7 @@ pub fn body_length(kind: u64) -> Option<usize> {
     match kind {
         kind::SELECT | kind::TICK | kind::POWER_CUT => Some(0),
         kind::EXCHANGE | kind::DESELECT | kind::WP_LEVEL => Some(1),
-        kind::TICKS => Some(2),
+        kind::TICKS | kind::STAMP => Some(2),
         _ => None,
     }
 }

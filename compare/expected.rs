@@ -75,19 +75,19 @@ impl Expected {
         answer
     }
 
-    /// Applies one event, adds the bytes of the record that is due to a row, and gives the model's
-    /// answer.
+    /// Applies one event, adds the bytes of the record that is due to a row, and gives the chip
+    /// before it and the model's answer.
     pub fn event_with_due(
         &mut self,
         memory: &mut [u8],
         area: &[u8],
         event: Event,
         due: &mut Vec<u8>,
-    ) -> EventAnswer {
+    ) -> (Chip, EventAnswer) {
         let before = self.chip.clone();
         let answer = self.event(memory, area, event);
         due.extend_from_slice(due_record(&before, memory.len(), answer.record).written());
-        answer
+        (before, answer)
     }
 
     /// Whether its numbers hold what has to go with a job: leftovers, or a program's load.

@@ -3,9 +3,11 @@
 use crate::areas::LONGEST_TAKEN;
 use crate::bench::ROOM_DIFFERENCE;
 use crate::case::LENGTHS;
+use crate::clock::seen_events;
 use crate::event::{events_of, kind, room_needed, Event, LONGEST};
 use crate::expected::Expected;
 use crate::image::{flags_of, with_flags, Image};
+use crate::margins::{self, Allowances, Report};
 use crate::model::{self, Chip, EventAnswer, Job, JobKind, Record};
 use crate::programming::{self, Programming};
 use crate::protection;
@@ -14,8 +16,10 @@ use crate::side::{
     record_bytes, Answer, Loan, Side, GUARD, MEMORY_AREA, NO_RECORD, OUTPUT_AREA, SFDP_AREA,
 };
 use crate::writer::{self, Written};
+use crate::wrong_report::{self, Happened, Watch};
 use crate::{
-    text, wrong_deselect, wrong_reader, wrong_room, wrong_sectors, wrong_wait, wrong_writer,
+    text, wrong_deselect, wrong_reader, wrong_room, wrong_sectors, wrong_stamp, wrong_wait,
+    wrong_writer,
 };
 
 /// The faults that have no file of their own, in words; the first five are errors that look right.
@@ -53,13 +57,15 @@ const FAULTS: [&str; 30] = [
 ];
 
 /// The number of the first fault of the wait, of deselects, of verdict 9's records, of the room, of
-/// the reader, and of the script writer, and the number of the text form's.
+/// the reader, of stamps, of reports, and of the script writer, and the number of the text form's.
 const WAIT: usize = FAULTS.len();
 const DESELECTS: usize = WAIT + wrong_wait::FAULTS.len();
 const SECTORS: usize = DESELECTS + wrong_deselect::FAULTS.len();
 const ROOM: usize = SECTORS + wrong_sectors::FAULTS.len();
 const READER: usize = ROOM + wrong_room::FAULTS.len();
-const WRITER: usize = READER + wrong_reader::FAULTS.len();
+const STAMPS: usize = READER + wrong_reader::FAULTS.len();
+const REPORTS: usize = STAMPS + wrong_stamp::FAULTS.len();
+const WRITER: usize = REPORTS + wrong_report::FAULTS.len();
 const TEXT: usize = WRITER + wrong_writer::TEXT;
 
 /// All faults, in words, the script writer's and the text form's last.
@@ -70,6 +76,8 @@ pub fn all_faults() -> impl Iterator<Item = &'static str> {
         &wrong_sectors::FAULTS,
         &wrong_room::FAULTS,
         &wrong_reader::FAULTS,
+        &wrong_stamp::FAULTS,
+        &wrong_report::FAULTS,
         &wrong_writer::FAULTS,
     ];
     FAULTS.into_iter().chain(files.into_iter().flatten().copied())
@@ -81,6 +89,7 @@ pub fn words_begin(fault: usize) -> &'static str {
     match fault {
         SECTORS..ROOM if wrong_sectors::is_reckoned(fault - SECTORS) => protection::DIFFERENCE,
         ROOM..READER if wrong_room::is_reckoned(fault - ROOM) => ROOM_DIFFERENCE,
+        REPORTS..WRITER if wrong_report::is_reckoned(fault - REPORTS) => margins::DIFFERENCE,
         WRITER..TEXT => programming::DIFFERENCE,
         TEXT => programming::TEXT_DIFFERENCE,
         _ => "",
@@ -100,6 +109,10 @@ pub struct WrongCopy {
     scratch: Vec<u8>,
     /// The chip before the run that is done at present.
     run_began: Option<Chip>,
+    /// The last stamp of the run before.
+    last_stamp: Option<u16>,
+    /// What is carried through a run with a report.
+    watch: Option<Watch>,
     fault: Option<usize>,
 }
 
@@ -109,7 +122,19 @@ impl WrongCopy {
         let (memory, scratch) = (vec![0; MEMORY_AREA], vec![0; MEMORY_AREA]);
         let (expected, image) = (Expected::fresh(0), Expected::fresh(0).image());
         let (output, sfdp) = (vec![0; OUTPUT_AREA], vec![0; SFDP_AREA]);
-        WrongCopy { expected, image, memory, output, sfdp, scratch, run_began: None, fault }
+        let (run_began, last_stamp, watch) = (None, None, None);
+        WrongCopy {
+            expected,
+            image,
+            memory,
+            output,
+            sfdp,
+            scratch,
+            run_began,
+            last_stamp,
+            watch,
+            fault,
+        }
     }
 
     /// Whether a fault is the planted one.
@@ -287,7 +312,7 @@ impl WrongCopy {
         let mut chip = self.expected.chip.clone();
         let (memory, area) = (&mut self.scratch[..loan.memory], &self.sfdp[GUARD..][..loan.area]);
         let mut needed = 0;
-        for (kind, body) in events_of(script).0 {
+        for (kind, body) in seen_events(&events_of(script).0) {
             let record = model::event(&mut chip, memory, area, kind, body).record;
             needed += wrong_room::room_of(fault, (kind, body), record);
         }
@@ -304,41 +329,88 @@ impl WrongCopy {
 
     /// Runs the events of a script that the model takes, one by one, with the fault.
     fn run_events(&mut self, loan: Loan, script: &[u8]) -> Answer {
+        let stamps = self.stamp_fault().unwrap_or(wrong_stamp::NO_FAULT);
+        let mut clock = wrong_stamp::Clock::new(stamps, self.last_stamp);
         let (mut written, mut ticks) = (0, 0);
         self.run_began = Some(self.expected.chip.clone());
-        for event in events_of(script).0 {
-            let done = self.apply(loan, event);
-            let record = done.record.written();
-            self.output[written..written + record.len()].copy_from_slice(record);
-            written += record.len();
-            ticks += done.ticks;
+        for (source, body) in events_of(script).0 {
+            for event in clock.seen((source, body), &self.expected.chip) {
+                let done = self.apply_watched(loan, source, event);
+                let record = done.record.written();
+                self.output[written..written + record.len()].copy_from_slice(record);
+                written += record.len();
+                ticks += if wrong_stamp::counts(stamps, source) { done.ticks } else { 0 };
+            }
         }
-        self.run_began = None;
+        (self.run_began, self.last_stamp) = (None, clock.last());
         if self.has(ROOM + wrong_room::WRITTEN) {
             written = room_needed(script) as usize;
         }
         Answer::to_run(0, 0, written as u64, ticks)
     }
 
-    /// Runs a script, with the fault.
-    fn run_script(&mut self, loan: Loan, script: &[u8], room: usize) -> Answer {
-        if let Some(refusal) = self.early_refusal(loan) {
-            return Answer::to_run(refusal, 0, 0, 0);
-        }
-        let told = self.room_told(loan, script, room);
-        let (mut chip, mut output) = (self.expected.chip.clone(), vec![0; told]);
+    /// Applies an event of a run, which has a kind of its own in the script, and lets the watch, if
+    /// there is one, follow it.
+    fn apply_watched(&mut self, loan: Loan, source: u64, event: Event) -> Answer {
+        let Some(mut watch) = self.watch.take() else { return self.apply(loan, event) };
+        let before = self.expected.chip.clone();
+        let done = self.apply(loan, event);
+        let record = match done.record.written() {
+            [0x82, verdict] => Record::Verdict(*verdict),
+            _ => Record::None,
+        };
+        let (before, after, worked) = (&before, &self.expected.chip, done.ticks);
+        watch.follow(&Happened { source, event, before, after, record, worked });
+        self.watch = Some(watch);
+        done
+    }
+
+    /// The planted fault, if it is one of stamps.
+    fn stamp_fault(&self) -> Option<usize> {
+        let fault = self.fault.filter(|fault| (STAMPS..REPORTS).contains(fault));
+        fault.map(|fault| fault - STAMPS)
+    }
+
+    /// The planted fault, if it is one of reports.
+    fn report_fault(&self) -> Option<usize> {
+        let fault = self.fault.filter(|fault| (REPORTS..WRITER).contains(fault));
+        fault.map(|fault| fault - REPORTS)
+    }
+
+    /// The number and the offset that the model refuses a run by.
+    fn model_refusal(&mut self, loan: Loan, script: &[u8], room: usize) -> (u8, u64) {
+        let (mut chip, mut output) = (self.expected.chip.clone(), vec![0; room]);
         let area = &self.sfdp[GUARD..][..self.area_length(loan)];
         let memory = &mut self.scratch[..loan.memory];
         let answer = model::run(&mut chip, memory, area, script, &mut output);
-        let mut refusal = answer.refusal;
-        if self.has(14) && script.len() == LONGEST && refusal == 0 {
-            refusal = 3;
+        (answer.refusal, answer.offset as u64)
+    }
+
+    /// The number and the offset that a run is refused by, with the fault.
+    fn refusal_of(&mut self, loan: Loan, script: &[u8], room: usize) -> (u8, u64) {
+        if let Some(refusal) = self.early_refusal(loan) {
+            return (refusal, 0);
         }
+        let told = self.room_told(loan, script, room);
+        if let Some(fault) = self.stamp_fault() {
+            let ticks = wrong_stamp::ticks_for_stamps(script);
+            let otherwise = self.model_refusal(loan, &ticks, told);
+            return wrong_stamp::refusal(fault, self.last_stamp, script, otherwise);
+        }
+        match self.model_refusal(loan, script, told) {
+            (0, _) if self.has(14) && script.len() == LONGEST => (3, 0),
+            refusal => refusal,
+        }
+    }
+
+    /// Runs a script, with the fault.
+    fn run_script(&mut self, loan: Loan, script: &[u8], room: usize) -> Answer {
+        let (refusal, offset) = self.refusal_of(loan, script, room);
         if refusal != 0 {
             if self.has(8) && refusal >= 4 && room > 0 {
                 self.output[room - 1] = 0;
             }
-            return Answer::to_run(refusal, answer.offset as u64, 0, 0);
+            return Answer::to_run(refusal, offset, 0, 0);
         }
         let answer = self.run_events(loan, script);
         if self.has(9) && (answer.written as usize) < room {
@@ -357,7 +429,7 @@ fn lenient_chip(chip: &Chip, image: &Image) -> Chip {
 
 impl Side for WrongCopy {
     fn fresh(&mut self, status: u8) -> Result<(), String> {
-        self.expected = Expected::fresh(status);
+        (self.expected, self.last_stamp) = (Expected::fresh(status), None);
         self.take_numbers();
         Ok(())
     }
@@ -383,6 +455,8 @@ impl Side for WrongCopy {
     }
 
     fn event(&mut self, loan: Loan, event: Event, _: bool) -> Result<Answer, String> {
+        let stamps = self.stamp_fault().unwrap_or(wrong_stamp::NO_FAULT);
+        let event = wrong_stamp::alone(stamps, event, &self.expected.chip);
         let mut answer = self.apply(loan, event);
         if answer.refusal == 0 {
             self.take_numbers();
@@ -400,6 +474,31 @@ impl Side for WrongCopy {
         let taken = wrong_deselect::script_taken(fault - DESELECTS, script);
         let answer = self.run_script(loan, &taken.bytes, room);
         Ok(wrong_deselect::run_answer(fault - DESELECTS, script, &taken, answer))
+    }
+
+    fn run_report(
+        &mut self,
+        loan: Loan,
+        script: &[u8],
+        room: usize,
+        allowances: &Allowances,
+        report: &mut Report,
+    ) -> Result<Answer, String> {
+        let over = allowances.iter().any(|allowance| *allowance > margins::LARGEST);
+        let otherwise = if over { self.refusal_of(loan, script, room).0 } else { 0 };
+        let fault = self.report_fault();
+        let watch = Watch::new(fault, &self.expected.chip, allowances, report);
+        if wrong_report::refuses(fault, allowances, otherwise) {
+            *report = watch.report_after(18);
+            return Ok(Answer::to_run(18, 0, 0, 0));
+        }
+        self.watch = Some(watch);
+        let mut answer = self.run(loan, script, room)?;
+        if let Some(watch) = self.watch.take() {
+            answer.ticks += watch.ticks_more();
+            *report = watch.report_after(answer.refusal);
+        }
+        Ok(answer)
     }
 
     fn find(&mut self, area: usize, identity: u8) -> Result<Found, String> {

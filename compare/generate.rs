@@ -127,7 +127,9 @@ impl<'a> Writer<'a> {
     pub fn some_ticks(&mut self) {
         let left = self.steps_left();
         let few = 1 + self.rng.below(20) as u32;
-        let count = self.rng.pick(&[1, 2, few, left.max(2) - 1, left, left + 1, left / 2, 65_535]);
+        let about = [left.max(2) - 1, left, left + 1, left / 2];
+        let counts = [1, 2, few, about[0], about[1], about[2], about[3], 32_767, 65_535];
+        let count = self.rng.pick(&counts);
         self.put(kind::TICKS, u64::from(count.clamp(1, 65_535)));
     }
 

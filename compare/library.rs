@@ -2,7 +2,8 @@
 
 use crate::event::Event;
 use crate::image::Image;
-use crate::model::Chip;
+use crate::margins::{Allowances, Report, KINDS};
+use crate::model::{Chip, Line};
 use crate::programming::Programming;
 use crate::sfdp::{Found, CONTENT};
 use crate::side::{Answer, Loan, RecordBytes, Side, MEMORY_AREA, OUTPUT_AREA, SFDP_AREA};
@@ -37,6 +38,11 @@ const DESK: usize = OUTPUT + OUTPUT_AREA;
 const IMAGE: usize = DESK + 128;
 /// Where the part's own SFDP area stands on the desk.
 const OWN_AREA: usize = DESK + 1024;
+/// Where the allowances of a run stand on the desk, and behind them its report.
+const REPORT: usize = DESK + 2048;
+/// Bytes of the allowances, and of a report.
+const ALLOWANCES_LENGTH: usize = 4 * KINDS.len();
+const REPORT_LENGTH: usize = 12 * KINDS.len();
 /// Where the SFDP area with its guards stands.
 const SFDP: usize = DESK + Chip::SECTOR;
 /// Length of the shared file.
@@ -109,6 +115,24 @@ impl Library {
         };
         drop((to, from));
         child.wait().map_or(String::new(), |status| format!(", {status}"))
+    }
+
+    /// Sends a request for a run of a script and gives its answer.
+    fn run_by(
+        &mut self,
+        request: u8,
+        loan: Loan,
+        script: &[u8],
+        room: usize,
+    ) -> Result<Answer, String> {
+        self.part(SCRIPT, script.len()).copy_from_slice(script);
+        let lengths = [loan.memory, loan.area, script.len(), room];
+        self.call(request, lengths.map(|length| length as u64))?;
+        if *self.part(SCRIPT, script.len()) != *script {
+            return Err("the script was written to".to_string());
+        }
+        let [refusal, offset, written, ticks] = [0, 1, 2, 3].map(|place| self.number(place));
+        Ok(Answer::to_run(refusal as u8, offset, written, ticks))
     }
 
     /// The answer to the event that was last served.
@@ -190,6 +214,25 @@ fn unpack(bytes: &[u8; IMAGE_LENGTH]) -> Image {
     }
 }
 
+/// Writes a report as the rows of numbers that the shim reads.
+fn pack_report(report: &Report) -> Vec<u8> {
+    let numbers = |line: &Line| {
+        let margins = [line.smallest, line.largest].map(i32::to_le_bytes);
+        [line.count.to_le_bytes(), margins[0], margins[1]].concat()
+    };
+    report.iter().flat_map(numbers).collect()
+}
+
+/// Reads a report from the rows of numbers that the shim writes.
+fn unpack_report(bytes: &[u8]) -> Report {
+    let number = |at: usize| [0, 1, 2, 3].map(|i| bytes[at + i]);
+    std::array::from_fn(|place| Line {
+        count: u32::from_le_bytes(number(12 * place)),
+        smallest: i32::from_le_bytes(number(12 * place + 4)),
+        largest: i32::from_le_bytes(number(12 * place + 8)),
+    })
+}
+
 impl Side for Library {
     fn fresh(&mut self, status: u8) -> Result<(), String> {
         self.call(b'f', [u64::from(status), 0, 0, 0])
@@ -217,14 +260,24 @@ impl Side for Library {
     }
 
     fn run(&mut self, loan: Loan, script: &[u8], room: usize) -> Result<Answer, String> {
-        self.part(SCRIPT, script.len()).copy_from_slice(script);
-        let lengths = [loan.memory, loan.area, script.len(), room];
-        self.call(b'r', lengths.map(|length| length as u64))?;
-        if *self.part(SCRIPT, script.len()) != *script {
-            return Err("the script was written to".to_string());
-        }
-        let [refusal, offset, written, ticks] = [0, 1, 2, 3].map(|place| self.number(place));
-        Ok(Answer::to_run(refusal as u8, offset, written, ticks))
+        self.run_by(b'r', loan, script, room)
+    }
+
+    fn run_report(
+        &mut self,
+        loan: Loan,
+        script: &[u8],
+        room: usize,
+        allowances: &Allowances,
+        report: &mut Report,
+    ) -> Result<Answer, String> {
+        let numbers = allowances.map(u32::to_le_bytes).concat();
+        self.part(REPORT, ALLOWANCES_LENGTH).copy_from_slice(&numbers);
+        let lines = self.part(REPORT + ALLOWANCES_LENGTH, REPORT_LENGTH);
+        lines.copy_from_slice(&pack_report(report));
+        let answer = self.run_by(b'm', loan, script, room)?;
+        *report = unpack_report(self.part(REPORT + ALLOWANCES_LENGTH, REPORT_LENGTH));
+        Ok(answer)
     }
 
     fn find(&mut self, area: usize, identity: u8) -> Result<Found, String> {

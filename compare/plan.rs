@@ -7,6 +7,7 @@ use crate::commands::{Command, COMMANDS, UNKNOWN};
 use crate::event::{events_of, frame_of, kind, script_of, Event, LONGEST};
 use crate::generate::Writer;
 use crate::image::Edit;
+use crate::margins::LARGEST;
 use crate::session::{Outcome, Session};
 use crate::states;
 
@@ -15,6 +16,8 @@ impl Session<'_> {
     pub fn planned(&mut self) -> Outcome {
         self.fresh_states()?;
         self.deselects()?;
+        self.stamps()?;
+        self.reports()?;
         self.waits()?;
         self.areas()?;
         self.script_writer()?;
@@ -29,6 +32,10 @@ impl Session<'_> {
         for length in LENGTHS {
             self.some_fates(length)?;
             self.erase_walk(length)?;
+        }
+        self.long_scripts_with_stamps()?;
+        for allowance in [0, LARGEST] {
+            self.latest_jobs(allowance)?;
         }
         for length in &LENGTHS[1..] {
             self.broken_states(*length)?;

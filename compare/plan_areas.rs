@@ -56,7 +56,8 @@ impl Session<'_> {
         self.open_lending(LENGTHS[0], CONTENT.to_vec())?;
         let data = std::iter::repeat_n(0, 16);
         let script = script_of(&frame_of([0x5A, 0, 0, 0, 0].into_iter().chain(data)));
-        let answer = self.step(Step::Run { script, spare: 0, length: None })?;
+        let step = self.any_run(script, 0);
+        let answer = self.step(step)?;
         self.hold_to(self.bench.written(&answer), &FIRST_BYTES)?;
         self.close()
     }

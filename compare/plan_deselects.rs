@@ -204,8 +204,8 @@ impl Session<'_> {
     }
 
     /// Events of a kind, alone, by value and lent, with every body: from 8 on a deselect is refused
-    /// by 6, and 08h by 5 whatever its body; both leave the open frame as it is.
-    fn bodies_alone(&mut self, kind: u64) -> Outcome {
+    /// by 6, and any other kind here by 5 whatever its body; both leave the open frame as it is.
+    pub fn bodies_alone(&mut self, kind: u64) -> Outcome {
         self.open_fresh(LENGTHS[0], 0)?;
         for body in (0..=300).chain(WIDE) {
             for lent in [false, true] {
@@ -233,7 +233,7 @@ impl Session<'_> {
     }
 
     /// Holds an answer to the refusal and the offset that are due.
-    fn hold_refusal(&self, answer: &Answer, refusal: u8, offset: u64) -> Outcome {
+    pub fn hold_refusal(&self, answer: &Answer, refusal: u8, offset: u64) -> Outcome {
         if (answer.refusal, answer.offset) == (refusal, offset) {
             return Ok(());
         }
@@ -262,9 +262,9 @@ impl Session<'_> {
     }
 
     /// A script that is refused whatever its room, with a frame open and without one.
-    fn refused_script(&mut self, script: &[u8], refusal: u8, offset: u64) -> Outcome {
+    pub fn refused_script(&mut self, script: &[u8], refusal: u8, offset: u64) -> Outcome {
         for spare in [-1, 0, 5] {
-            let step = Step::Run { script: script.to_vec(), spare, length: None };
+            let step = self.any_run(script.to_vec(), spare);
             let answer = self.step(step)?;
             self.hold_refusal(&answer, refusal, offset)?;
             if spare == 0 {
@@ -293,7 +293,7 @@ impl Session<'_> {
     fn taken_script(&mut self, script: &[u8], records: &[u8]) -> Outcome {
         self.open_fresh(LENGTHS[0], 0)?;
         for (spare, refusal) in [(-1, 7), (0, 0)] {
-            let step = Step::Run { script: script.to_vec(), spare, length: None };
+            let step = self.any_run(script.to_vec(), spare);
             let answer = self.step(step)?;
             self.hold_refusal(&answer, refusal, 0)?;
             if refusal == 0 {
@@ -311,7 +311,8 @@ impl Session<'_> {
         for end in 0..=script.len() {
             let cut = script[..end].to_vec();
             let unfinished = events_of(&cut).1.len();
-            let answer = self.step(Step::Run { script: cut, spare: 0, length: None })?;
+            let step = self.any_run(cut, 0);
+            let answer = self.step(step)?;
             match unfinished {
                 0 => self.hold_refusal(&answer, 0, 0)?,
                 _ => self.hold_refusal(&answer, 4, (end - unfinished) as u64)?,

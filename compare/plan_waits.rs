@@ -325,7 +325,7 @@ fn frame_over_wait(writer: &mut Writer, opcode: Option<u8>, end: End) {
 }
 
 /// A row of records without those of bytes that float.
-fn without_floating(row: &[u8]) -> Vec<u8> {
+pub fn without_floating(row: &[u8]) -> Vec<u8> {
     let (mut kept, mut rest) = (Vec::new(), row);
     while let Some((record, after)) = first_record(rest) {
         if record != [0x80] {

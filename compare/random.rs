@@ -3,6 +3,7 @@
 use crate::areas::{self, IDENTITIES};
 use crate::case::{Content, Start, Step};
 use crate::image::FLAGS;
+use crate::margins::any_report;
 use crate::model::Chip;
 use crate::session::{Outcome, Session};
 use crate::states;
@@ -25,8 +26,8 @@ impl Session<'_> {
         Ok(())
     }
 
-    /// One random case: a start and scenes, with refusals, hand-overs, other areas, questions to the
-    /// reader and programmings between them.
+    /// One random case: a start and scenes, with refusals, hand-overs, other areas, other reports,
+    /// questions to the reader and programmings between them.
     fn random_case(&mut self, length: usize) -> Outcome {
         let (seed, status) = (self.rng.next(), self.rng.byte());
         let content = self.rng.pick(&[Content::Blank, Content::Noise(seed), Content::Noise(seed)]);
@@ -50,6 +51,7 @@ impl Session<'_> {
                 4 => self.other_area()?,
                 5 => self.questions()?,
                 6 => self.any_programmings()?,
+                7 if self.rng.once_in(2) => self.other_report()?,
                 _ => self.scene()?,
             }
         }
@@ -66,6 +68,12 @@ impl Session<'_> {
         }
         let area = areas::taken(&mut self.rng);
         self.step(Step::Lend(area)).map(|_| ())
+    }
+
+    /// Another report, in place of the one that is carried.
+    fn other_report(&mut self) -> Outcome {
+        let report = any_report(&mut self.rng);
+        self.step(Step::Report(report)).map(|_| ())
     }
 
     /// Some questions to the reader, about any identity or one that an area is likely to have.

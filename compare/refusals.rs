@@ -5,8 +5,10 @@ use crate::areas;
 use crate::case::{Content, Start, Step, LENGTHS};
 use crate::event::{kind, room_needed, script_of, Event, LONGEST};
 use crate::image::Edit;
+use crate::margins::{any_allowances, KINDS, LARGEST};
 use crate::model::Chip;
 use crate::session::{Outcome, Session};
+use crate::stamps::any_move;
 
 /// Memory lengths that are none of the six.
 const WRONG_LENGTHS: [usize; 11] = [
@@ -30,6 +32,10 @@ const TICK: Event = (kind::TICK, 0);
 const POWER_CUT: Event = (kind::POWER_CUT, 0);
 /// An event of an unknown kind.
 const UNKNOWN: Event = (0, 0);
+/// A stamp, which is no event alone.
+const STAMP: Event = (kind::STAMP, 5);
+/// A script whose second stamp went back.
+const WENT_BACK: [u8; 6] = [9, 0, 5, 9, 0, 4];
 /// Events whose bodies are out of range.
 const OUT_OF_RANGE: Event = (kind::WP_LEVEL, 2);
 const EIGHT_BITS: Event = (kind::DESELECT, 8);
@@ -56,20 +62,21 @@ impl Session<'_> {
 
     /// Good and bad events and runs, all of them refused by a number that comes before 3 to 7.
     pub fn refused_by(&mut self, number: u8) -> Outcome {
-        let events = [SELECT, OPCODE, TICK, POWER_CUT, UNKNOWN, OUT_OF_RANGE, EIGHT_BITS];
+        let events = [SELECT, OPCODE, TICK, POWER_CUT, UNKNOWN, STAMP, OUT_OF_RANGE, EIGHT_BITS];
         let (first, second) = (self.rng.pick(&events), self.rng.pick(&events));
         let mut steps = vec![
             Step::Event { event: first, lent: false, length: None },
             Step::Event { event: second, lent: true, length: None },
         ];
         let good = vec![1, 2, 5, 2, 0, 3, 0];
-        let unknown = vec![1, self.rng.pick(&[8, 0x80])];
-        let unfinished = vec![self.rng.pick(&[2, 3])];
+        let unknown = vec![1, self.rng.pick(&[8, 0x0A, 0x80])];
+        let unfinished = vec![self.rng.pick(&[2, 3, 9])];
         let out_of_range = self.rng.pick(&[[6, 2], [3, 8]]).to_vec();
         let too_long = vec![4; LONGEST + 1];
-        for script in [vec![], good, unknown, unfinished, out_of_range, too_long] {
+        let back = WENT_BACK.to_vec();
+        for script in [vec![], good, unknown, unfinished, out_of_range, back, too_long] {
             let spare = self.rng.pick(&[0, -1, 3]);
-            steps.push(Step::Run { script, spare, length: None });
+            steps.push(self.any_run(script, spare));
         }
         for step in steps {
             let answer = self.step(step)?;
@@ -82,13 +89,22 @@ impl Session<'_> {
     pub fn wrong_length(&mut self) -> Outcome {
         let length = Some(self.rng.pick(&WRONG_LENGTHS));
         let lent = self.lent();
-        let events = [SELECT, TICK, UNKNOWN, OUT_OF_RANGE, EIGHT_BITS, POWER_CUT];
+        let events = [SELECT, TICK, UNKNOWN, STAMP, OUT_OF_RANGE, EIGHT_BITS, POWER_CUT];
         let event = self.rng.pick(&events);
         self.step(Step::Event { event, lent, length })?;
-        let scripts: [&[u8]; 7] =
-            [&[], &[1, 2, 5, 3, 0], &[1, 2, 5, 3], &[0x80], &[8, 1], &[5, 0], &[4; LONGEST + 1]];
+        let scripts: [&[u8]; 8] = [
+            &[],
+            &[1, 2, 5, 3, 0],
+            &[1, 2, 5, 3],
+            &[0x80],
+            &[8, 1],
+            &[5, 0],
+            &WENT_BACK,
+            &[4; LONGEST + 1],
+        ];
         let script = self.rng.pick(&scripts).to_vec();
-        self.step(Step::Run { script, spare: -1, length }).map(|_| ())
+        let allowances = self.some_allowances();
+        self.step(Step::Run { script, spare: -1, length, allowances }).map(|_| ())
     }
 
     /// A step that is refused, or at least asks to be.
@@ -97,6 +113,7 @@ impl Session<'_> {
             0..=4 => self.any_event(),
             5 => self.wrong_length(),
             6 => self.too_long(),
+            7 => self.bad_allowances(),
             _ => self.bad_run(),
         }
     }
@@ -122,6 +139,21 @@ impl Session<'_> {
         self.run(vec![kind as u8; bytes], spare)
     }
 
+    /// A run with a report and with bad allowances, of a script that is good or not.
+    fn bad_allowances(&mut self) -> Outcome {
+        let mut allowances = any_allowances(&mut self.rng);
+        for _ in 0..self.rng.pick(&[1, 1, 2]) {
+            let place = self.rng.below(KINDS.len());
+            let any = self.rng.next() as u32 | 1 << 20;
+            allowances[place] = self.rng.pick(&[LARGEST + 1, LARGEST + 1, any, u32::MAX]);
+        }
+        let scripts: [&[u8]; 5] = [&[], &[1, 2, 6, 3, 0], &[2], &[8], &WENT_BACK];
+        let (script, spare) = (self.rng.pick(&scripts).to_vec(), self.rng.pick(&[0, -1]));
+        let length = self.rng.once_in(4).then(|| self.rng.pick(&WRONG_LENGTHS));
+        let step = Step::Run { script, spare, length, allowances: Some(allowances) };
+        self.step(step).map(|_| ())
+    }
+
     /// A run with bad events, or with too little room, or both.
     fn bad_run(&mut self) -> Outcome {
         let scene = any_scene(&mut self.rng);
@@ -142,26 +174,29 @@ impl Session<'_> {
         self.run(script, spare)
     }
 
-    /// The bytes of an event with an unknown kind or with a body outside its range.
+    /// The bytes of an event with an unknown kind or with a body outside its range, or of stamps of
+    /// which most went back.
     fn bad_bytes(&mut self) -> Vec<u8> {
         let high = self.rng.byte();
-        match self.rng.below(9) {
+        match self.rng.below(12) {
             0 => vec![0],
             1 => vec![0x80],
-            2 => vec![high.max(8)],
+            2 => vec![high.max(10)],
             3 => vec![5, 0, 0],
             4 => vec![6, high.max(2)],
             5 => vec![3, 8],
             6 => vec![3, high.max(8)],
             7 => vec![8, high % 8],
-            _ => vec![8],
+            8 => vec![8],
+            _ => script_of(&any_move(&mut self.rng)),
         }
     }
 
     /// The bytes of an event whose body, or a part of it, is not there, or of an unknown kind.
     fn unfinished(&mut self) -> Vec<u8> {
         let any = self.rng.byte();
-        let last: [&[u8]; 8] = [&[2], &[3], &[5], &[5, 0], &[5, any], &[6], &[8], &[any]];
+        let last: [&[u8]; 10] =
+            [&[2], &[3], &[5], &[5, 0], &[5, any], &[6], &[8], &[9], &[9, any], &[any]];
         self.rng.pick(&last).to_vec()
     }
 }

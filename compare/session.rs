@@ -8,9 +8,11 @@ use crate::coverage::Coverage;
 use crate::event::{body_length, script_of, Event};
 use crate::generate::Writer;
 use crate::image::Edit;
+use crate::margins::{any_allowances, Allowances};
 use crate::model::Chip;
 use crate::rng::Rng;
 use crate::side::Answer;
+use crate::stamps::with_stamps;
 
 /// A case with a difference at its last step.
 pub struct Failure {
@@ -96,9 +98,10 @@ impl<'a> Session<'a> {
 
     /// Does a step on both sides.
     pub fn step(&mut self, step: Step) -> Result<Answer, Failure> {
-        let before = self.bench.expected.clone();
+        let (before, handed) = (self.bench.expected.clone(), self.bench.report);
         let answer = self.bench.perform(&step);
         if let Ok(answer) = &answer {
+            self.coverage.note_reports(&handed, &self.bench.report);
             self.events += self.coverage.note_step(&before, &step, answer, self.case.length);
         }
         self.case.steps.push(step);
@@ -158,9 +161,31 @@ impl<'a> Session<'a> {
         Ok(())
     }
 
+    /// Allowances for a run in three, which then carries the report on, and none for the others.
+    pub fn some_allowances(&mut self) -> Option<Allowances> {
+        self.rng.once_in(3).then(|| any_allowances(&mut self.rng))
+    }
+
+    /// A run of a script over the case's memory, plain or with the report.
+    pub fn any_run(&mut self, script: Vec<u8>, spare: i64) -> Step {
+        let allowances = self.some_allowances();
+        Step::Run { script, spare, length: None, allowances }
+    }
+
     /// Runs a script over the case's memory, with some bytes of room more or less than it asks for.
     pub fn run(&mut self, script: Vec<u8>, spare: i64) -> Outcome {
-        self.step(Step::Run { script, spare, length: None }).map(|_| ())
+        let step = self.any_run(script, spare);
+        self.step(step).map(|_| ())
+    }
+
+    /// Runs a script over the case's memory in one of the two forms: plain, or with the report.
+    pub fn run_form(
+        &mut self,
+        script: Vec<u8>,
+        spare: i64,
+        allowances: Option<Allowances>,
+    ) -> Result<Answer, Failure> {
+        self.step(Step::Run { script, spare, length: None, allowances })
     }
 
     /// Runs events as one script.
@@ -172,8 +197,8 @@ impl<'a> Session<'a> {
     /// What events are answered at an entry point; a run is given the exact room.
     pub fn said_at(&mut self, entry: Entry, events: &[Event]) -> Result<Said, Failure> {
         if let Entry::Run = entry {
-            let script = script_of(events);
-            let answer = self.step(Step::Run { script, spare: 0, length: None })?;
+            let step = self.any_run(script_of(events), 0);
+            let answer = self.step(step)?;
             return Ok(Said { records: self.bench.written(&answer).to_vec(), ticks: answer.ticks });
         }
         let lent = matches!(entry, Entry::Lent);
@@ -195,15 +220,24 @@ impl<'a> Session<'a> {
             return self.one_by_one(events);
         }
         if self.rng.once_in(2) {
-            return self.one_run(events);
+            return self.stamped_run(events);
         }
         let mut rest = events;
         while !rest.is_empty() {
             let (part, after) = rest.split_at(1 + self.rng.below(rest.len().min(40)));
-            self.one_run(part)?;
+            self.stamped_run(part)?;
             rest = after;
         }
         Ok(())
+    }
+
+    /// Runs events as one script, at times with stamps in the place of ticks.
+    fn stamped_run(&mut self, events: &[Event]) -> Outcome {
+        if self.rng.once_in(3) {
+            let stamped = with_stamps(&mut self.rng, events);
+            return self.one_run(&stamped);
+        }
+        self.one_run(events)
     }
 
     /// One to three scenes, at times cut off inside a frame.

@@ -24,6 +24,11 @@ struct chip {
 };
 struct event_answer { struct chip chip; u8 refusal, size; u8 bytes[3]; u32 ticks; };
 struct run_answer { struct chip chip; u8 refusal; u64 offset, written, ticks; };
+// A report has a line, and the allowances have a number, for each kind of job.
+struct line { u32 count; int smallest, largest; };
+struct report { struct line status, program, small, sector, chip; };
+struct allowances { u32 status, program, small, sector, chip; };
+struct reported { struct run_answer run; struct report report; };
 struct found { u8 refusal; u64 place, length; };
 struct own_area { u8 bytes[208]; };
 struct written { u8 refusal; u64 written; };
@@ -36,6 +41,9 @@ struct event_answer chip_event_lent(struct chip c, u8 *mem, u64 mem_len, const u
                                     u64 area_len, u64 kind, u64 body);
 struct run_answer chip_run(struct chip c, u8 *mem, u64 mem_len, const u8 *area, u64 area_len,
                            const u8 *script, u64 script_len, u8 *out, u64 out_len);
+struct reported chip_run_report(struct chip c, u8 *mem, u64 mem_len, const u8 *area, u64 area_len,
+                                const u8 *script, u64 script_len, u8 *out, u64 out_len,
+                                struct allowances allowances, struct report report);
 struct found sfdp_find(const u8 *area, u64 area_len, u8 identity);
 struct own_area sfdp_own_area(void);
 struct written write_program(u64 mem_len, u64 address, const u8 *data, u64 data_len, u8 *out,
@@ -46,6 +54,8 @@ enum { SECTOR = 65536, MEMORY = 0, SCRIPT = 65 * SECTOR, OUTPUT = 68 * SECTOR, D
 enum { SFDP = 76 * SECTOR, FILE_LENGTH = 77 * SECTOR };
 // The chip and the part's own SFDP area on the desk, and the bytes before the SFDP area that is lent.
 enum { IMAGE = 128, OWN_AREA = 1024, GUARD = 64 };
+// The allowances of a run on the desk, and behind them its report.
+enum { ALLOWANCES = 2048, REPORT = ALLOWANCES + sizeof(struct allowances) };
 
 // Seconds after which a request without an answer ends the process.
 enum { PATIENCE = 20 };
@@ -86,6 +96,20 @@ static void run_done(struct run_answer a, u64 *desk) {
     desk[0] = a.refusal; desk[1] = a.offset; desk[2] = a.written; desk[3] = a.ticks;
 }
 
+// Runs a script with the allowances and the report that stand on the desk, where the report after it
+// goes.
+static void run_report(u64 *desk, u8 *mem, const u8 *area) {
+    u8 *report_at = shared + DESK + REPORT;
+    struct allowances allowances;
+    struct report report;
+    copy((u8 *)&allowances, shared + DESK + ALLOWANCES, sizeof allowances, shared);
+    copy((u8 *)&report, report_at, sizeof report, shared);
+    struct reported a = chip_run_report(chip, mem, desk[0], area, desk[1], shared + SCRIPT, desk[2],
+                                        shared + OUTPUT, desk[3], allowances, report);
+    run_done(a.run, desk);
+    copy(report_at, (u8 *)&a.report, sizeof a.report, shared);
+}
+
 // Puts the reader's answer on the desk.
 static void find_done(struct found a, u64 *desk) {
     desk[0] = a.refusal; desk[1] = a.place; desk[2] = a.length;
@@ -120,6 +144,7 @@ static void serve(u8 request) {
         run_done(chip_run(chip, mem, desk[0], area, desk[1], shared + SCRIPT, desk[2],
                           shared + OUTPUT, desk[3]), desk);
         break;
+    case 'm': run_report(desk, mem, area); break;
     case 't': find_done(sfdp_find(area, desk[0], (u8)desk[1]), desk); break;
     case 'o': own_area_done(sfdp_own_area()); break;
     case 'w':

@@ -2,8 +2,10 @@
 
 use crate::bench::Bench;
 use crate::case::{Case, Content, Start, Step, LENGTHS};
-use crate::event::{events_of, script_of, Event};
+use crate::clock::{seen_events, WENT_BACK};
+use crate::event::{events_of, kind, script_of, Event};
 use crate::image::Edit;
+use crate::margins::{Allowances, Report, KINDS, NO_JOBS};
 use crate::model::{Chip, Job, JobKind};
 use std::time::{Duration, Instant};
 
@@ -97,7 +99,14 @@ impl Shrinker<'_, '_> {
                 changes.into_iter().any(|step| self.try_step(number, step))
             }
             Some(Step::Run { .. }) => {
-                self.run_to_events(number) || self.delete_from_run(number) | self.shrink_run(number)
+                self.run_to_events(number)
+                    || self.plainer_run(number)
+                        | self.delete_from_run(number)
+                        | self.shrink_run(number)
+            }
+            Some(Step::Report(report)) => {
+                let plainer = plainer_reports(&report).into_iter();
+                plainer.map(Step::Report).any(|step| self.try_step(number, step))
             }
             Some(Step::Lend(area)) => {
                 let smaller = smaller_areas(&area).into_iter();
@@ -112,14 +121,46 @@ impl Shrinker<'_, '_> {
         }
     }
 
+    /// Writes the ticks of a run's stamps out, or has the stamps begin at 0, and makes it a plain one
+    /// or its allowances smaller.
+    fn plainer_run(&mut self, number: usize) -> bool {
+        let Some(Step::Run { script, .. }) = self.case.steps.get(number) else { return false };
+        let scripts = plainer_scripts(script);
+        let mut smaller = scripts.into_iter().any(|script| self.try_script(number, script));
+        smaller |= self.try_allowances(number, |_| None);
+        for place in 0..KINDS.len() {
+            smaller |= self.try_allowances(number, |mut numbers| {
+                numbers[place] = 0;
+                Some(numbers)
+            });
+        }
+        smaller
+    }
+
+    /// Tries a run that has allowances with others, or with none.
+    fn try_allowances(
+        &mut self,
+        number: usize,
+        others: impl Fn(Allowances) -> Option<Allowances>,
+    ) -> bool {
+        let Some(Step::Run { script, spare, length, allowances: Some(numbers) }) =
+            self.case.steps.get(number).cloned()
+        else {
+            return false;
+        };
+        let allowances = others(numbers);
+        self.try_step(number, Step::Run { script, spare, length, allowances })
+    }
+
     /// Puts single events in the place of a run.
     fn run_to_events(&mut self, number: usize) -> bool {
         let Step::Run { script, length, .. } = &self.case.steps[number] else { return false };
         let single = |event| Step::Event { event, lent: false, length: *length };
-        let events: Vec<Step> = events_of(script).0.into_iter().map(single).collect();
-        if events.len() > 2_000 {
+        let seen = seen_events(&events_of(script).0);
+        if seen.len() > 2_000 {
             return false;
         }
+        let events: Vec<Step> = seen.into_iter().map(single).collect();
         let mut changed = self.case.clone();
         changed.steps.splice(number..=number, events);
         self.keep(changed)
@@ -162,21 +203,23 @@ impl Shrinker<'_, '_> {
 
     /// Tries a run with another script.
     fn try_script(&mut self, number: usize, script: Vec<u8>) -> bool {
-        let Some(Step::Run { spare, length, .. }) = self.case.steps.get(number) else {
+        let Some(Step::Run { spare, length, allowances, .. }) = self.case.steps.get(number) else {
             return false;
         };
-        let step = Step::Run { script, spare: *spare, length: *length };
-        self.try_step(number, step)
+        let (spare, length, allowances) = (*spare, *length, *allowances);
+        self.try_step(number, Step::Run { script, spare, length, allowances })
     }
 
     /// Makes the numbers in a run's script smaller, and its room the exact one or a byte short.
     fn shrink_run(&mut self, number: usize) -> bool {
-        let Some(Step::Run { script, spare, length }) = self.case.steps.get(number).cloned() else {
+        let Some(Step::Run { script, spare, length, allowances }) =
+            self.case.steps.get(number).cloned()
+        else {
             return false;
         };
         let nearer = [0, -1_i64].into_iter().filter(|nearer| nearer.abs() < spare.abs());
-        let mut steps = nearer.map(|spare| Step::Run { script: script.clone(), spare, length });
-        let mut smaller = steps.any(|step| self.try_step(number, step));
+        let run = |spare| Step::Run { script: script.clone(), spare, length, allowances };
+        let mut smaller = nearer.map(run).any(|step| self.try_step(number, step));
         let mut at = 0;
         while let Some(pieces) = self.script_pieces(number).filter(|pieces| at < pieces.len()) {
             let event = events_of(&pieces[at]).0.first().copied();
@@ -239,9 +282,38 @@ fn smaller_areas(area: &[u8]) -> Vec<Vec<u8>> {
     lengths.into_iter().map(|length| area[..length].to_vec()).collect()
 }
 
-/// Events with the same kind and a smaller body, the smallest first.
+/// Scripts of the same events without stamps, their ticks written out, and with the first stamp at
+/// 0 and the others as far from it as they were.
+fn plainer_scripts(script: &[u8]) -> Vec<Vec<u8>> {
+    let (mut events, rest) = events_of(script);
+    let first = events.iter().find(|event| event.0 == kind::STAMP).map(|event| event.1 as u16);
+    let Some(first) = first else { return Vec::new() };
+    let without = script_of(&seen_events(&events));
+    for event in events.iter_mut().filter(|event| event.0 == kind::STAMP) {
+        event.1 = u64::from((event.1 as u16).wrapping_sub(first));
+    }
+    [without, script_of(&events)].map(|events| [&events, rest].concat()).to_vec()
+}
+
+/// Reports with one line made as without a job.
+fn plainer_reports(report: &Report) -> Vec<Report> {
+    let full = (0..KINDS.len()).filter(|place| report[*place] != NO_JOBS);
+    let plainer = full.map(|place| {
+        let mut report = *report;
+        report[place] = NO_JOBS;
+        report
+    });
+    plainer.collect()
+}
+
+/// Events with the same kind and a smaller body, the smallest first; of a stamp also the least that
+/// is behind 0, and the one before it that 0 is not behind.
 fn smaller_events((kind, body): Event) -> Vec<Event> {
     let mut bodies = vec![0, 1, body / 2, body.saturating_sub(1)];
+    if kind == kind::STAMP {
+        let half = u64::from(WENT_BACK);
+        bodies = vec![0, 1, half, half + 1, body / 2, body.saturating_sub(1)];
+    }
     bodies.retain(|smaller| *smaller < body);
     bodies.dedup();
     bodies.into_iter().map(|body| (kind, body)).collect()

@@ -2,6 +2,7 @@
 
 use crate::event::Event;
 use crate::image::Image;
+use crate::margins::{Allowances, Report};
 use crate::model::{Chip, Record};
 use crate::programming::Programming;
 use crate::sfdp::{Found, CONTENT};
@@ -104,6 +105,15 @@ pub trait Side {
     fn event(&mut self, loan: Loan, event: Event, lent: bool) -> Result<Answer, String>;
     /// Runs a script with that much room for its output.
     fn run(&mut self, loan: Loan, script: &[u8], room: usize) -> Result<Answer, String>;
+    /// Runs a script with that much room for its output, and carries a report on.
+    fn run_report(
+        &mut self,
+        loan: Loan,
+        script: &[u8],
+        room: usize,
+        allowances: &Allowances,
+        report: &mut Report,
+    ) -> Result<Answer, String>;
     /// Finds the table of an identity in an SFDP area of that length.
     fn find(&mut self, area: usize, identity: u8) -> Result<Found, String>;
     /// The part's own SFDP area.

@@ -55,16 +55,21 @@ fn due_verdict(opcode: Option<u8>, chip: &Chip) -> u8 {
     }
 }
 
-/// The events that the tick of a wait can come in.
-const TICKS: [&str; 4] = ["04h", "05h of 1", "05h of 2", "05h of more"];
+/// The events that the tick of a wait can come in; a stamp of so many ticks only in a run.
+const TICKS: [&str; 7] =
+    ["04h", "05h of 1", "05h of 2", "05h of more", "stamp of 1", "stamp of 2", "stamp of more"];
 
-/// The row of an event of ticks.
-fn ticks_row((kind, body): Event) -> usize {
-    match (kind, body) {
+/// The row of the first stamps.
+const STAMPS: usize = 4;
+
+/// The row of an event of so many ticks, of a kind that has them.
+fn ticks_row((kind, ticks): Event) -> usize {
+    let more = if kind == kind::STAMP { STAMPS } else { 1 };
+    match (kind, ticks) {
         (kind::TICK, _) => 0,
-        (_, 1) => 1,
-        (_, 2) => 2,
-        _ => 3,
+        (_, 1) => more,
+        (_, 2) => more + 1,
+        _ => more + 2,
     }
 }
 
@@ -255,9 +260,9 @@ impl WaitCoverage {
         let head: String = names.iter().map(|name| format!("{name:>8}")).collect();
         println!("{:24}{head}", "");
         let mut faults = 0;
-        for (name, counts) in TICKS.iter().zip(&self.ticks) {
+        for (row, (name, counts)) in TICKS.iter().zip(&self.ticks).enumerate() {
             print!("{name:24}");
-            faults += print_cells(counts, |_| true);
+            faults += print_cells(counts, |column| row < STAMPS || column % 3 == 2);
         }
         faults
     }

@@ -3,6 +3,7 @@
 use crate::case::{room, Case, Start, Step, Use};
 use crate::event::{events_of, kind, Event};
 use crate::image::BLANK;
+use crate::margins::{line_words, Report, KINDS};
 use crate::programming::Programming;
 use crate::sfdp::CONTENT;
 
@@ -19,6 +20,7 @@ fn event_words((kind, body): Event) -> String {
         (kind::WP_LEVEL, 0) => "WP low".to_string(),
         (kind::WP_LEVEL, 1) => "WP high".to_string(),
         (kind::POWER_CUT, _) => "power cut".to_string(),
+        (kind::STAMP, 0..=65_535) => format!("stamp {body}"),
         _ => format!("event of kind {kind:X}h with body {body:X}h"),
     }
 }
@@ -72,7 +74,30 @@ fn programming_words(asked: &Programming, used: Use) -> String {
     format!("{count} bytes at {address:X}h of {memory},{bytes}: {used}, room {room}")
 }
 
-/// A step in words, one line an event.
+/// A report in words, a line for each kind of job.
+fn report_words(report: &Report) -> String {
+    let words = KINDS.iter().zip(report);
+    words.map(|((name, _), line)| format!("\n      {name}: {}", line_words(line))).collect()
+}
+
+/// A script in words, one line an event, or the first and the last lines of many.
+fn script_words(script: &[u8]) -> String {
+    let (events, rest) = events_of(script);
+    let (lines, mut text) = (event_lines(&events), String::new());
+    for (number, line) in lines.iter().enumerate() {
+        if number < SHOWN || number + SHOWN >= lines.len() {
+            text += &format!("\n      {line}");
+        } else if number == SHOWN {
+            text += &format!("\n      {} lines more", lines.len() - 2 * SHOWN);
+        }
+    }
+    if !rest.is_empty() {
+        text += &format!("\n      then the bytes {:02X?}", &rest[..rest.len().min(8)]);
+    }
+    text
+}
+
+/// A step in words.
 fn step_words(step: &Step) -> String {
     let over = |length: &Option<usize>| {
         length.map_or(String::new(), |length| format!(", memory length {length}"))
@@ -87,23 +112,14 @@ fn step_words(step: &Step) -> String {
             let way = if *lent { " (lent record)" } else { "" };
             format!("{}{way}{}", event_words(*event), over(length))
         }
-        Step::Run { script, spare, length } => {
-            let (events, rest) = events_of(script);
-            let room = room(script, *spare);
-            let mut text = format!("run of {} bytes, room {room}{}", script.len(), over(length));
-            let lines = event_lines(&events);
-            for (number, line) in lines.iter().enumerate() {
-                if number < SHOWN || number + SHOWN >= lines.len() {
-                    text += &format!("\n      {line}");
-                } else if number == SHOWN {
-                    text += &format!("\n      {} lines more", lines.len() - 2 * SHOWN);
-                }
-            }
-            if !rest.is_empty() {
-                text += &format!("\n      then the bytes {:02X?}", &rest[..rest.len().min(8)]);
-            }
-            text
+        Step::Run { script, spare, length, allowances } => {
+            let (count, room, over) = (script.len(), room(script, *spare), over(length));
+            let with = allowances.map_or(String::new(), |numbers| {
+                format!(", with a report, allowances {numbers:?}")
+            });
+            format!("run of {count} bytes, room {room}{over}{with}{}", script_words(script))
         }
+        Step::Report(report) => format!("a report is handed in{}", report_words(report)),
     }
 }
 

@@ -16,3 +16,5 @@ pub const TICKS: u64 = 0x05;
 pub const WP_LEVEL: u64 = 0x06;
 /// Power is cut and comes back.
 pub const POWER_CUT: u64 = 0x07;
+/// The bench's counter as it then stands, of which a run makes ticks; alone it is no kind.
+pub const STAMP: u64 = 0x09;

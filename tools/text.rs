@@ -1,7 +1,7 @@
 //! The text form of a script, and the script bytes that a text stands for.
 //!
 //! One event a line. `#` starts a comment, blank lines are skipped, a byte is two hex digits, and
-//! a count is a decimal number from 1 to 65535.
+//! a count is a decimal number from 1 to 65535; a counter may also be 0.
 //!
 //! ```text
 //! select               01h
@@ -13,6 +13,7 @@
 //! ticks 16             05h and the count, high byte first
 //! wp low, wp high      06h and 0 or 1
 //! power                07h: power cut and power-up
+//! stamp 40000          09h and the bench's counter, 0 to 65535, high byte first
 //! frame 03 00 00 00 +4 shorthand: select, the exchanges as after send, deselect
 //! program 0000FE A1 A2 shorthand: what it takes to program these bytes from the address on
 //! bytes 08 03          these script bytes as they stand, for scripts that are to be refused
@@ -33,6 +34,8 @@ use crate::kind;
 
 /// The largest count of ticks, reads and repeats.
 const LARGEST_COUNT: usize = 65_535;
+/// The largest number that the bench's counter shows, before it rolls over to 0.
+const LARGEST_COUNTER: usize = 65_535;
 /// The largest number of bits that may be loose at a deselect.
 const LARGEST_BITS: usize = 7;
 /// The body of a deselect on a byte boundary.
@@ -41,7 +44,7 @@ const NO_BITS: u8 = 0;
 const LONGEST_SCRIPT: usize = 1 << 20;
 /// The words that a line may start with.
 const WORDS: &str =
-    "select, send, deselect, tick, ticks, wp, power, loose, frame, program, bytes, repeat";
+    "select, send, deselect, tick, ticks, stamp, wp, power, loose, frame, program, bytes, repeat";
 /// The byte sent when only the answer matters.
 const FILLER: u8 = 0x00;
 /// The opcode of a write enable.
@@ -110,6 +113,7 @@ fn events_of_words(words: &[&str]) -> Result<Vec<u8>, String> {
         ["wp", "low"] => Ok(event(kind::WP_LEVEL, &[0])),
         ["wp", "high"] => Ok(event(kind::WP_LEVEL, &[1])),
         ["ticks", count] => Ok(ticks(number(count, LARGEST_COUNT)? as u16)),
+        ["stamp", counter] => Ok(stamp(number_from(0, counter, LARGEST_COUNTER)? as u16)),
         ["loose", bits] => Ok(event(kind::DESELECT, &[number(bits, LARGEST_BITS)? as u8])),
         ["send", words @ ..] if !words.is_empty() => Ok(exchanges(&sent(words)?)),
         ["frame", words @ ..] if !words.is_empty() => Ok(frame(&sent(words)?)),
@@ -128,6 +132,11 @@ fn event(kind: u64, body: &[u8]) -> Vec<u8> {
 /// The event of that many ticks, high byte first.
 fn ticks(count: u16) -> Vec<u8> {
     event(kind::TICKS, &count.to_be_bytes())
+}
+
+/// The event of a stamp, high byte first.
+fn stamp(counter: u16) -> Vec<u8> {
+    event(kind::STAMP, &counter.to_be_bytes())
 }
 
 /// One exchange for each byte.
@@ -214,10 +223,15 @@ fn hex(word: &str, digits: usize) -> Option<usize> {
 
 /// The decimal number from 1 to the largest that a word names.
 fn number(word: &str, largest: usize) -> Result<usize, String> {
+    number_from(1, word, largest)
+}
+
+/// The decimal number from the smallest to the largest that a word names.
+fn number_from(smallest: usize, word: &str, largest: usize) -> Result<usize, String> {
     let digits_only = word.bytes().all(|digit| digit.is_ascii_digit());
     match word.parse() {
-        Ok(number) if digits_only && (1..=largest).contains(&number) => Ok(number),
-        _ => Err(format!("{word:?} is not a decimal number from 1 to {largest}")),
+        Ok(number) if digits_only && (smallest..=largest).contains(&number) => Ok(number),
+        _ => Err(format!("{word:?} is not a decimal number from {smallest} to {largest}")),
     }
 }
 
@@ -226,6 +240,7 @@ fn misuse(word: &str) -> String {
     let takes = match word {
         "select" | "deselect" | "tick" | "power" => "nothing after it",
         "ticks" => "one count, 1 to 65535",
+        "stamp" => "one counter, 0 to 65535",
         "loose" => "one number of bits, 1 to 7",
         "wp" => "one level, low or high",
         "send" | "frame" | "bytes" => "at least one byte",
@@ -274,6 +289,7 @@ mod tests {
         gives("wp low\nwp high", &[0x06, 0, 0x06, 1]);
         gives("power", &[0x07]);
         gives("loose 3", &[0x03, 3]);
+        gives("stamp 40000", &[0x09, 0x9C, 0x40]);
     }
 
     #[test]
@@ -294,6 +310,7 @@ mod tests {
         gives("ticks 258", &[0x05, 0x01, 0x02]);
         gives("ticks 65535", &[0x05, 0xFF, 0xFF]);
         gives("loose 1\nloose 7", &[0x03, 1, 0x03, 7]);
+        gives("stamp 0\nstamp 258\nstamp 65535", &[9, 0, 0, 9, 1, 2, 9, 0xFF, 0xFF]);
     }
 
     #[test]
@@ -404,6 +421,8 @@ mod tests {
         says("ticks", "line 1: \"ticks\" takes one count, 1 to 65535");
         says("ticks 1 2", "line 1: \"ticks\" takes one count, 1 to 65535");
         says("loose", "line 1: \"loose\" takes one number of bits, 1 to 7");
+        says("stamp", "line 1: \"stamp\" takes one counter, 0 to 65535");
+        says("stamp 1 2", "line 1: \"stamp\" takes one counter, 0 to 65535");
         says("wp 0", "line 1: \"wp\" takes one level, low or high");
         says("send", "line 1: \"send\" takes at least one byte");
         says("frame # 06", "line 1: \"frame\" takes at least one byte");
@@ -433,6 +452,8 @@ mod tests {
         says("send 05 ++1", "line 1: \"+1\" is not a decimal number from 1 to 65535");
         says("loose 0", "line 1: \"0\" is not a decimal number from 1 to 7");
         says("loose 8", "line 1: \"8\" is not a decimal number from 1 to 7");
+        says("stamp 65536", "line 1: \"65536\" is not a decimal number from 0 to 65535");
+        says("stamp -1", "line 1: \"-1\" is not a decimal number from 0 to 65535");
     }
 
     #[test]
