@@ -1,24 +1,24 @@
--- What is true of a run's output: a record is read back as it was written, and the lines read from it are those of the run.
-use Prim.Native.Nat.{ℕ, zero, suc, _+_, _<_, _≤_}
+-- What is true of a run's output: a record is read back as it was written, the lines read from it are those of the run, and a stamp has none.
+use Prim.Native.Nat.{ℕ, zero, suc, _+_}
 use mathlib.Core.Bool.{Bool, true, false, cond, false≢true}
 use mathlib.Core.List.{List, [], _∷_, _++_, append-assoc, append-nil}
 use mathlib.Core.Path.{_≡_, refl, sym, ap, _∙_}
 use native.Mathlib.Nat.{add-zero}
-use native.Mathlib.Omega.{arith}
-use native.Mathlib.Decide.{decLe}
 use lib.ListN.{length, getD, length-append}
 use lib.Seq.{getD-append-add}
+use borrow.Author.Tests.{eqb-true}
+use Rattle.cells.specs.Choice.{cond-no}
 use Rattle.part.specs.Part.{Setting}
-use Rattle.kinds.specs.Kinds.{knownKind, isSaid, yields}
-use Rattle.kinds.specs.Body.{nextAt}
+use Rattle.kinds.specs.Kinds.{STAMP, kindRowIn, kindRow, isSaid, yields}
+use Rattle.clock.specs.declared.Clock.{Clock}
+use Rattle.clock.specs.Clock.{movedOn}
 use Rattle.chip.specs.declared.Record.{Record}
 use Rattle.chip.specs.declared.Record.the-variants.{Nothing, Floating, Driven, Verdict, InTheWay}
 use Rattle.chip.specs.Record.{recordBytes}
 use Rattle.event.specs.Event.{sortOf}
 use Rattle.event.specs.Laws.{says-its-kind}
-use Rattle.script.specs.Script.{Event, faultAt, eventsFrom, Refusal, firstBad}
+use Rattle.script.specs.Script.{Event, isStamp, clockAfter, ticksGiven, timed}
 use Rattle.script.specs.Run.{World, does, onward, runs}
-use Rattle.script.specs.Laws.{events-none, events-more, firstBad-later, no-fault, good-event}
 use Rattle.listing.specs.Text.{lineOf}
 use Rattle.listing.specs.Output.{recordAt, readLines}
 use Rattle.listing.specs.Report.{linesOf}
@@ -56,23 +56,6 @@ no-bytes (InTheWay first last) h = absurd (false≢true (sym h))
 
 -- ---- the lines of a run
 
--- the kind of every event is known
-abbrev pub Known : List Event → Type 0
-Known [] = Unit {0}
-Known (e ∷ es) = (knownKind (e .kind) ≡ true) × Known es
-
--- as it is in a script with no bad event
-pub known-events : (s : List ℕ) (fuel at : ℕ) → length s ≤ at + fuel → firstBad (eventsFrom s at) .number ≡ 0 → Known (eventsFrom s at)
-known-events s zero at l clean = rw (events-none s at (omega arith)) tt
-known-events s (suc fuel) at l clean = go (known-events s fuel (nextAt s at) (omega arith)) (decLe (length s) at)
-  where
-    go : (firstBad (eventsFrom s (nextAt s at)) .number ≡ 0 → Known (eventsFrom s (nextAt s at))) → Dec (length s ≤ at) → Known (eventsFrom s at)
-    go later (yes end) = rw (events-none s at end) tt
-    go later (no more) =
-        let h : at < length s = omega arith in
-        let fault : faultAt s at ≡ 0 = no-fault s at h clean in
-        rw (events-more s at h) (good-event s at fault .known, later (ap (λ (r : Refusal). r .number) (sym (firstBad-later s at h fault)) ∙ clean))
-
 -- a run adds to what is written, and takes nothing away
 record Longer (old new : List ℕ) : Type 0 where
   rest : List ℕ
@@ -89,11 +72,11 @@ runs-longer T (e ∷ es) w =
     }
 
 -- the lines that are read from what a run wrote are those of its events as they happened
-pub read-lines : (T : Setting) (tail : List ℕ) (es : List Event) (w : World) → Known es
+pub read-lines : (T : Setting) (tail : List ℕ) (es : List Event) (w : World)
     → readLines es (runs T es w .written ++ tail) (length (w .written)) ≡ linesOf T es w
 unfolding readLines runs linesOf
-read-lines T tail [] w known = refl
-read-lines T tail (e ∷ es) w (known, more) = go (read-lines T tail es (onward T e w) more) (yields (e .kind)) refl
+read-lines T tail [] w = refl
+read-lines T tail (e ∷ es) w = go (read-lines T tail es (onward T e w)) (yields (e .kind)) refl
   where
     said : Record
     said = does T e w .said
@@ -125,3 +108,32 @@ read-lines T tail (e ∷ es) w (known, more) = go (read-lines T tail es (onward 
     go later false y =
         ap (λ (l : List ℕ). readLines es out (length l)) (sym (ap (λ (bs : List ℕ). w .written ++ bs) (no-bytes said (sort ∙ y)) ∙ append-nil (w .written)))
         ∙ later
+
+-- ---- stamps
+
+-- the ticks that a stamp gives have no record
+read-ticks : (e : Event) (n : ℕ) (es : List Event) (out : List ℕ) (p : ℕ) → readLines (ticksGiven e n ++ es) out p ≡ readLines es out p
+unfolding kindRowIn kindRow readLines
+read-ticks e zero es out p = refl
+read-ticks e (suc n) es out p = refl
+
+-- and the stamp, as it is written, has none
+read-stamp : (e : Event) (es : List Event) (out : List ℕ) (p : ℕ) → isStamp e ≡ true → readLines (e ∷ es) out p ≡ readLines es out p
+unfolding kindRowIn kindRow readLines
+read-stamp e es out p stamp = cond-no (yields (e .kind)) _ _ (ap yields (eqb-true (e .kind) STAMP stamp))
+
+-- so the events as they are written have the lines of those that a run applies for them
+pub read-timed : (k : Clock) (es : List Event) (out : List ℕ) (p : ℕ) → readLines (timed k es) out p ≡ readLines es out p
+unfolding timed readLines
+read-timed k [] out p = refl
+read-timed k (e ∷ es) out p = go (read-timed (clockAfter k e) es out) (isStamp e) refl
+  where
+    rest : List Event
+    rest = timed (clockAfter k e) es
+
+    go : ((q : ℕ) → readLines rest out q ≡ readLines es out q) → (b : Bool) → isStamp e ≡ b
+        → readLines (cond b (ticksGiven e (movedOn k (e .body))) (e ∷ []) ++ rest) out p ≡ readLines (e ∷ es) out p
+    go later true stamp = read-ticks e (movedOn k (e .body)) rest out p ∙ later p ∙ sym (read-stamp e es out p stamp)
+    go later false other =
+        ap (λ (l : List ℕ). cond (yields (e .kind)) (lineOf (e .offset) (recordAt out p) ++ l) (readLines rest out p)) (later (p + length (recordBytes (recordAt out p))))
+        ∙ ap (λ (l : List ℕ). cond (yields (e .kind)) (lineOf (e .offset) (recordAt out p) ++ readLines es out (p + length (recordBytes (recordAt out p)))) l) (later p)

@@ -10,7 +10,7 @@ use Rattle.chip.specs.declared.Chip.{Chip}
 use Rattle.chip.specs.Chip.{fresh}
 use Rattle.chip.specs.Record.{longestRecord}
 use Rattle.script.specs.declared.Ran.{Ran}
-use Rattle.script.specs.Script.{Event, events}
+use Rattle.script.specs.Script.{Event, played}
 use Rattle.script.specs.Run.{World, world, does, onward, answerOf}
 use Rattle.listing.specs.Text.{lineOf, partLine, doneLine, refusedLine, tooLong}
 
@@ -26,7 +26,7 @@ outputRoom = longestRecord * longestScript
 abbrev pub textRoom : ℕ
 textRoom = 16 * longestScript
 
--- a line for each record, as the events happen (RULES, The program)
+-- a line for each record, as the events happen; ticks have no record and so no line, whether an event or a stamp gives them (RULES, The program)
 unfoldable pub linesOf : Setting → List Event → World → List ℕ
 linesOf T [] w = []
 linesOf T (e ∷ es) w = cond (yields (e .kind)) (lineOf (e .offset) (does T e w .said)) [] ++ linesOf T es (onward T e w)
@@ -39,11 +39,11 @@ answerText lines refusal offset ticks = cond (eqb refusal 0) (lines ++ doneLine 
 abbrev pub programArea : List ℕ
 programArea = []
 
--- the text of a run of s on a chip c and a memory m, with an output `out` lent
+-- the text of a run of s on a chip c and a memory m, with an output `out` lent: the lines are those of the events that the run applies
 unfoldable pub runText : Chip → List ℕ → List ℕ → List ℕ → List ℕ
 runText c m s out =
     let r : Ran = answerOf c m programArea s out in
-    partLine (length m) ++ answerText (linesOf (settingOf (length m) programArea) (events s) (world c m [] 0)) (r .refusal) (r .offset) (r .ticks)
+    partLine (length m) ++ answerText (linesOf (settingOf (length m) programArea) (played s) (world c m [] 0)) (r .refusal) (r .offset) (r .ticks)
 
 -- a script on a blank part of one sector, fresh from status 00h, with the longest record's room for each of its bytes (RULES, The program)
 unfoldable pub reportOf : List ℕ → List ℕ

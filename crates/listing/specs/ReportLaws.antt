@@ -12,25 +12,26 @@ use Rattle.part.specs.Part.{sector, settingOf}
 use Rattle.chip.specs.declared.Chip.{Chip}
 use Rattle.chip.specs.Chip.{fresh}
 use Rattle.script.specs.declared.Ran.{Ran}
-use Rattle.script.specs.Script.{events}
+use Rattle.clock.specs.Clock.{unset}
+use Rattle.script.specs.Script.{events, played}
 use Rattle.script.specs.Run.{world, refusal, worldAfter, answerOf, outputOf}
-use Rattle.script.specs.Laws.{accepted, answer-number, output-done}
+use Rattle.script.specs.Laws.{answer-number, output-done}
 use Rattle.listing.specs.Text.{partLine, doneLine, tooLong}
 use Rattle.listing.specs.Output.{readLines}
-use Rattle.listing.specs.OutputLaws.{known-events, read-lines}
+use Rattle.listing.specs.OutputLaws.{read-lines, read-timed}
 use Rattle.listing.specs.Report.{linesOf, answerText, programArea, runText, longestScript, outputRoom, reportOf}
 
 -- ---- the lines of a run
 
--- the lines that are read from the output of a run that is done are those of its events as they happened
+-- the lines that are read from the output of a run that is done, by the script as it is written, are those of the events that it applied
 pub read-run : (c : Chip) (m area s out : List ℕ) → answerOf c m area s out .refusal ≡ 0
-    → readLines (events s) (outputOf c m area s out) 0 ≡ linesOf (settingOf (length m) area) (events s) (world c m [] 0)
+    → readLines (events s) (outputOf c m area s out) 0 ≡ linesOf (settingOf (length m) area) (played s) (world c m [] 0)
 unfolding worldAfter
 read-run c m area s out h =
     let ok : refusal c (length m) (length area) s (length out) .number ≡ 0 = sym (answer-number c m area s out) ∙ h in
-    ap (λ (o : List ℕ). readLines (events s) o 0) (output-done c m area s out ok)
-    ∙ read-lines (settingOf (length m) area) (drop (length (worldAfter c m area s .written)) out) (events s) (world c m [] 0)
-    (known-events s (length s) 0 (omega arith) (accepted c (length m) (length area) s (length out) ok .script-playable .clean))
+    sym (read-timed unset (events s) (outputOf c m area s out) 0)
+    ∙ ap (λ (o : List ℕ). readLines (played s) o 0) (output-done c m area s out ok)
+    ∙ read-lines (settingOf (length m) area) (drop (length (worldAfter c m area s .written)) out) (played s) (world c m [] 0)
 
 -- ---- the text of a run
 
@@ -45,7 +46,7 @@ pub text-run : (c : Chip) (m s out : List ℕ) (r : Ran) (out′ : List ℕ) →
     → runText c m s out ≡ partLine (length m) ++ answerText (readLines (events s) out′ 0) (r .refusal) (r .offset) (r .ticks)
 unfolding runText
 text-run c m s out r out′ is e =
-    let lines : List ℕ = linesOf (settingOf (length m) programArea) (events s) (world c m [] 0) in
+    let lines : List ℕ = linesOf (settingOf (length m) programArea) (played s) (world c m [] 0) in
     ap (λ (a : Ran). partLine (length m) ++ answerText lines (a .refusal) (a .offset) (a .ticks)) (sym is)
     ∙ ap (λ (t : List ℕ). partLine (length m) ++ t)
     (answer-lines lines (readLines (events s) out′ 0) (r .refusal) (r .offset) (r .ticks)

@@ -1,7 +1,7 @@
 -- How long what is printed can be: a record's word and its line, the lines of a run, and the whole text, for which there is room.
 use Prim.Native.Nat.{ℕ, zero, suc, _+_, _*_, _<_, _≤_}
 use mathlib.Core.Bool.{Bool, true, cond}
-use mathlib.Core.List.{List, [], _∷_}
+use mathlib.Core.List.{List, [], _∷_, _++_}
 use mathlib.Core.Path.{_≡_, refl, sym, ap, _∙_}
 use native.Mathlib.Omega.{arith}
 use lib.Dec.{eqb, ltb, leb}
@@ -30,7 +30,9 @@ use Rattle.event.specs.Laws.{applied-each}
 use Rattle.event.specs.Legality.{legal-applied}
 use Rattle.event.specs.Keeps.{length-applied}
 use Rattle.script.specs.declared.Ran.{Ran}
-use Rattle.script.specs.Script.{Event, eventAt, walk, eventsFrom, events}
+use Rattle.clock.specs.declared.Clock.{Clock}
+use Rattle.clock.specs.Clock.{unset, movedOn}
+use Rattle.script.specs.Script.{Event, eventAt, walk, eventsFrom, isStamp, clockAfter, ticksGiven, given, timed, played}
 use Rattle.script.specs.Run.{World, world, does, onward, answerOf}
 use Rattle.listing.specs.Text.{wordOf, lineOf, partLine, doneLine, refusedLine, longestLine}
 use Rattle.listing.specs.TextLaws.{spelled-most, spelled-below}
@@ -98,24 +100,43 @@ module _ (T : Setting) (c : Chip) (m : List ℕ) (same : T .sectors ≡ sectorsI
 
 -- ---- the lines of a run
 
--- as many events as the fuel allows have at most so many lines, each at most the longest
-lines-most : (T : Setting) (s : List ℕ) → length s ≤ longestScript → (fuel at : ℕ) (w : World) → T .sectors ≡ sectorsIn (length (w .memory)) → legal (w .chip) (length (w .memory)) ≡ true
-    → length (linesOf T (walk fuel s at) w) ≤ longestLine * fuel
-unfolding walk linesOf
-lines-most T s short zero at w same l = omega arith
-lines-most T s short (suc fuel) at w same l =
-    let e : Event = eventAt s at in
+-- an event adds at most the longest line to what those behind it have from any legal state on this part
+event-most : (T : Setting) (e : Event) (es : List Event) (w : World) (most : ℕ) → e .offset < longestScript → T .sectors ≡ sectorsIn (length (w .memory)) → legal (w .chip) (length (w .memory)) ≡ true
+    → ((v : World) → T .sectors ≡ sectorsIn (length (v .memory)) → legal (v .chip) (length (v .memory)) ≡ true → length (linesOf T es v) ≤ most)
+    → length (linesOf T (e ∷ es) w) ≤ longestLine + most
+unfolding linesOf
+event-most T e es w most early same l rest =
     let keeps : length (onward T e w .memory) ≡ length (w .memory) = length-applied T (w .chip) (w .memory) (e .kind) (e .body) in
-    let later : length (linesOf T (walk fuel s (nextAt s at)) (onward T e w)) ≤ longestLine * fuel =
-    lines-most T s short fuel (nextAt s at) (onward T e w) (same ∙ ap sectorsIn (sym keeps))
-    (ap (legal (onward T e w .chip)) keeps ∙ legal-applied T (w .chip) (w .memory) (e .kind) (e .body) same l) in
-    cond-either (λ (es : List Event). length (linesOf T es w) ≤ longestLine * suc fuel) (leb (length s) at) [] (e ∷ walk fuel s (nextAt s at)) (λ _. omega arith)
-    (λ inside.
-    let line : List ℕ = cond (yields (e .kind)) (lineOf at (does T e w .said)) [] in
+    let later : length (linesOf T es (onward T e w)) ≤ most =
+    rest (onward T e w) (same ∙ ap sectorsIn (sym keeps)) (ap (legal (onward T e w .chip)) keeps ∙ legal-applied T (w .chip) (w .memory) (e .kind) (e .body) same l) in
+    let line : List ℕ = cond (yields (e .kind)) (lineOf (e .offset) (does T e w .said)) [] in
     let short-line : length line ≤ longestLine =
     cond-either (λ (t : List ℕ). length t ≤ longestLine) (yields (e .kind)) _ _
-    (λ _. line-most at (does T e w .said) (omega (arith, leb-false (length s) at inside)) (said-small T (w .chip) (w .memory) same l (e .kind) (e .body))) (λ _. omega arith) in
-    omega (arith, length-append line (linesOf T (walk fuel s (nextAt s at)) (onward T e w)), short-line, later))
+    (λ _. line-most (e .offset) (does T e w .said) early (said-small T (w .chip) (w .memory) same l (e .kind) (e .body))) (λ _. omega arith) in
+    omega (arith, length-append line (linesOf T es (onward T e w)), short-line, later)
+
+-- what a run applies for an event is no event, or one at its offset
+given-each : (k : Clock) (e : Event) (P : List Event → Type 0) → P [] → ((f : Event) → f .offset ≡ e .offset → P (f ∷ [])) → P (given k e)
+given-each k e P none one = cond-either P (isStamp e) _ _ (λ _. ticks (movedOn k (e .body))) (λ _. one e refl)
+  where
+    ticks : (n : ℕ) → P (ticksGiven e n)
+    ticks zero = none
+    ticks (suc n) = one _ refl
+
+-- as many events as the fuel allows, as a run applies them, have at most so many lines, each at most the longest
+lines-most : (T : Setting) (s : List ℕ) → length s ≤ longestScript → (fuel at : ℕ) (k : Clock) (w : World) → T .sectors ≡ sectorsIn (length (w .memory)) → legal (w .chip) (length (w .memory)) ≡ true
+    → length (linesOf T (timed k (walk fuel s at)) w) ≤ longestLine * fuel
+unfolding walk timed linesOf
+lines-most T s short zero at k w same l = omega arith
+lines-most T s short (suc fuel) at k w same l =
+    let e : Event = eventAt s at in
+    let es : List Event = timed (clockAfter k e) (walk fuel s (nextAt s at)) in
+    let later : (v : World) → T .sectors ≡ sectorsIn (length (v .memory)) → legal (v .chip) (length (v .memory)) ≡ true → length (linesOf T es v) ≤ longestLine * fuel =
+    lines-most T s short fuel (nextAt s at) (clockAfter k e) in
+    cond-either (λ (fs : List Event). length (linesOf T (timed k fs) w) ≤ longestLine * suc fuel) (leb (length s) at) [] (e ∷ walk fuel s (nextAt s at)) (λ _. omega arith)
+    (λ inside.
+    given-each k e (λ (fs : List Event). length (linesOf T (fs ++ es) w) ≤ longestLine * suc fuel) (omega (arith, later w same l))
+    (λ f there. omega (arith, event-most T f es w (longestLine * fuel) (omega (arith, there, leb-false (length s) at inside)) same l later)))
 
 -- ---- the whole text
 
@@ -136,13 +157,13 @@ pub run-fits : (c : Chip) (m s out : List ℕ) → legal c (length m) ≡ true �
 unfolding runText eventsFrom
 run-fits c m s out l short =
     let r : Ran = answerOf c m programArea s out in
-    let lines : List ℕ = linesOf (settingOf (length m) programArea) (events s) (world c m [] 0) in
+    let lines : List ℕ = linesOf (settingOf (length m) programArea) (played s) (world c m [] 0) in
     omega (
       arith,
       length-append (partLine (length m)) (answerText lines (r .refusal) (r .offset) (r .ticks)),
       part-most (length m),
       answer-most lines (r .refusal) (r .offset) (r .ticks),
-      lines-most (settingOf (length m) programArea) s short (length s) 0 (world c m [] 0) refl l,
+      lines-most (settingOf (length m) programArea) s short (length s) 0 unset (world c m [] 0) refl l,
     )
 
 -- so there is for what the program prints
