@@ -2,7 +2,7 @@
 -- and one turn of it.
 use Prim.Native.Nat.{ℕ, _+_, _*_, _<_, _≤_}
 use mathlib.Core.List.{List, [], _++_}
-use mathlib.Core.Bool.{true, false, false≢true}
+use mathlib.Core.Bool.{true, false, _||_, false≢true}
 use mathlib.Core.Path.{_≡_, refl, sym, ap, subst, _∙_}
 use native.Mathlib.Nat.{add-zero}
 use native.Mathlib.Omega.{arith}
@@ -10,7 +10,7 @@ use lib.Dec.{eqb}
 use lib.ListN.{length, getD, take, drop, replicate, take-append-drop}
 use lib.Seq.{drop-drop, length-take-le}
 use Rattle.part.specs.Part.{Setting}
-use Rattle.kinds.specs.Kinds.{EXCHANGE, STAMP, roomOf, saysOf, kindRow, kindRowIn}
+use Rattle.kinds.specs.Kinds.{EXCHANGE, TICK, TICKS, STAMP, roomOf, saysOf, inRange, kindRow, kindRowIn}
 use Rattle.kinds.specs.Body.{nextAt, bodyAt}
 use Rattle.clock.specs.declared.Clock.{Clock}
 use Rattle.clock.specs.Clock.{unset}
@@ -35,7 +35,7 @@ use Rattle.script.specs.Jobs.{Finished, Followed, nothing, follows, jobs
 use Rattle.script.specs.Report.{reportAfter}
 use Rattle.script.specs.Watch.{ticking, ticksOf, clockBy, watch, afterEvent, afterTicks, Reports}
 use Rattle.script.specs.Laws.{exchange-body, exchange-next, exchange-clock, no-fault, clean-later, clean-event, good-event, Good, room-more, stored-none, timed-none, runs-more, runs-none, clock-stays}
-use Rattle.script.specs.WatchLaws.{clock-as, ticks-few, runs-ticking, jobs-ticking, jobs-plain, NotTicking, not-ticking, watch-ticks, watch-event, watch-stays, line-not-two, event-modest, ticks-modest, unwatched-ticks, Watches, Keeps, isOn}
+use Rattle.script.specs.WatchLaws.{clock-as, plain-ticking, plain-clock, ticks-most, ticks-few, runs-ticking, jobs-ticking, jobs-plain, NotTicking, not-ticking, watch-ticks, watch-event, watch-stays, line-not-two, event-modest, ticks-modest, unwatched-ticks, Watches, Keeps, isOn}
 
 -- ---- the run
 
@@ -167,6 +167,10 @@ module _ {T : Setting} {s : List ℕ} {c₀ : Chip} {m₀ out₀ : List ℕ} {c 
           subst (λ (t : ℕ). Playing T s c₀ m₀ out₀ c m out k′ (nextAt s at) pos t) (add-zero ticks)
           (ticks-turn (c .core) 0 (c .held) m (answer-rests (T .sectors) n (c .core) (c .held) m rests) (omega arith) refl)
 
+    -- ticks as they are written, where no job runs
+    pub plain-idle-turn : (eqb (getD s at 0) TICKS || eqb (getD s at 0) TICK) ≡ true → running (c .core) ≡ false → Playing T s c₀ m₀ out₀ c m out k (nextAt s at) pos ticks
+    plain-idle-turn plain = idle-turn (plain-ticking (getD s at 0) plain) (bodyAt s at) refl _ refl k (plain-clock k (getD s at 0) (bodyAt s at) plain)
+
   -- after the last event
   pub ends : length s ≤ at → Played T c₀ m₀ s out₀ (finished c pos ticks) m out
   ends over =
@@ -276,6 +280,13 @@ module _ {T : Setting} {a : Allowances} {s : List ℕ} {c₀ : Chip} {m₀ : Lis
       idle-watched rests off =
           subst (λ (v : Watch). Watching T a s c₀ m₀ r₀ c m k′ (nextAt s at) v) (unwatched-ticks a (c .core) (c .core) n 0 w off)
           (ticks-watched (c .core) 0 (c .held) m (answer-rests (T .sectors) n (c .core) (c .held) m rests))
+
+    -- ticks as they are written, where no job runs and none is followed
+    pub plain-idle-watched : inRange (getD s at 0) (bodyAt s at) ≡ true → (eqb (getD s at 0) TICKS || eqb (getD s at 0) TICK) ≡ true → running (c .core) ≡ false → w .on ≡ false
+        → Watching T a s c₀ m₀ r₀ c m k (nextAt s at) w
+    plain-idle-watched ranged plain =
+        let is-ticking = plain-ticking (getD s at 0) plain in
+        idle-watched is-ticking (bodyAt s at) refl _ refl (ticks-most k (getD s at 0) (bodyAt s at) is-ticking ranged) k (plain-clock k (getD s at 0) (bodyAt s at) plain)
 
   -- after the last event the report is that of all jobs
   pub reports : length s ≤ at → Reports T a c₀ m₀ s r₀ (w .report)

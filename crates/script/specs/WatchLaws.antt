@@ -6,15 +6,16 @@ use mathlib.Core.Path.{_≡_, refl, sym, ap, subst, _∙_}
 use native.Mathlib.Nat.{add-zero, add-assoc}
 use native.Mathlib.Omega.{arith}
 use native.Mathlib.Decide.{ℕ-discrete}
-use lib.Dec.{eqb, ltb}
+use lib.Dec.{eqb, ltb, leb}
 use lib.ListN.{length, getD, replicate}
-use borrow.Author.Tests.{eq-eqb, ne-eqb}
-use Rattle.cells.specs.Choice.{cond-yes, cond-no, cond-either, either-false}
+use borrow.Author.Tests.{eq-eqb, ne-eqb, leb-true}
+use Rattle.cells.specs.Choice.{cond-yes, cond-no, cond-either, and-right, either-false}
 use Rattle.part.specs.Part.{Setting}
-use Rattle.kinds.specs.Kinds.{EXCHANGE, TICK, TICKS, STAMP, Says, isSaid, kindRow, kindRowIn, saysOf}
+use Rattle.kinds.specs.Kinds.{TICK, TICKS, STAMP, Says, kindRow, kindRowIn, inRange}
 use Rattle.kinds.specs.Body.{bodyAt, nextAt}
 use Rattle.clock.specs.declared.Clock.{Clock}
-use Rattle.clock.specs.Clock.{unset, movedOn}
+use Rattle.clock.specs.Clock.{movedOn}
+use Rattle.clock.specs.Laws.{moved-most}
 use Rattle.chip.specs.declared.Chip.{Chip}
 use Rattle.chip.specs.declared.Core.{Core}
 use Rattle.chip.specs.declared.Job.{Job}
@@ -74,6 +75,14 @@ not-ticking kind h =
     let two = either-false (eqb kind TICKS) (eqb kind TICK) .0 (parts .0) in
     record { not-one = two .1; not-some = two .0; not-stamp = parts .1 }
 
+-- ticks as they are written are no stamp: they leave the clock, and their number is their body or 1
+pub plain-ticking : (kind : ℕ) → (eqb kind TICKS || eqb kind TICK) ≡ true → ticking kind ≡ true
+plain-ticking kind h = ap (λ (b : Bool). b || eqb kind STAMP) h
+
+pub plain-clock : (k : Clock) (kind body : ℕ) → (eqb kind TICKS || eqb kind TICK) ≡ true → k ≡ clockBy k kind body
+unfolding clockBy
+plain-clock k kind body h = sym (cond-no (eqb kind STAMP) _ _ (ne-eqb kind STAMP (λ e. false≢true (sym (ap (λ (q : ℕ). eqb q TICKS || eqb q TICK) e) ∙ h))))
+
 -- how many ticks each of them gives
 ticks-some : (k : Clock) (kind body : ℕ) → kind ≡ TICKS → ticksOf k kind body ≡ body
 unfolding ticksOf
@@ -86,6 +95,16 @@ ticks-one k kind body e = ap (λ (q : ℕ). ticksOf k q body) e
 ticks-stamp : (k : Clock) (kind body : ℕ) → kind ≡ STAMP → ticksOf k kind body ≡ movedOn k body
 unfolding ticksOf
 ticks-stamp k kind body e = ap (λ (q : ℕ). ticksOf k q body) e
+
+-- no more than 65,535, if the body is in its range
+pub ticks-most : (k : Clock) (kind body : ℕ) → ticking kind ≡ true → inRange kind body ≡ true → ticksOf k kind body ≤ 65535
+unfolding kindRow kindRowIn
+ticks-most k kind body h ranged = go (ticking-kind kind h)
+  where
+    go : Ticking kind → ticksOf k kind body ≤ 65535
+    go (some e) = omega (arith, ticks-some k kind body e, leb-true body 65535 (and-right (leb 1 body) (leb body 65535) (ap (λ (q : ℕ). inRange q body) (sym e) ∙ ranged)))
+    go (one e) = omega (arith, ticks-one k kind body e)
+    go (stamp e) = omega (arith, ticks-stamp k kind body e, moved-most k body)
 
 -- three bytes give at most 65,535 of them, and one byte one
 pub ticks-few : (k : Clock) (s : List ℕ) (at : ℕ) → ticking (getD s at 0) ≡ true → ticksOf k (getD s at 0) (bodyAt s at) ≤ 65535

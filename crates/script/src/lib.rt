@@ -123,7 +123,11 @@ fn scan(s: &[u8]) -> Scanned
             };
         }
         let kind = s[at] as u64;
-        clock = clock_after(clock, kind, kinds::body_at(s, at) as u16);
+        if kind == Kind::STAMP {
+            clock = clock_after(clock, kind, kinds::body_at(s, at) as u16);
+            at = kinds::next_at(s, at);
+            continue;
+        }
         space += kinds::room_of(kind);
         at = kinds::next_at(s, at);
     }
@@ -343,6 +347,10 @@ fn play(
             pos = put(out, pos, heard);
             frame = e.frame;
             at += 2;
+            continue;
+        }
+        if !busy & ((kind == Kind::TICKS) | (kind == Kind::TICK)) {
+            at = kinds::next_at(script, at);
             continue;
         }
         let body = kinds::body_at(script, at);

@@ -1,18 +1,20 @@
 use Prim.Native.Nat.{_+_, _<_, _-_}
-use mathlib.Core.Bool.{Bool, true, false, _||_}
-use mathlib.Core.Path.{_≡_, refl, sym, _∙_, ap, subst}
+use mathlib.Core.Bool.{Bool, true, false, not, _&&_, _||_}
+use mathlib.Core.Path.{_≡_, refl, sym, _∙_, ap}
 use native.Mathlib.Omega.{arith}
 use borrow.Author.Tests.{not-true}
+use lib.Dec.{eqb}
 use lib.ListN.{length, getD}
-use Rattle.cells.specs.Choice.{either-false}
+use Rattle.cells.specs.Choice.{and-left, and-right, either-false}
 use Rattle.part.specs.Part.{setting}
+use Rattle.kinds.specs.Kinds.{TICK, TICKS}
 use Rattle.kinds.specs.Body.{nextAt, bodyAt}
 use Rattle.kinds.specs.Laws.{step-inside}
 use Rattle.chip.specs.Chip.{whole, running}
 use Rattle.frame.specs.StreamLaws.{exchanged-stream}
 use Rattle.event.specs.Event.{applied}
 use Rattle.script.specs.WatchLaws.{worked-most, not-ticking}
-use Rattle.script.proofs.Playing.{Playing, starts, finds-room, exchange-inside, turns, heard-is, exchange-finds-room, exchange-turns, ticks-turn, idle-turn, ends, Watching, watch-starts, event-watched, exchange-watched, modest-then, ticks-watched, idle-watched, reports, good}
+use Rattle.script.proofs.Playing.{Playing, starts, good, finds-room, exchange-inside, turns, heard-is, exchange-finds-room, exchange-turns, ticks-turn, idle-turn, plain-idle-turn, ends, Watching, watch-starts, event-watched, exchange-watched, modest-then, ticks-watched, idle-watched, plain-idle-watched, reports}
 use borrow.Author.Needs.{needs}
 use Rattle.script.proofs.play.Statement.{statement}
 use Rattle.script.proofs.play.Tie as tie
@@ -44,227 +46,249 @@ Inv-loop mem₀ script out₀ sectors area allowances core₀ frame₀ load₀ h
 abbrev μ-loop : tie.MeasureT-loop
 μ-loop mem₀ script out₀ sectors area allowances core₀ frame₀ load₀ held₀ busy₀ clock₀ watch₀ at₀ pos₀ ticks₀ mem out core frame load held busy clock watch at pos ticks = length script - at
 
--- src/lib.rt:315:9
+-- src/lib.rt:319:9
 is-running-requires : tie.Need-is-running-requires Inv-loop μ-loop
 is-running-requires c κs = search needs
 
--- src/lib.rt:328:5
+-- src/lib.rt:332:5
 loop-holds : tie.Need-loop-holds Inv-loop μ-loop
 loop-holds c = (starts _ _ _ _ _ (c .before .before .before .before .before .before .before .before .before .pre .1), c .is-running .ensures ∙ sym (or-false _), watch-starts _ _ _ _ _ _)
 
--- src/lib.rt:329:20
+-- src/lib.rt:333:20
 shared-slice-read-kind : tie.Need-shared-slice-read-kind Inv-loop μ-loop
 shared-slice-read-kind c = search needs
 
--- src/lib.rt:329:20
+-- src/lib.rt:333:20
 cast-kind : tie.Need-cast-kind Inv-loop μ-loop
 cast-kind c = omega (arith, c .shared-slice-known3 .given (c .before .before .loop .at))
 
--- src/lib.rt:331:28
+-- src/lib.rt:335:28
 add-b : tie.Need-add-b Inv-loop μ-loop
 add-b c = omega (arith, exchange-inside (c .before .before .before .loop .inv .0) (c .before .before .loop-test .taken) (c .if1 .taken))
 
--- src/lib.rt:331:21
+-- src/lib.rt:335:21
 shared-slice-read-b : tie.Need-shared-slice-read-b Inv-loop μ-loop
 shared-slice-read-b c = omega (arith, exchange-inside (c .before .before .before .before .loop .inv .0) (c .before .before .before .loop-test .taken) (c .before .if1 .taken))
 
--- src/lib.rt:332:16
+-- src/lib.rt:336:16
 streams-requires : tie.Need-streams-requires Inv-loop μ-loop
 streams-requires c κs = search needs
 
--- src/lib.rt:333:21
+-- src/lib.rt:337:21
 stream-requires : tie.Need-stream-requires Inv-loop μ-loop
 stream-requires c κs = search needs
 
--- src/lib.rt:335:17
+-- src/lib.rt:339:17
 put-requires : tie.Need-put-requires Inv-loop μ-loop
 put-requires c κs = exchange-finds-room (c .before .before .before .before .before .before .before .before .before .before .loop .inv .0) (c .before .before .before .before .before .before .before .before .before .loop-test .taken) (c .before .before .before .before .before .before .before .if1 .taken) (c .before .before .before .before .before .before .shared-slice-known4 .given (c .before .before .before .before .before .before .before .before .before .before .loop .at + 1) .fits) _ _ _ (c .before .stream .ensures ∙ sym (exchanged-stream _ _ _ _ _ _ (sym (c .before .before .before .before .before .streams .ensures) ∙ c .before .before .before .before .if2 .taken)))
 
--- src/lib.rt:337:17
+-- src/lib.rt:341:17
 add-at : tie.Need-add-at Inv-loop μ-loop
 add-at c = omega (arith, exchange-inside (c .before .before .before .before .before .before .before .before .before .before .before .before .before .before .loop .inv .0) (c .before .before .before .before .before .before .before .before .before .before .before .before .before .loop-test .taken) (c .before .before .before .before .before .before .before .before .before .before .before .if1 .taken))
 
--- src/lib.rt:328:5
+-- src/lib.rt:332:5
 loop-less : tie.Need-loop-less Inv-loop μ-loop
 loop-less c = omega (arith, c .before .before .before .before .before .before .before .before .before .before .before .before .before .loop-test .taken)
 
--- src/lib.rt:328:5
+-- src/lib.rt:332:5
 loop-again : tie.Need-loop-again Inv-loop μ-loop
 loop-again c = (exchange-turns (c .before .before .before .before .before .before .before .before .before .before .before .before .before .before .loop .inv .0) (c .before .before .before .before .before .before .before .before .before .before .before .before .before .loop-test .taken) (c .before .before .before .before .before .before .before .before .before .before .before .if1 .taken) (c .before .before .before .before .before .before .before .before .before .before .shared-slice-known4 .given (c .before .before .before .before .before .before .before .before .before .before .before .before .before .before .loop .at + 1) .fits) _ _ _ (c .before .before .before .before .before .stream .ensures ∙ sym (exchanged-stream _ _ _ _ _ _ (sym (c .before .before .before .before .before .before .before .before .before .streams .ensures) ∙ c .before .before .before .before .before .before .before .before .if2 .taken))) _ _ (c .before .before .before .put .ensures) (c .before .before .before .put .kept .0), c .before .before .before .before .before .before .before .before .before .before .before .before .before .before .loop .inv .1, exchange-watched (c .before .before .before .before .before .before .before .before .before .before .before .before .before .before .loop .inv .2) (c .before .before .before .before .before .before .before .before .before .before .before .before .before .loop-test .taken) (c .before .before .before .before .before .before .before .before .before .before .before .if1 .taken) _ _ _ (heard-is (c .before .before .before .before .before .before .before .before .before .before .before .before .before .before .loop .inv .0) (c .before .before .before .before .before .before .before .before .before .before .before .before .before .loop-test .taken) (c .before .before .before .before .before .before .before .before .before .before .before .if1 .taken) (c .before .before .before .before .before .before .before .before .before .before .shared-slice-known4 .given (c .before .before .before .before .before .before .before .before .before .before .before .before .before .before .loop .at + 1) .fits) _ _ _ (c .before .before .before .before .before .stream .ensures ∙ sym (exchanged-stream _ _ _ _ _ _ (sym (c .before .before .before .before .before .before .before .before .before .streams .ensures) ∙ c .before .before .before .before .before .before .before .before .if2 .taken)))))
 
--- src/lib.rt:341:17
+-- src/lib.rt:345:17
 exchange-requires : tie.Need-exchange-requires Inv-loop μ-loop
 exchange-requires c κs = search needs
 
--- src/lib.rt:343:13
+-- src/lib.rt:347:13
 put-requires-2 : tie.Need-put-requires-2 Inv-loop μ-loop
 put-requires-2 c κs = exchange-finds-room (c .before .before .before .before .before .before .before .before .before .before .loop .inv .0) (c .before .before .before .before .before .before .before .before .before .loop-test .taken) (c .before .before .before .before .before .before .before .if1 .taken) (c .before .before .before .before .before .before .shared-slice-known4 .given (c .before .before .before .before .before .before .before .before .before .before .loop .at + 1) .fits) _ _ _ (c .before .exchange .ensures)
 
--- src/lib.rt:345:13
+-- src/lib.rt:349:13
 add-at-2 : tie.Need-add-at-2 Inv-loop μ-loop
 add-at-2 c = omega (arith, exchange-inside (c .before .before .before .before .before .before .before .before .before .before .before .before .before .before .loop .inv .0) (c .before .before .before .before .before .before .before .before .before .before .before .before .before .loop-test .taken) (c .before .before .before .before .before .before .before .before .before .before .before .if1 .taken))
 
--- src/lib.rt:328:5
+-- src/lib.rt:332:5
 loop-less-2 : tie.Need-loop-less-2 Inv-loop μ-loop
 loop-less-2 c = omega (arith, c .before .before .before .before .before .before .before .before .before .before .before .before .before .loop-test .taken)
 
--- src/lib.rt:328:5
+-- src/lib.rt:332:5
 loop-again-2 : tie.Need-loop-again-2 Inv-loop μ-loop
 loop-again-2 c = (exchange-turns (c .before .before .before .before .before .before .before .before .before .before .before .before .before .before .loop .inv .0) (c .before .before .before .before .before .before .before .before .before .before .before .before .before .loop-test .taken) (c .before .before .before .before .before .before .before .before .before .before .before .if1 .taken) (c .before .before .before .before .before .before .before .before .before .before .shared-slice-known4 .given (c .before .before .before .before .before .before .before .before .before .before .before .before .before .before .loop .at + 1) .fits) _ _ _ (c .before .before .before .before .before .exchange .ensures) _ _ (c .before .before .before .put2 .ensures) (c .before .before .before .put2 .kept .0), c .before .before .before .before .before .before .before .before .before .before .before .before .before .before .loop .inv .1, exchange-watched (c .before .before .before .before .before .before .before .before .before .before .before .before .before .before .loop .inv .2) (c .before .before .before .before .before .before .before .before .before .before .before .before .before .loop-test .taken) (c .before .before .before .before .before .before .before .before .before .before .before .if1 .taken) _ _ _ (heard-is (c .before .before .before .before .before .before .before .before .before .before .before .before .before .before .loop .inv .0) (c .before .before .before .before .before .before .before .before .before .before .before .before .before .loop-test .taken) (c .before .before .before .before .before .before .before .before .before .before .before .if1 .taken) (c .before .before .before .before .before .before .before .before .before .before .shared-slice-known4 .given (c .before .before .before .before .before .before .before .before .before .before .before .before .before .before .loop .at + 1) .fits) _ _ _ (c .before .before .before .before .before .exchange .ensures)))
 
--- src/lib.rt:348:13
-body-at-requires : tie.Need-body-at-requires Inv-loop μ-loop
-body-at-requires c κs = search needs
-
--- src/lib.rt:349:12
-is-ticking-requires : tie.Need-is-ticking-requires Inv-loop μ-loop
-is-ticking-requires c κs = search needs
-
--- src/lib.rt:350:43
-cast-ticks-of : tie.Need-cast-ticks-of Inv-loop μ-loop
-cast-ticks-of c = omega (arith, c .before .before .body-at .ensures .1)
-
--- src/lib.rt:350:17
-ticks-of-requires : tie.Need-ticks-of-requires Inv-loop μ-loop
-ticks-of-requires c κs = search needs
-
--- src/lib.rt:351:46
-cast-clock-after : tie.Need-cast-clock-after Inv-loop μ-loop
-cast-clock-after c = omega (arith, c .before .before .before .body-at .ensures .1)
-
--- src/lib.rt:351:13
-clock-after-requires : tie.Need-clock-after-requires Inv-loop μ-loop
-clock-after-requires c κs = search needs
-
--- src/lib.rt:353:17
+-- src/lib.rt:353:13
 next-at-requires : tie.Need-next-at-requires Inv-loop μ-loop
 next-at-requires c κs = search needs
 
--- src/lib.rt:328:5
+-- src/lib.rt:332:5
 loop-less-3 : tie.Need-loop-less-3 Inv-loop μ-loop
 loop-less-3 c =
-    let next : c .next-at .result ≡ nextAt (c .before .before .before .before .before .before .before .before .before .before .before .before .before .before .before .before .before .before .before .before .args .script .now) (c .before .before .before .before .before .before .before .before .before .before .loop .at) = c .next-at .ensures ∙ step-inside (c .before .before .before .before .before .before .before .before .before .before .before .before .before .before .before .before .before .before .before .before .args .script .now) (c .before .before .before .before .before .before .before .before .before .before .loop .at) (c .before .before .before .before .before .before .before .before .before .loop-test .taken) in
-    omega (arith, next, c .before .before .before .before .before .before .before .before .before .loop-test .taken)
+    let next : c .next-at .result ≡ nextAt (c .before .before .before .before .before .before .before .before .before .before .before .before .before .before .before .args .script .now) (c .before .before .before .before .before .loop .at) = c .next-at .ensures ∙ step-inside (c .before .before .before .before .before .before .before .before .before .before .before .before .before .before .before .args .script .now) (c .before .before .before .before .before .loop .at) (c .before .before .before .before .loop-test .taken) in
+    omega (arith, next, c .before .before .before .before .loop-test .taken)
 
--- src/lib.rt:328:5
+-- src/lib.rt:332:5
 loop-again-3 : tie.Need-loop-again-3 Inv-loop μ-loop
 loop-again-3 c =
-    let next : c .next-at .result ≡ nextAt (c .before .before .before .before .before .before .before .before .before .before .before .before .before .before .before .before .before .before .before .before .args .script .now) (c .before .before .before .before .before .before .before .before .before .before .loop .at) = c .next-at .ensures ∙ step-inside (c .before .before .before .before .before .before .before .before .before .before .before .before .before .before .before .before .before .before .before .before .args .script .now) (c .before .before .before .before .before .before .before .before .before .before .loop .at) (c .before .before .before .before .before .before .before .before .before .loop-test .taken) in
-    let idle = either-false (running (c .before .before .before .before .before .before .before .before .before .before .loop .core)) (c .before .before .before .before .before .before .before .before .before .before .loop .watch .on) .0 (sym (c .before .before .before .before .before .before .before .before .before .before .loop .inv .1) ∙ not-true _ (c .before .if4 .taken)) in
-    let ticking = sym (c .before .before .before .before .before .is-ticking .ensures) ∙ c .before .before .before .before .if3 .taken in
-    ( rw next (idle-turn (c .before .before .before .before .before .before .before .before .before .before .loop .inv .0) (c .before .before .before .before .before .before .before .before .before .loop-test .taken) ticking _ (c .before .before .before .before .before .before .body-at .ensures .0) _ (c .before .before .before .ticks-of .ensures .0) _ (c .before .before .clock-after .ensures) (idle .0))
-    , c .before .before .before .before .before .before .before .before .before .before .loop .inv .1
-    , rw next (idle-watched (c .before .before .before .before .before .before .before .before .before .before .loop .inv .2) (c .before .before .before .before .before .before .before .before .before .loop-test .taken) ticking _ (c .before .before .before .before .before .before .body-at .ensures .0) _ (c .before .before .before .ticks-of .ensures .0) (c .before .before .before .ticks-of .ensures .1) _ (c .before .before .clock-after .ensures) (idle .0) (idle .1)))
+    let next : c .next-at .result ≡ nextAt (c .before .before .before .before .before .before .before .before .before .before .before .before .before .before .before .args .script .now) (c .before .before .before .before .before .loop .at) = c .next-at .ensures ∙ step-inside (c .before .before .before .before .before .before .before .before .before .before .before .before .before .before .before .args .script .now) (c .before .before .before .before .before .loop .at) (c .before .before .before .before .loop-test .taken) in
+    let kind = getD (c .before .before .before .before .before .before .before .before .before .before .before .before .before .before .before .args .script .now) (c .before .before .before .before .before .loop .at) 0 in
+    let both : (not (c .before .before .before .before .before .loop .busy) && (eqb kind TICKS || eqb kind TICK)) ≡ true = c .before .if3 .taken in
+    let idle = either-false (running (c .before .before .before .before .before .loop .core)) (c .before .before .before .before .before .loop .watch .on) .0 (sym (c .before .before .before .before .before .loop .inv .1) ∙ not-true (c .before .before .before .before .before .loop .busy) (and-left (not (c .before .before .before .before .before .loop .busy)) (eqb kind TICKS || eqb kind TICK) both)) in
+    let plain = and-right (not (c .before .before .before .before .before .loop .busy)) (eqb kind TICKS || eqb kind TICK) both in
+    ( rw next (plain-idle-turn (c .before .before .before .before .before .loop .inv .0) (c .before .before .before .before .loop-test .taken) plain (idle .0))
+    , c .before .before .before .before .before .loop .inv .1
+    , rw next (plain-idle-watched (c .before .before .before .before .before .loop .inv .2) (c .before .before .before .before .loop-test .taken) (good (c .before .before .before .before .before .loop .inv .0) (c .before .before .before .before .loop-test .taken) .ranged) plain (idle .0) (idle .1)))
 
--- src/lib.rt:356:17
-ticks-requires : tie.Need-ticks-requires Inv-loop μ-loop
-ticks-requires c κs = search needs
+-- src/lib.rt:356:13
+body-at-requires : tie.Need-body-at-requires Inv-loop μ-loop
+body-at-requires c κs = search needs
 
--- src/lib.rt:357:13
-watch-ticks-requires : tie.Need-watch-ticks-requires Inv-loop μ-loop
-watch-ticks-requires c κs =
-    let ticking = sym (c .before .before .before .before .before .before .before .before .before .is-ticking .ensures) ∙ c .before .before .before .before .before .before .before .before .if3 .taken in
-    let modest = modest-then (c .before .before .before .before .before .before .before .before .before .before .before .before .before .before .loop .inv .2) (c .before .before .before .before .before .before .before .before .before .before .before .before .before .loop-test .taken) ticking _ (c .before .before .before .before .before .before .before .before .before .before .body-at .ensures .0) _ (c .before .before .before .before .before .before .before .ticks-of .ensures .0) (c .before .before .before .before .before .before .before .ticks-of .ensures .1) _ (c .before .before .before .before .before .before .clock-after .ensures) in
-    ( c .before .before .before .before .before .before .before .before .before .before .before .before .before .before .before .before .before .before .before .before .before .before .before .before .pre .0
-    , omega (arith, modest, good (c .before .before .before .before .before .before .before .before .before .before .before .before .before .before .loop .inv .0) (c .before .before .before .before .before .before .before .before .before .before .before .before .before .loop-test .taken) .inside, c .before .before .before .before .before .before .before .before .before .before .before .before .before .before .loop .inv .0 .short)
-    , omega (arith, c .before .before .ticks .ensures .working, worked-most (c .before .before .before .before .before .before .before .before .before .before .before .before .before .before .before .before .before .before .before .before .before .before .before .before .args .sectors) (c .before .before .before .before .before .before .before .ticks-of .result) (c .before .before .before .before .before .before .before .before .before .before .before .before .before .before .loop .core)))
+-- src/lib.rt:357:12
+is-ticking-requires : tie.Need-is-ticking-requires Inv-loop μ-loop
+is-ticking-requires c κs = search needs
 
--- src/lib.rt:359:20
-is-running-requires-2 : tie.Need-is-running-requires-2 Inv-loop μ-loop
-is-running-requires-2 c κs = search needs
+-- src/lib.rt:358:43
+cast-ticks-of : tie.Need-cast-ticks-of Inv-loop μ-loop
+cast-ticks-of c = omega (arith, c .before .before .body-at .ensures .1)
 
--- src/lib.rt:360:22
-cast-ticks : tie.Need-cast-ticks Inv-loop μ-loop
-cast-ticks c = search needs
+-- src/lib.rt:358:17
+ticks-of-requires : tie.Need-ticks-of-requires Inv-loop μ-loop
+ticks-of-requires c κs = search needs
 
--- src/lib.rt:360:13
-add-ticks : tie.Need-add-ticks Inv-loop μ-loop
-add-ticks c =
-    let t : c .before .before .before .before .before .before .before .ticks .result .worked < 4294967296 = search needs in
-    omega (arith, c .before .before .before .before .before .before .before .before .before .before .before .before .before .before .before .before .before .before .before .loop .inv .0 .few, c .before .before .before .before .before .before .before .before .before .before .before .before .before .before .before .before .before .before .before .loop .inv .0 .inside, c .before .before .before .before .before .before .before .before .before .before .before .before .before .before .before .before .before .before .before .loop .inv .0 .short)
+-- src/lib.rt:359:46
+cast-clock-after : tie.Need-cast-clock-after Inv-loop μ-loop
+cast-clock-after c = omega (arith, c .before .before .before .body-at .ensures .1)
 
--- src/lib.rt:361:13
+-- src/lib.rt:359:13
+clock-after-requires : tie.Need-clock-after-requires Inv-loop μ-loop
+clock-after-requires c κs = search needs
+
+-- src/lib.rt:361:17
 next-at-requires-2 : tie.Need-next-at-requires-2 Inv-loop μ-loop
 next-at-requires-2 c κs = search needs
 
--- src/lib.rt:328:5
+-- src/lib.rt:332:5
 loop-less-4 : tie.Need-loop-less-4 Inv-loop μ-loop
 loop-less-4 c =
-    let next : c .next-at2 .result ≡ nextAt (c .before .before .before .before .before .before .before .before .before .before .before .before .before .before .before .before .before .before .before .before .before .before .before .before .before .before .before .before .before .before .args .script .now) (c .before .before .before .before .before .before .before .before .before .before .before .before .before .before .before .before .before .before .before .before .loop .at) = c .next-at2 .ensures ∙ step-inside (c .before .before .before .before .before .before .before .before .before .before .before .before .before .before .before .before .before .before .before .before .before .before .before .before .before .before .before .before .before .before .args .script .now) (c .before .before .before .before .before .before .before .before .before .before .before .before .before .before .before .before .before .before .before .before .loop .at) (c .before .before .before .before .before .before .before .before .before .before .before .before .before .before .before .before .before .before .before .loop-test .taken) in
-    omega (arith, next, c .before .before .before .before .before .before .before .before .before .before .before .before .before .before .before .before .before .before .before .loop-test .taken)
+    let next : c .next-at2 .result ≡ nextAt (c .before .before .before .before .before .before .before .before .before .before .before .before .before .before .before .before .before .before .before .before .before .args .script .now) (c .before .before .before .before .before .before .before .before .before .before .before .loop .at) = c .next-at2 .ensures ∙ step-inside (c .before .before .before .before .before .before .before .before .before .before .before .before .before .before .before .before .before .before .before .before .before .args .script .now) (c .before .before .before .before .before .before .before .before .before .before .before .loop .at) (c .before .before .before .before .before .before .before .before .before .before .loop-test .taken) in
+    omega (arith, next, c .before .before .before .before .before .before .before .before .before .before .loop-test .taken)
 
--- src/lib.rt:328:5
+-- src/lib.rt:332:5
 loop-again-4 : tie.Need-loop-again-4 Inv-loop μ-loop
 loop-again-4 c =
-    let next : c .next-at2 .result ≡ nextAt (c .before .before .before .before .before .before .before .before .before .before .before .before .before .before .before .before .before .before .before .before .before .before .before .before .before .before .before .before .before .before .args .script .now) (c .before .before .before .before .before .before .before .before .before .before .before .before .before .before .before .before .before .before .before .before .loop .at) = c .next-at2 .ensures ∙ step-inside (c .before .before .before .before .before .before .before .before .before .before .before .before .before .before .before .before .before .before .before .before .before .before .before .before .before .before .before .before .before .before .args .script .now) (c .before .before .before .before .before .before .before .before .before .before .before .before .before .before .before .before .before .before .before .before .loop .at) (c .before .before .before .before .before .before .before .before .before .before .before .before .before .before .before .before .before .before .before .loop-test .taken) in
-    let ticking = sym (c .before .before .before .before .before .before .before .before .before .before .before .before .before .before .before .is-ticking .ensures) ∙ c .before .before .before .before .before .before .before .before .before .before .before .before .before .before .if3 .taken in
-    ( rw next (ticks-turn (c .before .before .before .before .before .before .before .before .before .before .before .before .before .before .before .before .before .before .before .before .loop .inv .0) (c .before .before .before .before .before .before .before .before .before .before .before .before .before .before .before .before .before .before .before .loop-test .taken) ticking _ (c .before .before .before .before .before .before .before .before .before .before .before .before .before .before .before .before .body-at .ensures .0) _ (c .before .before .before .before .before .before .before .before .before .before .before .before .before .ticks-of .ensures .0) _ (c .before .before .before .before .before .before .before .before .before .before .before .before .clock-after .ensures) _ _ _ _ (c .before .before .before .before .before .before .before .before .ticks .ensures) (search needs) (c .before .before .before .before .before .before .before .before .ticks .kept .1 .1 .0))
-    , ap (λ (b : Bool). b || c .before .before .before .before .before .watch-ticks .result .on) (c .before .before .before .is-running2 .ensures)
-    , rw (next, c .before .before .before .before .before .watch-ticks .ensures) (ticks-watched (c .before .before .before .before .before .before .before .before .before .before .before .before .before .before .before .before .before .before .before .before .loop .inv .2) (c .before .before .before .before .before .before .before .before .before .before .before .before .before .before .before .before .before .before .before .loop-test .taken) ticking _ (c .before .before .before .before .before .before .before .before .before .before .before .before .before .before .before .before .body-at .ensures .0) _ (c .before .before .before .before .before .before .before .before .before .before .before .before .before .ticks-of .ensures .0) (c .before .before .before .before .before .before .before .before .before .before .before .before .before .ticks-of .ensures .1) _ (c .before .before .before .before .before .before .before .before .before .before .before .before .clock-after .ensures) _ _ _ _ (c .before .before .before .before .before .before .before .before .ticks .ensures)))
+    let next : c .next-at2 .result ≡ nextAt (c .before .before .before .before .before .before .before .before .before .before .before .before .before .before .before .before .before .before .before .before .before .args .script .now) (c .before .before .before .before .before .before .before .before .before .before .before .loop .at) = c .next-at2 .ensures ∙ step-inside (c .before .before .before .before .before .before .before .before .before .before .before .before .before .before .before .before .before .before .before .before .before .args .script .now) (c .before .before .before .before .before .before .before .before .before .before .before .loop .at) (c .before .before .before .before .before .before .before .before .before .before .loop-test .taken) in
+    let idle = either-false (running (c .before .before .before .before .before .before .before .before .before .before .before .loop .core)) (c .before .before .before .before .before .before .before .before .before .before .before .loop .watch .on) .0 (sym (c .before .before .before .before .before .before .before .before .before .before .before .loop .inv .1) ∙ not-true _ (c .before .if5 .taken)) in
+    let ticking = sym (c .before .before .before .before .before .is-ticking .ensures) ∙ c .before .before .before .before .if4 .taken in
+    ( rw next (idle-turn (c .before .before .before .before .before .before .before .before .before .before .before .loop .inv .0) (c .before .before .before .before .before .before .before .before .before .before .loop-test .taken) ticking _ (c .before .before .before .before .before .before .body-at .ensures .0) _ (c .before .before .before .ticks-of .ensures .0) _ (c .before .before .clock-after .ensures) (idle .0))
+    , c .before .before .before .before .before .before .before .before .before .before .before .loop .inv .1
+    , rw next (idle-watched (c .before .before .before .before .before .before .before .before .before .before .before .loop .inv .2) (c .before .before .before .before .before .before .before .before .before .before .loop-test .taken) ticking _ (c .before .before .before .before .before .before .body-at .ensures .0) _ (c .before .before .before .ticks-of .ensures .0) (c .before .before .before .ticks-of .ensures .1) _ (c .before .before .clock-after .ensures) (idle .0) (idle .1)))
 
--- src/lib.rt:374:13
-cast-step : tie.Need-cast-step Inv-loop μ-loop
-cast-step c = omega (arith, c .before .before .before .before .before .body-at .ensures .1)
+-- src/lib.rt:364:17
+ticks-requires : tie.Need-ticks-requires Inv-loop μ-loop
+ticks-requires c κs = search needs
 
 -- src/lib.rt:365:13
-step-requires : tie.Need-step-requires Inv-loop μ-loop
-step-requires c κs = search needs
+watch-ticks-requires : tie.Need-watch-ticks-requires Inv-loop μ-loop
+watch-ticks-requires c κs =
+    let ticking = sym (c .before .before .before .before .before .before .before .before .before .is-ticking .ensures) ∙ c .before .before .before .before .before .before .before .before .if4 .taken in
+    let modest = modest-then (c .before .before .before .before .before .before .before .before .before .before .before .before .before .before .before .loop .inv .2) (c .before .before .before .before .before .before .before .before .before .before .before .before .before .before .loop-test .taken) ticking _ (c .before .before .before .before .before .before .before .before .before .before .body-at .ensures .0) _ (c .before .before .before .before .before .before .before .ticks-of .ensures .0) (c .before .before .before .before .before .before .before .ticks-of .ensures .1) _ (c .before .before .before .before .before .before .clock-after .ensures) in
+    ( c .before .before .before .before .before .before .before .before .before .before .before .before .before .before .before .before .before .before .before .before .before .before .before .before .before .pre .0
+    , omega (arith, modest, good (c .before .before .before .before .before .before .before .before .before .before .before .before .before .before .before .loop .inv .0) (c .before .before .before .before .before .before .before .before .before .before .before .before .before .before .loop-test .taken) .inside, c .before .before .before .before .before .before .before .before .before .before .before .before .before .before .before .loop .inv .0 .short)
+    , omega (arith, c .before .before .ticks .ensures .working, worked-most (c .before .before .before .before .before .before .before .before .before .before .before .before .before .before .before .before .before .before .before .before .before .before .before .before .before .args .sectors) (c .before .before .before .before .before .before .before .ticks-of .result) (c .before .before .before .before .before .before .before .before .before .before .before .before .before .before .before .loop .core)))
 
--- src/lib.rt:377:9
-put-requires-3 : tie.Need-put-requires-3 Inv-loop μ-loop
-put-requires-3 c κs = finds-room (c .before .before .before .before .before .before .before .before .before .before .before .before .before .loop .inv .0) (c .before .before .before .before .before .before .before .before .before .before .before .before .loop-test .taken) _ (c .before .before .before .step .ensures ∙ ap (applied _ _ _ _) (c .before .before .before .before .before .before .before .before .before .body-at .ensures .0))
+-- src/lib.rt:367:20
+is-running-requires-2 : tie.Need-is-running-requires-2 Inv-loop μ-loop
+is-running-requires-2 c κs = search needs
 
--- src/lib.rt:378:9
-watch-event-requires : tie.Need-watch-event-requires Inv-loop μ-loop
-watch-event-requires c κs = search needs
+-- src/lib.rt:368:22
+cast-ticks : tie.Need-cast-ticks Inv-loop μ-loop
+cast-ticks c = search needs
 
--- src/lib.rt:380:16
-is-running-requires-3 : tie.Need-is-running-requires-3 Inv-loop μ-loop
-is-running-requires-3 c κs = search needs
+-- src/lib.rt:368:13
+add-ticks : tie.Need-add-ticks Inv-loop μ-loop
+add-ticks c =
+    let t : c .before .before .before .before .before .before .before .ticks .result .worked < 4294967296 = search needs in
+    omega (arith, c .before .before .before .before .before .before .before .before .before .before .before .before .before .before .before .before .before .before .before .before .loop .inv .0 .few, c .before .before .before .before .before .before .before .before .before .before .before .before .before .before .before .before .before .before .before .before .loop .inv .0 .inside, c .before .before .before .before .before .before .before .before .before .before .before .before .before .before .before .before .before .before .before .before .loop .inv .0 .short)
 
--- src/lib.rt:382:18
-cast-ticks-2 : tie.Need-cast-ticks-2 Inv-loop μ-loop
-cast-ticks-2 c = search needs
-
--- src/lib.rt:382:9
-add-ticks-2 : tie.Need-add-ticks-2 Inv-loop μ-loop
-add-ticks-2 c =
-    let t : c .before .before .before .before .before .before .before .before .before .before .before .before .step .result .ticks < 4294967296 = search needs in
-    omega (arith, c .before .before .before .before .before .before .before .before .before .before .before .before .before .before .before .before .before .before .before .before .before .before .loop .inv .0 .few, c .before .before .before .before .before .before .before .before .before .before .before .before .before .before .before .before .before .before .before .before .before .before .loop .inv .0 .inside, c .before .before .before .before .before .before .before .before .before .before .before .before .before .before .before .before .before .before .before .before .before .before .loop .inv .0 .short)
-
--- src/lib.rt:383:9
+-- src/lib.rt:369:13
 next-at-requires-3 : tie.Need-next-at-requires-3 Inv-loop μ-loop
 next-at-requires-3 c κs = search needs
 
--- src/lib.rt:328:5
+-- src/lib.rt:332:5
 loop-less-5 : tie.Need-loop-less-5 Inv-loop μ-loop
 loop-less-5 c =
-    let next : c .next-at3 .result ≡ nextAt (c .before .before .before .before .before .before .before .before .before .before .before .before .before .before .before .before .before .before .before .before .before .before .before .before .before .before .before .before .before .before .before .before .before .args .script .now) (c .before .before .before .before .before .before .before .before .before .before .before .before .before .before .before .before .before .before .before .before .before .before .before .loop .at) = c .next-at3 .ensures ∙ step-inside (c .before .before .before .before .before .before .before .before .before .before .before .before .before .before .before .before .before .before .before .before .before .before .before .before .before .before .before .before .before .before .before .before .before .args .script .now) (c .before .before .before .before .before .before .before .before .before .before .before .before .before .before .before .before .before .before .before .before .before .before .before .loop .at) (c .before .before .before .before .before .before .before .before .before .before .before .before .before .before .before .before .before .before .before .before .before .before .loop-test .taken) in
-    omega (arith, next, c .before .before .before .before .before .before .before .before .before .before .before .before .before .before .before .before .before .before .before .before .before .before .loop-test .taken)
+    let next : c .next-at3 .result ≡ nextAt (c .before .before .before .before .before .before .before .before .before .before .before .before .before .before .before .before .before .before .before .before .before .before .before .before .before .before .before .before .before .before .before .args .script .now) (c .before .before .before .before .before .before .before .before .before .before .before .before .before .before .before .before .before .before .before .before .before .loop .at) = c .next-at3 .ensures ∙ step-inside (c .before .before .before .before .before .before .before .before .before .before .before .before .before .before .before .before .before .before .before .before .before .before .before .before .before .before .before .before .before .before .before .args .script .now) (c .before .before .before .before .before .before .before .before .before .before .before .before .before .before .before .before .before .before .before .before .before .loop .at) (c .before .before .before .before .before .before .before .before .before .before .before .before .before .before .before .before .before .before .before .before .loop-test .taken) in
+    omega (arith, next, c .before .before .before .before .before .before .before .before .before .before .before .before .before .before .before .before .before .before .before .before .loop-test .taken)
 
--- src/lib.rt:328:5
+-- src/lib.rt:332:5
 loop-again-5 : tie.Need-loop-again-5 Inv-loop μ-loop
 loop-again-5 c =
-    let next : c .next-at3 .result ≡ nextAt (c .before .before .before .before .before .before .before .before .before .before .before .before .before .before .before .before .before .before .before .before .before .before .before .before .before .before .before .before .before .before .before .before .before .args .script .now) (c .before .before .before .before .before .before .before .before .before .before .before .before .before .before .before .before .before .before .before .before .before .before .before .loop .at) = c .next-at3 .ensures ∙ step-inside (c .before .before .before .before .before .before .before .before .before .before .before .before .before .before .before .before .before .before .before .before .before .before .before .before .before .before .before .before .before .before .before .before .before .args .script .now) (c .before .before .before .before .before .before .before .before .before .before .before .before .before .before .before .before .before .before .before .before .before .before .before .loop .at) (c .before .before .before .before .before .before .before .before .before .before .before .before .before .before .before .before .before .before .before .before .before .before .loop-test .taken) in
-    let other = sym (c .before .before .before .before .before .before .before .before .before .before .before .before .before .before .before .before .before .before .is-ticking .ensures) ∙ c .before .before .before .before .before .before .before .before .before .before .before .before .before .before .before .before .before .if3 .left in
-    let does = c .before .before .before .before .before .before .before .before .before .before .before .before .before .step .ensures ∙ ap (applied _ _ _ _) (c .before .before .before .before .before .before .before .before .before .before .before .before .before .before .before .before .before .before .before .body-at .ensures .0) in
-    ( rw next (turns (c .before .before .before .before .before .before .before .before .before .before .before .before .before .before .before .before .before .before .before .before .before .before .before .loop .inv .0) (c .before .before .before .before .before .before .before .before .before .before .before .before .before .before .before .before .before .before .before .before .before .before .loop-test .taken) (not-ticking (getD (c .before .before .before .before .before .before .before .before .before .before .before .before .before .before .before .before .before .before .before .before .before .before .before .before .before .before .before .before .before .before .before .before .before .args .script .now) (c .before .before .before .before .before .before .before .before .before .before .before .before .before .before .before .before .before .before .before .before .before .before .before .loop .at) 0) other .not-stamp) _ _ _ does (c .before .before .before .before .before .before .before .before .before .put3 .ensures) (search needs) (c .before .before .before .before .before .before .before .before .before .before .before .before .before .step .kept .1 .1 .1 .1 .0) (c .before .before .before .before .before .before .before .before .before .put3 .kept .0))
-    , ap (λ (b : Bool). b || c .before .before .before .before .before .before .watch-event .result .on) (c .before .before .before .before .is-running3 .ensures)
-    , rw (next, c .before .before .before .before .before .before .watch-event .ensures) (event-watched (c .before .before .before .before .before .before .before .before .before .before .before .before .before .before .before .before .before .before .before .before .before .before .before .loop .inv .2) (c .before .before .before .before .before .before .before .before .before .before .before .before .before .before .before .before .before .before .before .before .before .before .loop-test .taken) other _ _ _ _ _ _ _ does))
+    let next : c .next-at3 .result ≡ nextAt (c .before .before .before .before .before .before .before .before .before .before .before .before .before .before .before .before .before .before .before .before .before .before .before .before .before .before .before .before .before .before .before .args .script .now) (c .before .before .before .before .before .before .before .before .before .before .before .before .before .before .before .before .before .before .before .before .before .loop .at) = c .next-at3 .ensures ∙ step-inside (c .before .before .before .before .before .before .before .before .before .before .before .before .before .before .before .before .before .before .before .before .before .before .before .before .before .before .before .before .before .before .before .args .script .now) (c .before .before .before .before .before .before .before .before .before .before .before .before .before .before .before .before .before .before .before .before .before .loop .at) (c .before .before .before .before .before .before .before .before .before .before .before .before .before .before .before .before .before .before .before .before .loop-test .taken) in
+    let ticking = sym (c .before .before .before .before .before .before .before .before .before .before .before .before .before .before .before .is-ticking .ensures) ∙ c .before .before .before .before .before .before .before .before .before .before .before .before .before .before .if4 .taken in
+    ( rw next (ticks-turn (c .before .before .before .before .before .before .before .before .before .before .before .before .before .before .before .before .before .before .before .before .before .loop .inv .0) (c .before .before .before .before .before .before .before .before .before .before .before .before .before .before .before .before .before .before .before .before .loop-test .taken) ticking _ (c .before .before .before .before .before .before .before .before .before .before .before .before .before .before .before .before .body-at .ensures .0) _ (c .before .before .before .before .before .before .before .before .before .before .before .before .before .ticks-of .ensures .0) _ (c .before .before .before .before .before .before .before .before .before .before .before .before .clock-after .ensures) _ _ _ _ (c .before .before .before .before .before .before .before .before .ticks .ensures) (search needs) (c .before .before .before .before .before .before .before .before .ticks .kept .1 .1 .0))
+    , ap (λ (b : Bool). b || c .before .before .before .before .before .watch-ticks .result .on) (c .before .before .before .is-running2 .ensures)
+    , rw (next, c .before .before .before .before .before .watch-ticks .ensures) (ticks-watched (c .before .before .before .before .before .before .before .before .before .before .before .before .before .before .before .before .before .before .before .before .before .loop .inv .2) (c .before .before .before .before .before .before .before .before .before .before .before .before .before .before .before .before .before .before .before .before .loop-test .taken) ticking _ (c .before .before .before .before .before .before .before .before .before .before .before .before .before .before .before .before .body-at .ensures .0) _ (c .before .before .before .before .before .before .before .before .before .before .before .before .before .ticks-of .ensures .0) (c .before .before .before .before .before .before .before .before .before .before .before .before .before .ticks-of .ensures .1) _ (c .before .before .before .before .before .before .before .before .before .before .before .before .clock-after .ensures) _ _ _ _ (c .before .before .before .before .before .before .before .before .ticks .ensures)))
 
--- src/lib.rt:387:14
+-- src/lib.rt:382:13
+cast-step : tie.Need-cast-step Inv-loop μ-loop
+cast-step c = omega (arith, c .before .before .before .before .before .body-at .ensures .1)
+
+-- src/lib.rt:373:13
+step-requires : tie.Need-step-requires Inv-loop μ-loop
+step-requires c κs = search needs
+
+-- src/lib.rt:385:9
+put-requires-3 : tie.Need-put-requires-3 Inv-loop μ-loop
+put-requires-3 c κs = finds-room (c .before .before .before .before .before .before .before .before .before .before .before .before .before .before .loop .inv .0) (c .before .before .before .before .before .before .before .before .before .before .before .before .before .loop-test .taken) _ (c .before .before .before .step .ensures ∙ ap (applied _ _ _ _) (c .before .before .before .before .before .before .before .before .before .body-at .ensures .0))
+
+-- src/lib.rt:386:9
+watch-event-requires : tie.Need-watch-event-requires Inv-loop μ-loop
+watch-event-requires c κs = search needs
+
+-- src/lib.rt:388:16
+is-running-requires-3 : tie.Need-is-running-requires-3 Inv-loop μ-loop
+is-running-requires-3 c κs = search needs
+
+-- src/lib.rt:390:18
+cast-ticks-2 : tie.Need-cast-ticks-2 Inv-loop μ-loop
+cast-ticks-2 c = search needs
+
+-- src/lib.rt:390:9
+add-ticks-2 : tie.Need-add-ticks-2 Inv-loop μ-loop
+add-ticks-2 c =
+    let t : c .before .before .before .before .before .before .before .before .before .before .before .before .step .result .ticks < 4294967296 = search needs in
+    omega (arith, c .before .before .before .before .before .before .before .before .before .before .before .before .before .before .before .before .before .before .before .before .before .before .before .loop .inv .0 .few, c .before .before .before .before .before .before .before .before .before .before .before .before .before .before .before .before .before .before .before .before .before .before .before .loop .inv .0 .inside, c .before .before .before .before .before .before .before .before .before .before .before .before .before .before .before .before .before .before .before .before .before .before .before .loop .inv .0 .short)
+
+-- src/lib.rt:391:9
+next-at-requires-4 : tie.Need-next-at-requires-4 Inv-loop μ-loop
+next-at-requires-4 c κs = search needs
+
+-- src/lib.rt:332:5
+loop-less-6 : tie.Need-loop-less-6 Inv-loop μ-loop
+loop-less-6 c =
+    let next : c .next-at4 .result ≡ nextAt (c .before .before .before .before .before .before .before .before .before .before .before .before .before .before .before .before .before .before .before .before .before .before .before .before .before .before .before .before .before .before .before .before .before .before .args .script .now) (c .before .before .before .before .before .before .before .before .before .before .before .before .before .before .before .before .before .before .before .before .before .before .before .before .loop .at) = c .next-at4 .ensures ∙ step-inside (c .before .before .before .before .before .before .before .before .before .before .before .before .before .before .before .before .before .before .before .before .before .before .before .before .before .before .before .before .before .before .before .before .before .before .args .script .now) (c .before .before .before .before .before .before .before .before .before .before .before .before .before .before .before .before .before .before .before .before .before .before .before .before .loop .at) (c .before .before .before .before .before .before .before .before .before .before .before .before .before .before .before .before .before .before .before .before .before .before .before .loop-test .taken) in
+    omega (arith, next, c .before .before .before .before .before .before .before .before .before .before .before .before .before .before .before .before .before .before .before .before .before .before .before .loop-test .taken)
+
+-- src/lib.rt:332:5
+loop-again-6 : tie.Need-loop-again-6 Inv-loop μ-loop
+loop-again-6 c =
+    let next : c .next-at4 .result ≡ nextAt (c .before .before .before .before .before .before .before .before .before .before .before .before .before .before .before .before .before .before .before .before .before .before .before .before .before .before .before .before .before .before .before .before .before .before .args .script .now) (c .before .before .before .before .before .before .before .before .before .before .before .before .before .before .before .before .before .before .before .before .before .before .before .before .loop .at) = c .next-at4 .ensures ∙ step-inside (c .before .before .before .before .before .before .before .before .before .before .before .before .before .before .before .before .before .before .before .before .before .before .before .before .before .before .before .before .before .before .before .before .before .before .args .script .now) (c .before .before .before .before .before .before .before .before .before .before .before .before .before .before .before .before .before .before .before .before .before .before .before .before .loop .at) (c .before .before .before .before .before .before .before .before .before .before .before .before .before .before .before .before .before .before .before .before .before .before .before .loop-test .taken) in
+    let other = sym (c .before .before .before .before .before .before .before .before .before .before .before .before .before .before .before .before .before .before .is-ticking .ensures) ∙ c .before .before .before .before .before .before .before .before .before .before .before .before .before .before .before .before .before .if4 .left in
+    let does = c .before .before .before .before .before .before .before .before .before .before .before .before .before .step .ensures ∙ ap (applied _ _ _ _) (c .before .before .before .before .before .before .before .before .before .before .before .before .before .before .before .before .before .before .before .body-at .ensures .0) in
+    ( rw next (turns (c .before .before .before .before .before .before .before .before .before .before .before .before .before .before .before .before .before .before .before .before .before .before .before .before .loop .inv .0) (c .before .before .before .before .before .before .before .before .before .before .before .before .before .before .before .before .before .before .before .before .before .before .before .loop-test .taken) (not-ticking (getD (c .before .before .before .before .before .before .before .before .before .before .before .before .before .before .before .before .before .before .before .before .before .before .before .before .before .before .before .before .before .before .before .before .before .before .args .script .now) (c .before .before .before .before .before .before .before .before .before .before .before .before .before .before .before .before .before .before .before .before .before .before .before .before .loop .at) 0) other .not-stamp) _ _ _ does (c .before .before .before .before .before .before .before .before .before .put3 .ensures) (search needs) (c .before .before .before .before .before .before .before .before .before .before .before .before .before .step .kept .1 .1 .1 .1 .0) (c .before .before .before .before .before .before .before .before .before .put3 .kept .0))
+    , ap (λ (b : Bool). b || c .before .before .before .before .before .before .watch-event .result .on) (c .before .before .before .before .is-running3 .ensures)
+    , rw (next, c .before .before .before .before .before .before .watch-event .ensures) (event-watched (c .before .before .before .before .before .before .before .before .before .before .before .before .before .before .before .before .before .before .before .before .before .before .before .before .loop .inv .2) (c .before .before .before .before .before .before .before .before .before .before .before .before .before .before .before .before .before .before .before .before .before .before .before .loop-test .taken) other _ _ _ _ _ _ _ does))
+
+-- src/lib.rt:395:14
 finished-requires : tie.Need-finished-requires Inv-loop μ-loop
 finished-requires c κs = search needs
 
--- src/lib.rt:297:1
+-- src/lib.rt:301:1
 same-length : tie.Need-same-length Inv-loop μ-loop
 same-length c = c .before .before .before .loop .inv .0 .memory
 
--- src/lib.rt:297:1
+-- src/lib.rt:301:1
 same-length-2 : tie.Need-same-length-2 Inv-loop μ-loop
 same-length-2 c = c .before .before .before .loop .inv .0 .output
 
--- src/lib.rt:297:1
+-- src/lib.rt:301:1
 returns : tie.Need-returns Inv-loop μ-loop
 returns c = (rw (c .finished .ensures) (ends (c .before .before .before .loop .inv .0) (c .before .before .loop-test .left)), reports (c .before .before .before .loop .inv .2) (c .before .before .loop-test .left))
 
@@ -291,23 +315,26 @@ play-spec =
     add-at-2
     loop-less-2
     loop-again-2
+    next-at-requires
+    loop-less-3
+    loop-again-3
     body-at-requires
     is-ticking-requires
     cast-ticks-of
     ticks-of-requires
     cast-clock-after
     clock-after-requires
-    next-at-requires
-    loop-less-3
-    loop-again-3
+    next-at-requires-2
+    loop-less-4
+    loop-again-4
     ticks-requires
     watch-ticks-requires
     is-running-requires-2
     cast-ticks
     add-ticks
-    next-at-requires-2
-    loop-less-4
-    loop-again-4
+    next-at-requires-3
+    loop-less-5
+    loop-again-5
     cast-step
     step-requires
     put-requires-3
@@ -315,9 +342,9 @@ play-spec =
     is-running-requires-3
     cast-ticks-2
     add-ticks-2
-    next-at-requires-3
-    loop-less-5
-    loop-again-5
+    next-at-requires-4
+    loop-less-6
+    loop-again-6
     finished-requires
     same-length
     same-length-2

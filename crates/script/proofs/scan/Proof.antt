@@ -1,4 +1,3 @@
-use Rattle.script.specs.WatchLaws.{clock-as}
 use Prim.Native.Nat.{ℕ, _≤_, _<_, _+_, _*_, _-_}
 use mathlib.Core.Bool.{true, _&&_}
 use mathlib.Core.Path.{_≡_, refl, sym, _∙_, ap}
@@ -6,16 +5,17 @@ use native.Mathlib.Nat.{add-zero, add-assoc, zero-add}
 use native.Mathlib.Omega.{arith}
 use lib.Dec.{eqb, ltb}
 use lib.ListN.{length, getD}
-use borrow.Author.Tests.{eqb-true, ltb-true}
+use borrow.Author.Tests.{eqb-true, ltb-true, ne-eqb}
 use Rattle.cells.specs.Choice.{and-left, and-right}
-use Rattle.kinds.specs.Kinds.{EXCHANGE, roomOf, mostRoom}
-use Rattle.kinds.specs.Body.{nextAt, bodyAt}
+use Rattle.kinds.specs.Kinds.{EXCHANGE, STAMP, roomOf, mostRoom, kindRow, kindRowIn}
+use Rattle.kinds.specs.Body.{nextAt}
 use Rattle.kinds.specs.Laws.{step-inside}
 use Rattle.clock.specs.declared.Clock.{Clock}
 use Rattle.clock.specs.Clock.{unset}
 use Rattle.script.specs.Script.{events, eventsFrom, eventAt, clockAfter, firstBad, room, refusalOf, faultBy}
 use Rattle.script.specs.Watch.{clockBy}
-use Rattle.script.specs.Laws.{firstBad-none, firstBad-here, firstBad-later, clean-event, good-event, exchange-next, exchange-good, exchange-clock, exchange-room, room-none, room-more}
+use Rattle.script.specs.WatchLaws.{clock-as}
+use Rattle.script.specs.Laws.{firstBad-none, firstBad-here, firstBad-later, clean-event, good-event, clock-stays, exchange-next, exchange-good, exchange-clock, exchange-room, room-none, room-more}
 use borrow.Author.Needs.{needs}
 use Rattle.script.proofs.scan.Statement.{statement}
 use Rattle.script.proofs.scan.Tie as tie
@@ -101,27 +101,19 @@ shared-slice-read-kind c = search needs
 cast-kind : tie.Need-cast-kind Inv-loop μ-loop
 cast-kind c = omega (arith, c .shared-slice-known3 .given (c .before .before .before .before .before .before .loop .at))
 
--- src/lib.rt:126:42
+-- src/lib.rt:127:46
 body-at-requires : tie.Need-body-at-requires Inv-loop μ-loop
 body-at-requires c κs = search needs
 
--- src/lib.rt:126:42
+-- src/lib.rt:127:46
 cast-clock-after : tie.Need-cast-clock-after Inv-loop μ-loop
 cast-clock-after c = omega (arith, c .body-at .ensures .1)
 
--- src/lib.rt:126:9
+-- src/lib.rt:127:13
 clock-after-requires : tie.Need-clock-after-requires Inv-loop μ-loop
 clock-after-requires c κs = search needs
 
--- src/lib.rt:127:18
-room-of-requires-2 : tie.Need-room-of-requires-2 Inv-loop μ-loop
-room-of-requires-2 c κs = search needs
-
--- src/lib.rt:127:9
-add-space-2 : tie.Need-add-space-2 Inv-loop μ-loop
-add-space-2 c = search needs
-
--- src/lib.rt:128:9
+-- src/lib.rt:128:13
 next-at-requires : tie.Need-next-at-requires Inv-loop μ-loop
 next-at-requires c κs = search needs
 
@@ -131,16 +123,48 @@ loop-less-2 c = omega (arith, c .next-at .ensures, step-inside (c .before .befor
 
 -- src/lib.rt:108:5
 loop-again-2 : tie.Need-loop-again-2 Inv-loop μ-loop
+unfolding kindRow kindRowIn
 loop-again-2 c =
     let s = c .before .before .before .before .before .before .before .before .before .before .before .before .args .s .now in
     let at = c .before .before .before .before .before .before .before .before .before .before .loop .at in
     let z : faultBy (c .before .before .before .before .before .before .before .before .before .before .loop .clock) (eventAt s at) ≡ 0 = sym (c .before .before .before .before .before .before .fault-at .ensures) ∙ c .before .before .before .before .before .if2 .left in
     let next : c .next-at .result ≡ nextAt s at = c .next-at .ensures ∙ step-inside s at (c .before .before .before .before .before .before .before .before .before .loop-test .taken) in
-    let on : c .before .before .clock-after .result ≡ clockAfter (c .before .before .before .before .before .before .before .before .before .before .loop .clock) (eventAt s at) = c .before .before .clock-after .ensures ∙ ap (clockBy (c .before .before .before .before .before .before .before .before .before .before .loop .clock) (getD s at 0)) (c .before .before .before .body-at .ensures .0) ∙ clock-as (c .before .before .before .before .before .before .before .before .before .before .loop .clock) s at in (
+    let on : c .before .clock-after .result ≡ clockAfter (c .before .before .before .before .before .before .before .before .before .before .loop .clock) (eventAt s at) = c .before .clock-after .ensures ∙ ap (clockBy (c .before .before .before .before .before .before .before .before .before .before .loop .clock) (getD s at 0)) (c .before .before .body-at .ensures .0) ∙ clock-as (c .before .before .before .before .before .before .before .before .before .before .loop .clock) s at in
+    let silent : roomOf (getD s at 0) ≡ 0 = ap roomOf (c .before .before .before .if3 .taken) in (
       omega (arith, next, good-event s at (clean-event (c .before .before .before .before .before .before .before .before .before .before .loop .clock) (eventAt s at) z .as-written) .inside),
-      omega (arith, next, c .before .room-of2 .ensures .1, c .before .before .before .before .before .before .before .before .before .before .loop .inv .1),
+      omega (arith, next, c .before .before .before .before .before .before .before .before .before .before .loop .inv .1),
       c .before .before .before .before .before .before .before .before .before .before .loop .inv .2 ∙ firstBad-later (c .before .before .before .before .before .before .before .before .before .before .loop .clock) s at (c .before .before .before .before .before .before .before .before .before .loop-test .taken) z ∙ (λ i. firstBad (sym on i) (eventsFrom s (sym next i))),
-      c .before .before .before .before .before .before .before .before .before .before .loop .inv .3 ∙ ap (λ (r : ℕ). c .before .before .before .before .before .before .before .before .before .before .loop .space + r) (room-more s at (c .before .before .before .before .before .before .before .before .before .loop-test .taken)) ∙ rw (next, c .before .room-of2 .ensures .0) (sym (add-assoc _ _ _)),
+      c .before .before .before .before .before .before .before .before .before .before .loop .inv .3 ∙ ap (λ (r : ℕ). c .before .before .before .before .before .before .before .before .before .before .loop .space + r) (room-more s at (c .before .before .before .before .before .before .before .before .before .loop-test .taken) ∙ (λ i. silent i + room (eventsFrom s (sym next i))) ∙ zero-add _),
+    )
+
+-- src/lib.rt:131:18
+room-of-requires-2 : tie.Need-room-of-requires-2 Inv-loop μ-loop
+room-of-requires-2 c κs = search needs
+
+-- src/lib.rt:131:9
+add-space-2 : tie.Need-add-space-2 Inv-loop μ-loop
+add-space-2 c = search needs
+
+-- src/lib.rt:132:9
+next-at-requires-2 : tie.Need-next-at-requires-2 Inv-loop μ-loop
+next-at-requires-2 c κs = search needs
+
+-- src/lib.rt:108:5
+loop-less-3 : tie.Need-loop-less-3 Inv-loop μ-loop
+loop-less-3 c = omega (arith, c .next-at2 .ensures, step-inside (c .before .before .before .before .before .before .before .before .before .before .before .args .s .now) (c .before .before .before .before .before .before .before .before .before .loop .at) (c .before .before .before .before .before .before .before .before .loop-test .taken))
+
+-- src/lib.rt:108:5
+loop-again-3 : tie.Need-loop-again-3 Inv-loop μ-loop
+loop-again-3 c =
+    let s = c .before .before .before .before .before .before .before .before .before .before .before .args .s .now in
+    let at = c .before .before .before .before .before .before .before .before .before .loop .at in
+    let z : faultBy (c .before .before .before .before .before .before .before .before .before .loop .clock) (eventAt s at) ≡ 0 = sym (c .before .before .before .before .before .fault-at .ensures) ∙ c .before .before .before .before .if2 .left in
+    let next : c .next-at2 .result ≡ nextAt s at = c .next-at2 .ensures ∙ step-inside s at (c .before .before .before .before .before .before .before .before .loop-test .taken) in
+    let same : clockAfter (c .before .before .before .before .before .before .before .before .before .loop .clock) (eventAt s at) ≡ c .before .before .before .before .before .before .before .before .before .loop .clock = clock-stays (c .before .before .before .before .before .before .before .before .before .loop .clock) (eventAt s at) (ne-eqb (getD s at 0) STAMP (c .before .before .if3 .left)) in (
+      omega (arith, next, good-event s at (clean-event (c .before .before .before .before .before .before .before .before .before .loop .clock) (eventAt s at) z .as-written) .inside),
+      omega (arith, next, c .before .room-of2 .ensures .1, c .before .before .before .before .before .before .before .before .before .loop .inv .1),
+      c .before .before .before .before .before .before .before .before .before .loop .inv .2 ∙ firstBad-later (c .before .before .before .before .before .before .before .before .before .loop .clock) s at (c .before .before .before .before .before .before .before .before .loop-test .taken) z ∙ (λ i. firstBad (same i) (eventsFrom s (sym next i))),
+      c .before .before .before .before .before .before .before .before .before .loop .inv .3 ∙ ap (λ (r : ℕ). c .before .before .before .before .before .before .before .before .before .loop .space + r) (room-more s at (c .before .before .before .before .before .before .before .before .loop-test .taken)) ∙ rw (next, c .before .room-of2 .ensures .0) (sym (add-assoc _ _ _)),
     )
 
 -- src/lib.rt:98:1
@@ -173,9 +197,12 @@ scan-spec =
     body-at-requires
     cast-clock-after
     clock-after-requires
-    room-of-requires-2
-    add-space-2
     next-at-requires
     loop-less-2
     loop-again-2
+    room-of-requires-2
+    add-space-2
+    next-at-requires-2
+    loop-less-3
+    loop-again-3
     returns-2)
