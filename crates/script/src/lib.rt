@@ -6,7 +6,8 @@ ghost use lib.ListN.{length};
 ghost use Rattle.part.specs.Part.{setting};
 ghost use Rattle.chip.specs.Chip.{whole};
 ghost use Rattle.chip.specs.Record.{recordBytes};
-ghost use Rattle.margins.specs.Margins.{allowed, margin, tidied};
+ghost use Rattle.clock.specs.Clock.{unset};
+ghost use Rattle.margins.specs.Margins.{allowed, margin};
 ghost use Rattle.script.specs.Script.{eventAt, faultBy, refusalOf};
 ghost use Rattle.script.specs.Run.{finished, refused, Scan, Stored, Playable, Played, refusal, answerOf, memoryOf, outputOf};
 ghost use Rattle.script.specs.Jobs.{isTwo};
@@ -81,6 +82,16 @@ fn fault_at(s: &[u8], at: usize, clock: Clock) -> u8
     0
 }
 
+// The clock that a run starts with: there was no stamp yet.
+fn no_stamp() -> Clock
+    ensures { λ r. ⌜ r ≡ unset ⌝ }
+{
+    Clock {
+        set: false,
+        stamp: 0,
+    }
+}
+
 // The clock after an event: a stamp sets it.
 fn clock_after(clock: Clock, kind: u64, body: u16) -> Clock
     ensures { λ r. ⌜ r ≡ clockBy clock kind body ⌝ }
@@ -101,10 +112,7 @@ fn scan(s: &[u8]) -> Scanned
 {
     let mut at = 0;
     let mut space = 0;
-    let mut clock = Clock {
-        set: false,
-        stamp: 0,
-    };
+    let mut clock = no_stamp();
     while at < s.len() {
         // Most events are exchanges, and with a whole one nothing can be wrong.
         if (s[at] as u64 == Kind::EXCHANGE) & (at + 1 < s.len()) {
@@ -317,10 +325,7 @@ fn play(
     let mut load = chip.load;
     let mut held = chip.held;
     let mut busy = chip::is_running(chip.core);
-    let mut clock = Clock {
-        set: false,
-        stamp: 0,
-    };
+    let mut clock = no_stamp();
     let mut watch = Watch {
         on: false,
         used: 0,
@@ -496,12 +501,28 @@ fn no_jobs() -> Line {
     }
 }
 
+// A report without jobs.
+fn no_report() -> Report {
+    Report {
+        status: no_jobs(),
+        program: no_jobs(),
+        small: no_jobs(),
+        sector: no_jobs(),
+        chip: no_jobs(),
+    }
+}
+
 // A script run, for every chip, memory, area, script and output: the report that goes with it is thrown away.
 pub fn run(chip: Chip, mem: &mut [u8], area: &[u8], script: &[u8], out: &mut [u8]) -> Ran
     ensures { λ r. ⌜ (r ≡ answerOf chip (now (mem .entry)) (now (area .entry)) (now (script .entry)) (now (out .entry)))
         × (now (mem .exit) ≡ memoryOf chip (now (mem .entry)) (now (area .entry)) (now (script .entry)) (now (out .entry)))
         × (now (out .exit) ≡ outputOf chip (now (mem .entry)) (now (area .entry)) (now (script .entry)) (now (out .entry))) ⌝ }
 {
+    let n = mem.len();
+    let no = refuses(chip, n, area.len(), script, out.len());
+    if no.number != 0 {
+        return turned_away(chip, no);
+    }
     let none = Allowances {
         status: 0,
         program: 0,
@@ -509,13 +530,15 @@ pub fn run(chip: Chip, mem: &mut [u8], area: &[u8], script: &[u8], out: &mut [u8
         sector: 0,
         chip: 0,
     };
-    let blank = Report {
-        status: no_jobs(),
-        program: no_jobs(),
-        small: no_jobs(),
-        sector: no_jobs(),
-        chip: no_jobs(),
-    };
-    let r = run_with_report(chip, mem, area, script, out, none, blank);
-    r.ran
+    let played = play(
+        chip,
+        mem,
+        script,
+        out,
+        part::sectors_of(n),
+        area,
+        none,
+        no_report(),
+    );
+    played.ran
 }

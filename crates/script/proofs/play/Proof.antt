@@ -31,6 +31,7 @@ use Rattle.kinds.proofs.next_at.Reads as next-at-reads
 use Rattle.script.proofs.clock_after.Reads as clock-after-reads
 use Rattle.script.proofs.finished.Reads as finished-reads
 use Rattle.script.proofs.is_ticking.Reads as is-ticking-reads
+use Rattle.script.proofs.no_stamp.Reads as no-stamp-reads
 use Rattle.script.proofs.put.Reads as put-reads
 use Rattle.script.proofs.ticks_of.Reads as ticks-of-reads
 use Rattle.script.proofs.watch_event.Reads as watch-event-reads
@@ -46,89 +47,93 @@ Inv-loop mem₀ script out₀ sectors area allowances core₀ frame₀ load₀ h
 abbrev μ-loop : tie.MeasureT-loop
 μ-loop mem₀ script out₀ sectors area allowances core₀ frame₀ load₀ held₀ busy₀ clock₀ watch₀ at₀ pos₀ ticks₀ mem out core frame load held busy clock watch at pos ticks = length script - at
 
--- src/lib.rt:319:9
+-- src/lib.rt:327:9
 is-running-requires : tie.Need-is-running-requires Inv-loop μ-loop
 is-running-requires c κs = search needs
 
--- src/lib.rt:332:5
-loop-holds : tie.Need-loop-holds Inv-loop μ-loop
-loop-holds c = (starts _ _ _ _ _ (c .before .before .before .before .before .before .before .before .before .pre .1), c .is-running .ensures ∙ sym (or-false _), watch-starts _ _ _ _ _ _)
+-- src/lib.rt:328:9
+no-stamp-requires : tie.Need-no-stamp-requires Inv-loop μ-loop
+no-stamp-requires c κs = search needs
 
--- src/lib.rt:333:20
+-- src/lib.rt:337:5
+loop-holds : tie.Need-loop-holds Inv-loop μ-loop
+loop-holds c = (rw (c .no-stamp .ensures) (starts _ _ _ _ _ (c .before .before .before .before .before .before .before .before .before .before .pre .1)), c .before .is-running .ensures ∙ sym (or-false _), rw (c .no-stamp .ensures) (watch-starts _ _ _ _ _ _))
+
+-- src/lib.rt:338:20
 shared-slice-read-kind : tie.Need-shared-slice-read-kind Inv-loop μ-loop
 shared-slice-read-kind c = search needs
 
--- src/lib.rt:333:20
+-- src/lib.rt:338:20
 cast-kind : tie.Need-cast-kind Inv-loop μ-loop
 cast-kind c = omega (arith, c .shared-slice-known3 .given (c .before .before .loop .at))
 
--- src/lib.rt:335:28
+-- src/lib.rt:340:28
 add-b : tie.Need-add-b Inv-loop μ-loop
 add-b c = omega (arith, exchange-inside (c .before .before .before .loop .inv .0) (c .before .before .loop-test .taken) (c .if1 .taken))
 
--- src/lib.rt:335:21
+-- src/lib.rt:340:21
 shared-slice-read-b : tie.Need-shared-slice-read-b Inv-loop μ-loop
 shared-slice-read-b c = omega (arith, exchange-inside (c .before .before .before .before .loop .inv .0) (c .before .before .before .loop-test .taken) (c .before .if1 .taken))
 
--- src/lib.rt:336:16
+-- src/lib.rt:341:16
 streams-requires : tie.Need-streams-requires Inv-loop μ-loop
 streams-requires c κs = search needs
 
--- src/lib.rt:337:21
+-- src/lib.rt:342:21
 stream-requires : tie.Need-stream-requires Inv-loop μ-loop
 stream-requires c κs = search needs
 
--- src/lib.rt:339:17
+-- src/lib.rt:344:17
 put-requires : tie.Need-put-requires Inv-loop μ-loop
 put-requires c κs = exchange-finds-room (c .before .before .before .before .before .before .before .before .before .before .loop .inv .0) (c .before .before .before .before .before .before .before .before .before .loop-test .taken) (c .before .before .before .before .before .before .before .if1 .taken) (c .before .before .before .before .before .before .shared-slice-known4 .given (c .before .before .before .before .before .before .before .before .before .before .loop .at + 1) .fits) _ _ _ (c .before .stream .ensures ∙ sym (exchanged-stream _ _ _ _ _ _ (sym (c .before .before .before .before .before .streams .ensures) ∙ c .before .before .before .before .if2 .taken)))
 
--- src/lib.rt:341:17
+-- src/lib.rt:346:17
 add-at : tie.Need-add-at Inv-loop μ-loop
 add-at c = omega (arith, exchange-inside (c .before .before .before .before .before .before .before .before .before .before .before .before .before .before .loop .inv .0) (c .before .before .before .before .before .before .before .before .before .before .before .before .before .loop-test .taken) (c .before .before .before .before .before .before .before .before .before .before .before .if1 .taken))
 
--- src/lib.rt:332:5
+-- src/lib.rt:337:5
 loop-less : tie.Need-loop-less Inv-loop μ-loop
 loop-less c = omega (arith, c .before .before .before .before .before .before .before .before .before .before .before .before .before .loop-test .taken)
 
--- src/lib.rt:332:5
+-- src/lib.rt:337:5
 loop-again : tie.Need-loop-again Inv-loop μ-loop
 loop-again c = (exchange-turns (c .before .before .before .before .before .before .before .before .before .before .before .before .before .before .loop .inv .0) (c .before .before .before .before .before .before .before .before .before .before .before .before .before .loop-test .taken) (c .before .before .before .before .before .before .before .before .before .before .before .if1 .taken) (c .before .before .before .before .before .before .before .before .before .before .shared-slice-known4 .given (c .before .before .before .before .before .before .before .before .before .before .before .before .before .before .loop .at + 1) .fits) _ _ _ (c .before .before .before .before .before .stream .ensures ∙ sym (exchanged-stream _ _ _ _ _ _ (sym (c .before .before .before .before .before .before .before .before .before .streams .ensures) ∙ c .before .before .before .before .before .before .before .before .if2 .taken))) _ _ (c .before .before .before .put .ensures) (c .before .before .before .put .kept .0), c .before .before .before .before .before .before .before .before .before .before .before .before .before .before .loop .inv .1, exchange-watched (c .before .before .before .before .before .before .before .before .before .before .before .before .before .before .loop .inv .2) (c .before .before .before .before .before .before .before .before .before .before .before .before .before .loop-test .taken) (c .before .before .before .before .before .before .before .before .before .before .before .if1 .taken) _ _ _ (heard-is (c .before .before .before .before .before .before .before .before .before .before .before .before .before .before .loop .inv .0) (c .before .before .before .before .before .before .before .before .before .before .before .before .before .loop-test .taken) (c .before .before .before .before .before .before .before .before .before .before .before .if1 .taken) (c .before .before .before .before .before .before .before .before .before .before .shared-slice-known4 .given (c .before .before .before .before .before .before .before .before .before .before .before .before .before .before .loop .at + 1) .fits) _ _ _ (c .before .before .before .before .before .stream .ensures ∙ sym (exchanged-stream _ _ _ _ _ _ (sym (c .before .before .before .before .before .before .before .before .before .streams .ensures) ∙ c .before .before .before .before .before .before .before .before .if2 .taken)))))
 
--- src/lib.rt:345:17
+-- src/lib.rt:350:17
 exchange-requires : tie.Need-exchange-requires Inv-loop μ-loop
 exchange-requires c κs = search needs
 
--- src/lib.rt:347:13
+-- src/lib.rt:352:13
 put-requires-2 : tie.Need-put-requires-2 Inv-loop μ-loop
 put-requires-2 c κs = exchange-finds-room (c .before .before .before .before .before .before .before .before .before .before .loop .inv .0) (c .before .before .before .before .before .before .before .before .before .loop-test .taken) (c .before .before .before .before .before .before .before .if1 .taken) (c .before .before .before .before .before .before .shared-slice-known4 .given (c .before .before .before .before .before .before .before .before .before .before .loop .at + 1) .fits) _ _ _ (c .before .exchange .ensures)
 
--- src/lib.rt:349:13
+-- src/lib.rt:354:13
 add-at-2 : tie.Need-add-at-2 Inv-loop μ-loop
 add-at-2 c = omega (arith, exchange-inside (c .before .before .before .before .before .before .before .before .before .before .before .before .before .before .loop .inv .0) (c .before .before .before .before .before .before .before .before .before .before .before .before .before .loop-test .taken) (c .before .before .before .before .before .before .before .before .before .before .before .if1 .taken))
 
--- src/lib.rt:332:5
+-- src/lib.rt:337:5
 loop-less-2 : tie.Need-loop-less-2 Inv-loop μ-loop
 loop-less-2 c = omega (arith, c .before .before .before .before .before .before .before .before .before .before .before .before .before .loop-test .taken)
 
--- src/lib.rt:332:5
+-- src/lib.rt:337:5
 loop-again-2 : tie.Need-loop-again-2 Inv-loop μ-loop
 loop-again-2 c = (exchange-turns (c .before .before .before .before .before .before .before .before .before .before .before .before .before .before .loop .inv .0) (c .before .before .before .before .before .before .before .before .before .before .before .before .before .loop-test .taken) (c .before .before .before .before .before .before .before .before .before .before .before .if1 .taken) (c .before .before .before .before .before .before .before .before .before .before .shared-slice-known4 .given (c .before .before .before .before .before .before .before .before .before .before .before .before .before .before .loop .at + 1) .fits) _ _ _ (c .before .before .before .before .before .exchange .ensures) _ _ (c .before .before .before .put2 .ensures) (c .before .before .before .put2 .kept .0), c .before .before .before .before .before .before .before .before .before .before .before .before .before .before .loop .inv .1, exchange-watched (c .before .before .before .before .before .before .before .before .before .before .before .before .before .before .loop .inv .2) (c .before .before .before .before .before .before .before .before .before .before .before .before .before .loop-test .taken) (c .before .before .before .before .before .before .before .before .before .before .before .if1 .taken) _ _ _ (heard-is (c .before .before .before .before .before .before .before .before .before .before .before .before .before .before .loop .inv .0) (c .before .before .before .before .before .before .before .before .before .before .before .before .before .loop-test .taken) (c .before .before .before .before .before .before .before .before .before .before .before .if1 .taken) (c .before .before .before .before .before .before .before .before .before .before .shared-slice-known4 .given (c .before .before .before .before .before .before .before .before .before .before .before .before .before .before .loop .at + 1) .fits) _ _ _ (c .before .before .before .before .before .exchange .ensures)))
 
--- src/lib.rt:353:13
+-- src/lib.rt:358:13
 next-at-requires : tie.Need-next-at-requires Inv-loop μ-loop
 next-at-requires c κs = search needs
 
--- src/lib.rt:332:5
+-- src/lib.rt:337:5
 loop-less-3 : tie.Need-loop-less-3 Inv-loop μ-loop
 loop-less-3 c =
-    let next : c .next-at .result ≡ nextAt (c .before .before .before .before .before .before .before .before .before .before .before .before .before .before .before .args .script .now) (c .before .before .before .before .before .loop .at) = c .next-at .ensures ∙ step-inside (c .before .before .before .before .before .before .before .before .before .before .before .before .before .before .before .args .script .now) (c .before .before .before .before .before .loop .at) (c .before .before .before .before .loop-test .taken) in
+    let next : c .next-at .result ≡ nextAt (c .before .before .before .before .before .before .before .before .before .before .before .before .before .before .before .before .args .script .now) (c .before .before .before .before .before .loop .at) = c .next-at .ensures ∙ step-inside (c .before .before .before .before .before .before .before .before .before .before .before .before .before .before .before .before .args .script .now) (c .before .before .before .before .before .loop .at) (c .before .before .before .before .loop-test .taken) in
     omega (arith, next, c .before .before .before .before .loop-test .taken)
 
--- src/lib.rt:332:5
+-- src/lib.rt:337:5
 loop-again-3 : tie.Need-loop-again-3 Inv-loop μ-loop
 loop-again-3 c =
-    let next : c .next-at .result ≡ nextAt (c .before .before .before .before .before .before .before .before .before .before .before .before .before .before .before .args .script .now) (c .before .before .before .before .before .loop .at) = c .next-at .ensures ∙ step-inside (c .before .before .before .before .before .before .before .before .before .before .before .before .before .before .before .args .script .now) (c .before .before .before .before .before .loop .at) (c .before .before .before .before .loop-test .taken) in
-    let kind = getD (c .before .before .before .before .before .before .before .before .before .before .before .before .before .before .before .args .script .now) (c .before .before .before .before .before .loop .at) 0 in
+    let next : c .next-at .result ≡ nextAt (c .before .before .before .before .before .before .before .before .before .before .before .before .before .before .before .before .args .script .now) (c .before .before .before .before .before .loop .at) = c .next-at .ensures ∙ step-inside (c .before .before .before .before .before .before .before .before .before .before .before .before .before .before .before .before .args .script .now) (c .before .before .before .before .before .loop .at) (c .before .before .before .before .loop-test .taken) in
+    let kind = getD (c .before .before .before .before .before .before .before .before .before .before .before .before .before .before .before .before .args .script .now) (c .before .before .before .before .before .loop .at) 0 in
     let both : (not (c .before .before .before .before .before .loop .busy) && (eqb kind TICKS || eqb kind TICK)) ≡ true = c .before .if3 .taken in
     let idle = either-false (running (c .before .before .before .before .before .loop .core)) (c .before .before .before .before .before .loop .watch .on) .0 (sym (c .before .before .before .before .before .loop .inv .1) ∙ not-true (c .before .before .before .before .before .loop .busy) (and-left (not (c .before .before .before .before .before .loop .busy)) (eqb kind TICKS || eqb kind TICK) both)) in
     let plain = and-right (not (c .before .before .before .before .before .loop .busy)) (eqb kind TICKS || eqb kind TICK) both in
@@ -136,159 +141,159 @@ loop-again-3 c =
     , c .before .before .before .before .before .loop .inv .1
     , rw next (plain-idle-watched (c .before .before .before .before .before .loop .inv .2) (c .before .before .before .before .loop-test .taken) (good (c .before .before .before .before .before .loop .inv .0) (c .before .before .before .before .loop-test .taken) .ranged) plain (idle .0) (idle .1)))
 
--- src/lib.rt:356:13
+-- src/lib.rt:361:13
 body-at-requires : tie.Need-body-at-requires Inv-loop μ-loop
 body-at-requires c κs = search needs
 
--- src/lib.rt:357:12
+-- src/lib.rt:362:12
 is-ticking-requires : tie.Need-is-ticking-requires Inv-loop μ-loop
 is-ticking-requires c κs = search needs
 
--- src/lib.rt:358:43
+-- src/lib.rt:363:43
 cast-ticks-of : tie.Need-cast-ticks-of Inv-loop μ-loop
 cast-ticks-of c = omega (arith, c .before .before .body-at .ensures .1)
 
--- src/lib.rt:358:17
+-- src/lib.rt:363:17
 ticks-of-requires : tie.Need-ticks-of-requires Inv-loop μ-loop
 ticks-of-requires c κs = search needs
 
--- src/lib.rt:359:46
+-- src/lib.rt:364:46
 cast-clock-after : tie.Need-cast-clock-after Inv-loop μ-loop
 cast-clock-after c = omega (arith, c .before .before .before .body-at .ensures .1)
 
--- src/lib.rt:359:13
+-- src/lib.rt:364:13
 clock-after-requires : tie.Need-clock-after-requires Inv-loop μ-loop
 clock-after-requires c κs = search needs
 
--- src/lib.rt:361:17
+-- src/lib.rt:366:17
 next-at-requires-2 : tie.Need-next-at-requires-2 Inv-loop μ-loop
 next-at-requires-2 c κs = search needs
 
--- src/lib.rt:332:5
+-- src/lib.rt:337:5
 loop-less-4 : tie.Need-loop-less-4 Inv-loop μ-loop
 loop-less-4 c =
-    let next : c .next-at2 .result ≡ nextAt (c .before .before .before .before .before .before .before .before .before .before .before .before .before .before .before .before .before .before .before .before .before .args .script .now) (c .before .before .before .before .before .before .before .before .before .before .before .loop .at) = c .next-at2 .ensures ∙ step-inside (c .before .before .before .before .before .before .before .before .before .before .before .before .before .before .before .before .before .before .before .before .before .args .script .now) (c .before .before .before .before .before .before .before .before .before .before .before .loop .at) (c .before .before .before .before .before .before .before .before .before .before .loop-test .taken) in
+    let next : c .next-at2 .result ≡ nextAt (c .before .before .before .before .before .before .before .before .before .before .before .before .before .before .before .before .before .before .before .before .before .before .args .script .now) (c .before .before .before .before .before .before .before .before .before .before .before .loop .at) = c .next-at2 .ensures ∙ step-inside (c .before .before .before .before .before .before .before .before .before .before .before .before .before .before .before .before .before .before .before .before .before .before .args .script .now) (c .before .before .before .before .before .before .before .before .before .before .before .loop .at) (c .before .before .before .before .before .before .before .before .before .before .loop-test .taken) in
     omega (arith, next, c .before .before .before .before .before .before .before .before .before .before .loop-test .taken)
 
--- src/lib.rt:332:5
+-- src/lib.rt:337:5
 loop-again-4 : tie.Need-loop-again-4 Inv-loop μ-loop
 loop-again-4 c =
-    let next : c .next-at2 .result ≡ nextAt (c .before .before .before .before .before .before .before .before .before .before .before .before .before .before .before .before .before .before .before .before .before .args .script .now) (c .before .before .before .before .before .before .before .before .before .before .before .loop .at) = c .next-at2 .ensures ∙ step-inside (c .before .before .before .before .before .before .before .before .before .before .before .before .before .before .before .before .before .before .before .before .before .args .script .now) (c .before .before .before .before .before .before .before .before .before .before .before .loop .at) (c .before .before .before .before .before .before .before .before .before .before .loop-test .taken) in
+    let next : c .next-at2 .result ≡ nextAt (c .before .before .before .before .before .before .before .before .before .before .before .before .before .before .before .before .before .before .before .before .before .before .args .script .now) (c .before .before .before .before .before .before .before .before .before .before .before .loop .at) = c .next-at2 .ensures ∙ step-inside (c .before .before .before .before .before .before .before .before .before .before .before .before .before .before .before .before .before .before .before .before .before .before .args .script .now) (c .before .before .before .before .before .before .before .before .before .before .before .loop .at) (c .before .before .before .before .before .before .before .before .before .before .loop-test .taken) in
     let idle = either-false (running (c .before .before .before .before .before .before .before .before .before .before .before .loop .core)) (c .before .before .before .before .before .before .before .before .before .before .before .loop .watch .on) .0 (sym (c .before .before .before .before .before .before .before .before .before .before .before .loop .inv .1) ∙ not-true _ (c .before .if5 .taken)) in
     let ticking = sym (c .before .before .before .before .before .is-ticking .ensures) ∙ c .before .before .before .before .if4 .taken in
     ( rw next (idle-turn (c .before .before .before .before .before .before .before .before .before .before .before .loop .inv .0) (c .before .before .before .before .before .before .before .before .before .before .loop-test .taken) ticking _ (c .before .before .before .before .before .before .body-at .ensures .0) _ (c .before .before .before .ticks-of .ensures .0) _ (c .before .before .clock-after .ensures) (idle .0))
     , c .before .before .before .before .before .before .before .before .before .before .before .loop .inv .1
     , rw next (idle-watched (c .before .before .before .before .before .before .before .before .before .before .before .loop .inv .2) (c .before .before .before .before .before .before .before .before .before .before .loop-test .taken) ticking _ (c .before .before .before .before .before .before .body-at .ensures .0) _ (c .before .before .before .ticks-of .ensures .0) (c .before .before .before .ticks-of .ensures .1) _ (c .before .before .clock-after .ensures) (idle .0) (idle .1)))
 
--- src/lib.rt:364:17
+-- src/lib.rt:369:17
 ticks-requires : tie.Need-ticks-requires Inv-loop μ-loop
 ticks-requires c κs = search needs
 
--- src/lib.rt:365:13
+-- src/lib.rt:370:13
 watch-ticks-requires : tie.Need-watch-ticks-requires Inv-loop μ-loop
 watch-ticks-requires c κs =
     let ticking = sym (c .before .before .before .before .before .before .before .before .before .is-ticking .ensures) ∙ c .before .before .before .before .before .before .before .before .if4 .taken in
     let modest = modest-then (c .before .before .before .before .before .before .before .before .before .before .before .before .before .before .before .loop .inv .2) (c .before .before .before .before .before .before .before .before .before .before .before .before .before .before .loop-test .taken) ticking _ (c .before .before .before .before .before .before .before .before .before .before .body-at .ensures .0) _ (c .before .before .before .before .before .before .before .ticks-of .ensures .0) (c .before .before .before .before .before .before .before .ticks-of .ensures .1) _ (c .before .before .before .before .before .before .clock-after .ensures) in
-    ( c .before .before .before .before .before .before .before .before .before .before .before .before .before .before .before .before .before .before .before .before .before .before .before .before .before .pre .0
+    ( c .before .before .before .before .before .before .before .before .before .before .before .before .before .before .before .before .before .before .before .before .before .before .before .before .before .before .pre .0
     , omega (arith, modest, good (c .before .before .before .before .before .before .before .before .before .before .before .before .before .before .before .loop .inv .0) (c .before .before .before .before .before .before .before .before .before .before .before .before .before .before .loop-test .taken) .inside, c .before .before .before .before .before .before .before .before .before .before .before .before .before .before .before .loop .inv .0 .short)
-    , omega (arith, c .before .before .ticks .ensures .working, worked-most (c .before .before .before .before .before .before .before .before .before .before .before .before .before .before .before .before .before .before .before .before .before .before .before .before .before .args .sectors) (c .before .before .before .before .before .before .before .ticks-of .result) (c .before .before .before .before .before .before .before .before .before .before .before .before .before .before .before .loop .core)))
+    , omega (arith, c .before .before .ticks .ensures .working, worked-most (c .before .before .before .before .before .before .before .before .before .before .before .before .before .before .before .before .before .before .before .before .before .before .before .before .before .before .args .sectors) (c .before .before .before .before .before .before .before .ticks-of .result) (c .before .before .before .before .before .before .before .before .before .before .before .before .before .before .before .loop .core)))
 
--- src/lib.rt:367:20
+-- src/lib.rt:372:20
 is-running-requires-2 : tie.Need-is-running-requires-2 Inv-loop μ-loop
 is-running-requires-2 c κs = search needs
 
--- src/lib.rt:368:22
+-- src/lib.rt:373:22
 cast-ticks : tie.Need-cast-ticks Inv-loop μ-loop
 cast-ticks c = search needs
 
--- src/lib.rt:368:13
+-- src/lib.rt:373:13
 add-ticks : tie.Need-add-ticks Inv-loop μ-loop
 add-ticks c =
     let t : c .before .before .before .before .before .before .before .ticks .result .worked < 4294967296 = search needs in
     omega (arith, c .before .before .before .before .before .before .before .before .before .before .before .before .before .before .before .before .before .before .before .before .loop .inv .0 .few, c .before .before .before .before .before .before .before .before .before .before .before .before .before .before .before .before .before .before .before .before .loop .inv .0 .inside, c .before .before .before .before .before .before .before .before .before .before .before .before .before .before .before .before .before .before .before .before .loop .inv .0 .short)
 
--- src/lib.rt:369:13
+-- src/lib.rt:374:13
 next-at-requires-3 : tie.Need-next-at-requires-3 Inv-loop μ-loop
 next-at-requires-3 c κs = search needs
 
--- src/lib.rt:332:5
+-- src/lib.rt:337:5
 loop-less-5 : tie.Need-loop-less-5 Inv-loop μ-loop
 loop-less-5 c =
-    let next : c .next-at3 .result ≡ nextAt (c .before .before .before .before .before .before .before .before .before .before .before .before .before .before .before .before .before .before .before .before .before .before .before .before .before .before .before .before .before .before .before .args .script .now) (c .before .before .before .before .before .before .before .before .before .before .before .before .before .before .before .before .before .before .before .before .before .loop .at) = c .next-at3 .ensures ∙ step-inside (c .before .before .before .before .before .before .before .before .before .before .before .before .before .before .before .before .before .before .before .before .before .before .before .before .before .before .before .before .before .before .before .args .script .now) (c .before .before .before .before .before .before .before .before .before .before .before .before .before .before .before .before .before .before .before .before .before .loop .at) (c .before .before .before .before .before .before .before .before .before .before .before .before .before .before .before .before .before .before .before .before .loop-test .taken) in
+    let next : c .next-at3 .result ≡ nextAt (c .before .before .before .before .before .before .before .before .before .before .before .before .before .before .before .before .before .before .before .before .before .before .before .before .before .before .before .before .before .before .before .before .args .script .now) (c .before .before .before .before .before .before .before .before .before .before .before .before .before .before .before .before .before .before .before .before .before .loop .at) = c .next-at3 .ensures ∙ step-inside (c .before .before .before .before .before .before .before .before .before .before .before .before .before .before .before .before .before .before .before .before .before .before .before .before .before .before .before .before .before .before .before .before .args .script .now) (c .before .before .before .before .before .before .before .before .before .before .before .before .before .before .before .before .before .before .before .before .before .loop .at) (c .before .before .before .before .before .before .before .before .before .before .before .before .before .before .before .before .before .before .before .before .loop-test .taken) in
     omega (arith, next, c .before .before .before .before .before .before .before .before .before .before .before .before .before .before .before .before .before .before .before .before .loop-test .taken)
 
--- src/lib.rt:332:5
+-- src/lib.rt:337:5
 loop-again-5 : tie.Need-loop-again-5 Inv-loop μ-loop
 loop-again-5 c =
-    let next : c .next-at3 .result ≡ nextAt (c .before .before .before .before .before .before .before .before .before .before .before .before .before .before .before .before .before .before .before .before .before .before .before .before .before .before .before .before .before .before .before .args .script .now) (c .before .before .before .before .before .before .before .before .before .before .before .before .before .before .before .before .before .before .before .before .before .loop .at) = c .next-at3 .ensures ∙ step-inside (c .before .before .before .before .before .before .before .before .before .before .before .before .before .before .before .before .before .before .before .before .before .before .before .before .before .before .before .before .before .before .before .args .script .now) (c .before .before .before .before .before .before .before .before .before .before .before .before .before .before .before .before .before .before .before .before .before .loop .at) (c .before .before .before .before .before .before .before .before .before .before .before .before .before .before .before .before .before .before .before .before .loop-test .taken) in
+    let next : c .next-at3 .result ≡ nextAt (c .before .before .before .before .before .before .before .before .before .before .before .before .before .before .before .before .before .before .before .before .before .before .before .before .before .before .before .before .before .before .before .before .args .script .now) (c .before .before .before .before .before .before .before .before .before .before .before .before .before .before .before .before .before .before .before .before .before .loop .at) = c .next-at3 .ensures ∙ step-inside (c .before .before .before .before .before .before .before .before .before .before .before .before .before .before .before .before .before .before .before .before .before .before .before .before .before .before .before .before .before .before .before .before .args .script .now) (c .before .before .before .before .before .before .before .before .before .before .before .before .before .before .before .before .before .before .before .before .before .loop .at) (c .before .before .before .before .before .before .before .before .before .before .before .before .before .before .before .before .before .before .before .before .loop-test .taken) in
     let ticking = sym (c .before .before .before .before .before .before .before .before .before .before .before .before .before .before .before .is-ticking .ensures) ∙ c .before .before .before .before .before .before .before .before .before .before .before .before .before .before .if4 .taken in
     ( rw next (ticks-turn (c .before .before .before .before .before .before .before .before .before .before .before .before .before .before .before .before .before .before .before .before .before .loop .inv .0) (c .before .before .before .before .before .before .before .before .before .before .before .before .before .before .before .before .before .before .before .before .loop-test .taken) ticking _ (c .before .before .before .before .before .before .before .before .before .before .before .before .before .before .before .before .body-at .ensures .0) _ (c .before .before .before .before .before .before .before .before .before .before .before .before .before .ticks-of .ensures .0) _ (c .before .before .before .before .before .before .before .before .before .before .before .before .clock-after .ensures) _ _ _ _ (c .before .before .before .before .before .before .before .before .ticks .ensures) (search needs) (c .before .before .before .before .before .before .before .before .ticks .kept .1 .1 .0))
     , ap (λ (b : Bool). b || c .before .before .before .before .before .watch-ticks .result .on) (c .before .before .before .is-running2 .ensures)
     , rw (next, c .before .before .before .before .before .watch-ticks .ensures) (ticks-watched (c .before .before .before .before .before .before .before .before .before .before .before .before .before .before .before .before .before .before .before .before .before .loop .inv .2) (c .before .before .before .before .before .before .before .before .before .before .before .before .before .before .before .before .before .before .before .before .loop-test .taken) ticking _ (c .before .before .before .before .before .before .before .before .before .before .before .before .before .before .before .before .body-at .ensures .0) _ (c .before .before .before .before .before .before .before .before .before .before .before .before .before .ticks-of .ensures .0) (c .before .before .before .before .before .before .before .before .before .before .before .before .before .ticks-of .ensures .1) _ (c .before .before .before .before .before .before .before .before .before .before .before .before .clock-after .ensures) _ _ _ _ (c .before .before .before .before .before .before .before .before .ticks .ensures)))
 
--- src/lib.rt:382:13
+-- src/lib.rt:387:13
 cast-step : tie.Need-cast-step Inv-loop μ-loop
 cast-step c = omega (arith, c .before .before .before .before .before .body-at .ensures .1)
 
--- src/lib.rt:373:13
+-- src/lib.rt:378:13
 step-requires : tie.Need-step-requires Inv-loop μ-loop
 step-requires c κs = search needs
 
--- src/lib.rt:385:9
+-- src/lib.rt:390:9
 put-requires-3 : tie.Need-put-requires-3 Inv-loop μ-loop
 put-requires-3 c κs = finds-room (c .before .before .before .before .before .before .before .before .before .before .before .before .before .before .loop .inv .0) (c .before .before .before .before .before .before .before .before .before .before .before .before .before .loop-test .taken) _ (c .before .before .before .step .ensures ∙ ap (applied _ _ _ _) (c .before .before .before .before .before .before .before .before .before .body-at .ensures .0))
 
--- src/lib.rt:386:9
+-- src/lib.rt:391:9
 watch-event-requires : tie.Need-watch-event-requires Inv-loop μ-loop
 watch-event-requires c κs = search needs
 
--- src/lib.rt:388:16
+-- src/lib.rt:393:16
 is-running-requires-3 : tie.Need-is-running-requires-3 Inv-loop μ-loop
 is-running-requires-3 c κs = search needs
 
--- src/lib.rt:390:18
+-- src/lib.rt:395:18
 cast-ticks-2 : tie.Need-cast-ticks-2 Inv-loop μ-loop
 cast-ticks-2 c = search needs
 
--- src/lib.rt:390:9
+-- src/lib.rt:395:9
 add-ticks-2 : tie.Need-add-ticks-2 Inv-loop μ-loop
 add-ticks-2 c =
     let t : c .before .before .before .before .before .before .before .before .before .before .before .before .step .result .ticks < 4294967296 = search needs in
     omega (arith, c .before .before .before .before .before .before .before .before .before .before .before .before .before .before .before .before .before .before .before .before .before .before .before .loop .inv .0 .few, c .before .before .before .before .before .before .before .before .before .before .before .before .before .before .before .before .before .before .before .before .before .before .before .loop .inv .0 .inside, c .before .before .before .before .before .before .before .before .before .before .before .before .before .before .before .before .before .before .before .before .before .before .before .loop .inv .0 .short)
 
--- src/lib.rt:391:9
+-- src/lib.rt:396:9
 next-at-requires-4 : tie.Need-next-at-requires-4 Inv-loop μ-loop
 next-at-requires-4 c κs = search needs
 
--- src/lib.rt:332:5
+-- src/lib.rt:337:5
 loop-less-6 : tie.Need-loop-less-6 Inv-loop μ-loop
 loop-less-6 c =
-    let next : c .next-at4 .result ≡ nextAt (c .before .before .before .before .before .before .before .before .before .before .before .before .before .before .before .before .before .before .before .before .before .before .before .before .before .before .before .before .before .before .before .before .before .before .args .script .now) (c .before .before .before .before .before .before .before .before .before .before .before .before .before .before .before .before .before .before .before .before .before .before .before .before .loop .at) = c .next-at4 .ensures ∙ step-inside (c .before .before .before .before .before .before .before .before .before .before .before .before .before .before .before .before .before .before .before .before .before .before .before .before .before .before .before .before .before .before .before .before .before .before .args .script .now) (c .before .before .before .before .before .before .before .before .before .before .before .before .before .before .before .before .before .before .before .before .before .before .before .before .loop .at) (c .before .before .before .before .before .before .before .before .before .before .before .before .before .before .before .before .before .before .before .before .before .before .before .loop-test .taken) in
+    let next : c .next-at4 .result ≡ nextAt (c .before .before .before .before .before .before .before .before .before .before .before .before .before .before .before .before .before .before .before .before .before .before .before .before .before .before .before .before .before .before .before .before .before .before .before .args .script .now) (c .before .before .before .before .before .before .before .before .before .before .before .before .before .before .before .before .before .before .before .before .before .before .before .before .loop .at) = c .next-at4 .ensures ∙ step-inside (c .before .before .before .before .before .before .before .before .before .before .before .before .before .before .before .before .before .before .before .before .before .before .before .before .before .before .before .before .before .before .before .before .before .before .before .args .script .now) (c .before .before .before .before .before .before .before .before .before .before .before .before .before .before .before .before .before .before .before .before .before .before .before .before .loop .at) (c .before .before .before .before .before .before .before .before .before .before .before .before .before .before .before .before .before .before .before .before .before .before .before .loop-test .taken) in
     omega (arith, next, c .before .before .before .before .before .before .before .before .before .before .before .before .before .before .before .before .before .before .before .before .before .before .before .loop-test .taken)
 
--- src/lib.rt:332:5
+-- src/lib.rt:337:5
 loop-again-6 : tie.Need-loop-again-6 Inv-loop μ-loop
 loop-again-6 c =
-    let next : c .next-at4 .result ≡ nextAt (c .before .before .before .before .before .before .before .before .before .before .before .before .before .before .before .before .before .before .before .before .before .before .before .before .before .before .before .before .before .before .before .before .before .before .args .script .now) (c .before .before .before .before .before .before .before .before .before .before .before .before .before .before .before .before .before .before .before .before .before .before .before .before .loop .at) = c .next-at4 .ensures ∙ step-inside (c .before .before .before .before .before .before .before .before .before .before .before .before .before .before .before .before .before .before .before .before .before .before .before .before .before .before .before .before .before .before .before .before .before .before .args .script .now) (c .before .before .before .before .before .before .before .before .before .before .before .before .before .before .before .before .before .before .before .before .before .before .before .before .loop .at) (c .before .before .before .before .before .before .before .before .before .before .before .before .before .before .before .before .before .before .before .before .before .before .before .loop-test .taken) in
+    let next : c .next-at4 .result ≡ nextAt (c .before .before .before .before .before .before .before .before .before .before .before .before .before .before .before .before .before .before .before .before .before .before .before .before .before .before .before .before .before .before .before .before .before .before .before .args .script .now) (c .before .before .before .before .before .before .before .before .before .before .before .before .before .before .before .before .before .before .before .before .before .before .before .before .loop .at) = c .next-at4 .ensures ∙ step-inside (c .before .before .before .before .before .before .before .before .before .before .before .before .before .before .before .before .before .before .before .before .before .before .before .before .before .before .before .before .before .before .before .before .before .before .before .args .script .now) (c .before .before .before .before .before .before .before .before .before .before .before .before .before .before .before .before .before .before .before .before .before .before .before .before .loop .at) (c .before .before .before .before .before .before .before .before .before .before .before .before .before .before .before .before .before .before .before .before .before .before .before .loop-test .taken) in
     let other = sym (c .before .before .before .before .before .before .before .before .before .before .before .before .before .before .before .before .before .before .is-ticking .ensures) ∙ c .before .before .before .before .before .before .before .before .before .before .before .before .before .before .before .before .before .if4 .left in
     let does = c .before .before .before .before .before .before .before .before .before .before .before .before .before .step .ensures ∙ ap (applied _ _ _ _) (c .before .before .before .before .before .before .before .before .before .before .before .before .before .before .before .before .before .before .before .body-at .ensures .0) in
-    ( rw next (turns (c .before .before .before .before .before .before .before .before .before .before .before .before .before .before .before .before .before .before .before .before .before .before .before .before .loop .inv .0) (c .before .before .before .before .before .before .before .before .before .before .before .before .before .before .before .before .before .before .before .before .before .before .before .loop-test .taken) (not-ticking (getD (c .before .before .before .before .before .before .before .before .before .before .before .before .before .before .before .before .before .before .before .before .before .before .before .before .before .before .before .before .before .before .before .before .before .before .args .script .now) (c .before .before .before .before .before .before .before .before .before .before .before .before .before .before .before .before .before .before .before .before .before .before .before .before .loop .at) 0) other .not-stamp) _ _ _ does (c .before .before .before .before .before .before .before .before .before .put3 .ensures) (search needs) (c .before .before .before .before .before .before .before .before .before .before .before .before .before .step .kept .1 .1 .1 .1 .0) (c .before .before .before .before .before .before .before .before .before .put3 .kept .0))
+    ( rw next (turns (c .before .before .before .before .before .before .before .before .before .before .before .before .before .before .before .before .before .before .before .before .before .before .before .before .loop .inv .0) (c .before .before .before .before .before .before .before .before .before .before .before .before .before .before .before .before .before .before .before .before .before .before .before .loop-test .taken) (not-ticking (getD (c .before .before .before .before .before .before .before .before .before .before .before .before .before .before .before .before .before .before .before .before .before .before .before .before .before .before .before .before .before .before .before .before .before .before .before .args .script .now) (c .before .before .before .before .before .before .before .before .before .before .before .before .before .before .before .before .before .before .before .before .before .before .before .before .loop .at) 0) other .not-stamp) _ _ _ does (c .before .before .before .before .before .before .before .before .before .put3 .ensures) (search needs) (c .before .before .before .before .before .before .before .before .before .before .before .before .before .step .kept .1 .1 .1 .1 .0) (c .before .before .before .before .before .before .before .before .before .put3 .kept .0))
     , ap (λ (b : Bool). b || c .before .before .before .before .before .before .watch-event .result .on) (c .before .before .before .before .is-running3 .ensures)
     , rw (next, c .before .before .before .before .before .before .watch-event .ensures) (event-watched (c .before .before .before .before .before .before .before .before .before .before .before .before .before .before .before .before .before .before .before .before .before .before .before .before .loop .inv .2) (c .before .before .before .before .before .before .before .before .before .before .before .before .before .before .before .before .before .before .before .before .before .before .before .loop-test .taken) other _ _ _ _ _ _ _ does))
 
--- src/lib.rt:395:14
+-- src/lib.rt:400:14
 finished-requires : tie.Need-finished-requires Inv-loop μ-loop
 finished-requires c κs = search needs
 
--- src/lib.rt:301:1
+-- src/lib.rt:309:1
 same-length : tie.Need-same-length Inv-loop μ-loop
 same-length c = c .before .before .before .loop .inv .0 .memory
 
--- src/lib.rt:301:1
+-- src/lib.rt:309:1
 same-length-2 : tie.Need-same-length-2 Inv-loop μ-loop
 same-length-2 c = c .before .before .before .loop .inv .0 .output
 
--- src/lib.rt:301:1
+-- src/lib.rt:309:1
 returns : tie.Need-returns Inv-loop μ-loop
 returns c = (rw (c .finished .ensures) (ends (c .before .before .before .loop .inv .0) (c .before .before .loop-test .left)), reports (c .before .before .before .loop .inv .2) (c .before .before .loop-test .left))
 
@@ -299,6 +304,7 @@ play-spec =
     Inv-loop
     μ-loop
     is-running-requires
+    no-stamp-requires
     loop-holds
     shared-slice-read-kind
     cast-kind

@@ -1,61 +1,81 @@
-use mathlib.Core.Path.{refl, sym, _∙_}
+use mathlib.Core.Path.{_≡_, refl, sym, _∙_, ap}
+use mathlib.Core.List.{_++_}
+use lib.ListN.{length, drop}
+use Rattle.cells.specs.Choice.{cond-yes}
+use Rattle.part.specs.Part.{sectorsIn}
 use Rattle.margins.specs.Margins.{allowed}
-use Rattle.script.specs.ReportLaws.{answer-with, memory-with, output-with}
+use Rattle.script.specs.Script.{Refusal}
+use Rattle.script.specs.Run.{World, refusal, refused, done}
+use Rattle.script.specs.Laws.{accepted, answer-refused, memory-refused, output-refused, answer-done, memory-done, output-done, worldAfter-as}
 use borrow.Author.Needs.{needs}
 use Rattle.script.proofs.run.Statement.{statement}
 use Rattle.script.proofs.run.Tie as tie
 use Rattle.script.proofs.run.Reads as reads
 use Rattle.script.proofs.run.Lts as lts
-use Rattle.script.proofs.no_jobs.Reads as no-jobs-reads
-use Rattle.script.proofs.run_with_report.Reads as run-with-report-reads
+use Rattle.part.proofs.sectors_of.Reads as sectors-of-reads
+use Rattle.script.proofs.no_report.Reads as no-report-reads
+use Rattle.script.proofs.play.Reads as play-reads
+use Rattle.script.proofs.refuses.Reads as refuses-reads
+use Rattle.script.proofs.turned_away.Reads as turned-away-reads
 
--- src/lib.rt:505:17
-no-jobs-requires : tie.Need-no-jobs-requires
-no-jobs-requires c κs = search needs
+-- src/lib.rt:522:9
+refuses-requires : tie.Need-refuses-requires
+refuses-requires c κs = search needs
 
--- src/lib.rt:506:18
-no-jobs-requires-2 : tie.Need-no-jobs-requires-2
-no-jobs-requires-2 c κs = search needs
+-- src/lib.rt:524:9
+turned-away-requires : tie.Need-turned-away-requires
+turned-away-requires c κs = search needs
 
--- src/lib.rt:507:16
-no-jobs-requires-3 : tie.Need-no-jobs-requires-3
-no-jobs-requires-3 c κs = search needs
+-- src/lib.rt:524:9
+returns : tie.Need-returns
+returns c =
+    let no : refusal (c .before .before .before .before .before .before .before .before .args .chip) (length (c .before .before .before .before .before .before .before .before .args .mem .now)) (length (c .before .before .before .before .before .before .before .before .args .area .now)) (c .before .before .before .before .before .before .before .before .args .script .now) (length (c .before .before .before .before .before .before .before .before .args .out .now)) .number ≡ 0 → ⊥ = λ e. c .before .if1 .taken (ap (λ (r : Refusal). r .number) (c .before .before .before .refuses .ensures) ∙ e) in
+    ( c .turned-away .ensures ∙ ap (refused (c .before .before .before .before .before .before .before .before .args .chip)) (c .before .before .before .refuses .ensures) ∙ sym (answer-refused _ _ _ _ _ no)
+    , sym (memory-refused _ _ _ _ _ no)
+    , sym (output-refused _ _ _ _ _ no))
 
--- src/lib.rt:508:17
-no-jobs-requires-4 : tie.Need-no-jobs-requires-4
-no-jobs-requires-4 c κs = search needs
+-- src/lib.rt:538:9
+sectors-of-requires : tie.Need-sectors-of-requires
+sectors-of-requires c κs = search needs
 
--- src/lib.rt:509:15
-no-jobs-requires-5 : tie.Need-no-jobs-requires-5
-no-jobs-requires-5 c κs = search needs
+-- src/lib.rt:541:9
+no-report-requires : tie.Need-no-report-requires
+no-report-requires c κs = search needs
 
--- src/lib.rt:511:9
-run-with-report-requires : tie.Need-run-with-report-requires
-run-with-report-requires c κs = search needs
+-- src/lib.rt:533:9
+play-requires : tie.Need-play-requires
+unfolding allowed
+play-requires c κs =
+    let ok : refusal (c .before .before .before .before .before .before .before .before .before .before .before .args .chip) (length (c .before .before .before .before .before .before .before .before .before .before .before .args .mem .now)) (length (c .before .before .before .before .before .before .before .before .before .before .before .args .area .now)) (c .before .before .before .before .before .before .before .before .before .before .before .args .script .now) (length (c .before .before .before .before .before .before .before .before .before .before .before .args .out .now)) .number ≡ 0 = sym (ap (λ (r : Refusal). r .number) (c .before .before .before .before .before .before .refuses .ensures)) ∙ c .before .before .before .before .if1 .left in
+    (refl, accepted _ _ _ _ _ ok .script-playable)
 
--- src/lib.rt:492:1
+-- src/lib.rt:516:1
 same-length : tie.Need-same-length
 same-length c = search needs
 
--- src/lib.rt:492:1
+-- src/lib.rt:516:1
 same-length-2 : tie.Need-same-length-2
 same-length-2 c = search needs
 
--- src/lib.rt:492:1
-returns : tie.Need-returns
-unfolding allowed
-returns c = (c .before .before .before .before .before .run-with-report .ensures .0 ∙ answer-with _ _ _ _ _ _ refl, c .before .before .before .before .before .run-with-report .ensures .1 ∙ memory-with _ _ _ _ _ _ refl, c .before .before .before .before .before .run-with-report .ensures .2 ∙ output-with _ _ _ _ _ _ refl)
+-- src/lib.rt:516:1
+returns-2 : tie.Need-returns-2
+returns-2 c =
+    let ok : refusal (c .before .before .before .before .before .before .before .before .before .before .before .before .before .before .before .before .before .args .chip) (length (c .before .before .before .before .before .before .before .before .before .before .before .before .before .before .before .before .before .args .mem .now)) (length (c .before .before .before .before .before .before .before .before .before .before .before .before .before .before .before .before .before .args .area .now)) (c .before .before .before .before .before .before .before .before .before .before .before .before .before .before .before .before .before .args .script .now) (length (c .before .before .before .before .before .before .before .before .before .before .before .before .before .before .before .before .before .args .out .now)) .number ≡ 0 = sym (ap (λ (r : Refusal). r .number) (c .before .before .before .before .before .before .before .before .before .before .before .before .refuses .ensures)) ∙ c .before .before .before .before .before .before .before .before .before .before .if1 .left in
+    let s : c .before .before .before .before .before .before .before .sectors-of .result ≡ sectorsIn (length (c .before .before .before .before .before .before .before .before .before .before .before .before .before .before .before .before .before .args .mem .now)) = c .before .before .before .before .before .before .before .sectors-of .ensures ∙ cond-yes _ _ _ (accepted _ _ _ _ _ ok .length-permitted) in
+    ( c .before .before .before .before .before .play .ensures .0 .answer ∙ ap done (worldAfter-as _ _ _ _ _ s) ∙ sym (answer-done _ _ _ _ _ ok)
+    , c .before .before .before .before .before .play .ensures .0 .memory ∙ ap (λ (w : World). w .memory) (worldAfter-as _ _ _ _ _ s) ∙ sym (memory-done _ _ _ _ _ ok)
+    , c .before .before .before .before .before .play .ensures .0 .output ∙ ap (λ (w : World). w .written ++ drop (length (w .written)) (c .before .before .before .before .before .before .before .before .before .before .before .before .before .before .before .before .before .args .out .now)) (worldAfter-as _ _ _ _ _ s) ∙ sym (output-done _ _ _ _ _ ok))
 
 pub run-spec : {M : Type 1} → statement M
 run-spec =
     tie.close
     (tie.spec
-    no-jobs-requires
-    no-jobs-requires-2
-    no-jobs-requires-3
-    no-jobs-requires-4
-    no-jobs-requires-5
-    run-with-report-requires
+    refuses-requires
+    turned-away-requires
+    returns
+    sectors-of-requires
+    no-report-requires
+    play-requires
     same-length
     same-length-2
-    returns)
+    returns-2)

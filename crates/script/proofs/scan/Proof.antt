@@ -26,6 +26,7 @@ use Rattle.kinds.proofs.next_at.Reads as next-at-reads
 use Rattle.kinds.proofs.room_of.Reads as room-of-reads
 use Rattle.script.proofs.clock_after.Reads as clock-after-reads
 use Rattle.script.proofs.fault_at.Reads as fault-at-reads
+use Rattle.script.proofs.no_stamp.Reads as no-stamp-reads
 
 abbrev Inv-loop : tie.InvT-loop
 Inv-loop s at₀ space₀ clock₀ at space clock = (at ≤ length s) × (space ≤ mostRoom * at) × (firstBad unset (events s) ≡ firstBad clock (eventsFrom s at)) × (room (events s) ≡ space + room (eventsFrom s at))
@@ -33,42 +34,46 @@ Inv-loop s at₀ space₀ clock₀ at space clock = (at ≤ length s) × (space 
 abbrev μ-loop : tie.MeasureT-loop
 μ-loop s at₀ space₀ clock₀ at space clock = length s - at
 
--- src/lib.rt:108:5
-loop-holds : tie.Need-loop-holds Inv-loop μ-loop
-loop-holds c = (search needs, search needs, refl, sym (zero-add _))
+-- src/lib.rt:115:9
+no-stamp-requires : tie.Need-no-stamp-requires Inv-loop μ-loop
+no-stamp-requires c κs = search needs
 
--- src/lib.rt:110:13
+-- src/lib.rt:116:5
+loop-holds : tie.Need-loop-holds Inv-loop μ-loop
+loop-holds c = (search needs, search needs, ap (λ (k : Clock). firstBad k (eventsFrom (c .before .before .args .s .now) 0)) (sym (c .no-stamp .ensures)), sym (zero-add _))
+
+-- src/lib.rt:118:13
 shared-slice-read-if1 : tie.Need-shared-slice-read-if1 Inv-loop μ-loop
 shared-slice-read-if1 c = search needs
 
--- src/lib.rt:110:13
+-- src/lib.rt:118:13
 cast-if1 : tie.Need-cast-if1 Inv-loop μ-loop
 cast-if1 c = omega (arith, c .shared-slice-known2 .given (c .before .before .loop .at))
 
--- src/lib.rt:110:48
+-- src/lib.rt:118:48
 add-if1 : tie.Need-add-if1 Inv-loop μ-loop
 add-if1 c = search needs
 
--- src/lib.rt:111:22
+-- src/lib.rt:119:22
 room-of-requires : tie.Need-room-of-requires Inv-loop μ-loop
 room-of-requires c κs = search needs
 
--- src/lib.rt:111:13
+-- src/lib.rt:119:13
 add-space : tie.Need-add-space Inv-loop μ-loop
-add-space c = omega (arith, c .before .before .before .before .loop .inv .1, c .before .before .before .before .before .before .pre)
+add-space c = omega (arith, c .before .before .before .before .loop .inv .1, c .before .before .before .before .before .before .before .pre)
 
--- src/lib.rt:112:13
+-- src/lib.rt:120:13
 add-at : tie.Need-add-at Inv-loop μ-loop
-add-at c = omega (arith, c .before .before .before .before .loop .inv .0, c .before .before .before .before .before .before .pre)
+add-at c = omega (arith, c .before .before .before .before .loop .inv .0, c .before .before .before .before .before .before .before .pre)
 
--- src/lib.rt:108:5
+-- src/lib.rt:116:5
 loop-less : tie.Need-loop-less Inv-loop μ-loop
 loop-less c = omega (arith, c .before .before .before .loop-test .taken)
 
--- src/lib.rt:108:5
+-- src/lib.rt:116:5
 loop-again : tie.Need-loop-again Inv-loop μ-loop
 loop-again c =
-    let s = c .before .before .before .before .before .before .args .s .now in
+    let s = c .before .before .before .before .before .before .before .args .s .now in
     let at = c .before .before .before .before .loop .at in
     let both : (eqb (getD s at 0) EXCHANGE && ltb (at + 1) (length s)) ≡ true = c .before .if1 .taken in
     let e : getD s at 0 ≡ EXCHANGE = eqb-true _ _ (and-left (eqb (getD s at 0) EXCHANGE) (ltb (at + 1) (length s)) both) in
@@ -80,52 +85,52 @@ loop-again c =
       c .before .before .before .before .loop .inv .3 ∙ ap (λ (r : ℕ). c .before .before .before .before .loop .space + r) (exchange-room s at e (c .before .before .before .loop-test .taken)) ∙ rw (c .room-of .ensures .0) (sym (add-assoc (c .before .before .before .before .loop .space) (roomOf EXCHANGE) _)),
     )
 
--- src/lib.rt:115:13
+-- src/lib.rt:123:13
 fault-at-requires : tie.Need-fault-at-requires Inv-loop μ-loop
 fault-at-requires c κs = search needs
 
--- src/lib.rt:117:13
+-- src/lib.rt:125:13
 returns : tie.Need-returns Inv-loop μ-loop
 returns c =
-    let is : c .before .fault-at .result ≡ faultBy (c .before .before .before .before .before .loop .clock) (eventAt (c .before .before .before .before .before .before .before .args .s .now) (c .before .before .before .before .before .loop .at)) = c .before .fault-at .ensures in
+    let is : c .before .fault-at .result ≡ faultBy (c .before .before .before .before .before .loop .clock) (eventAt (c .before .before .before .before .before .before .before .before .args .s .now) (c .before .before .before .before .before .loop .at)) = c .before .fault-at .ensures in
     record {
       bad = ap (λ (n : ℕ). refusalOf n (c .before .before .before .before .before .loop .at)) is ∙ sym (c .before .before .before .before .before .loop .inv .2 ∙ firstBad-here _ _ _ (c .before .before .before .before .loop-test .taken) (λ e. c .if2 .taken (is ∙ e)));
       rooms = λ e. absurd (c .if2 .taken e);
     }
 
--- src/lib.rt:125:20
+-- src/lib.rt:133:20
 shared-slice-read-kind : tie.Need-shared-slice-read-kind Inv-loop μ-loop
 shared-slice-read-kind c = search needs
 
--- src/lib.rt:125:20
+-- src/lib.rt:133:20
 cast-kind : tie.Need-cast-kind Inv-loop μ-loop
 cast-kind c = omega (arith, c .shared-slice-known3 .given (c .before .before .before .before .before .before .loop .at))
 
--- src/lib.rt:127:46
+-- src/lib.rt:135:46
 body-at-requires : tie.Need-body-at-requires Inv-loop μ-loop
 body-at-requires c κs = search needs
 
--- src/lib.rt:127:46
+-- src/lib.rt:135:46
 cast-clock-after : tie.Need-cast-clock-after Inv-loop μ-loop
 cast-clock-after c = omega (arith, c .body-at .ensures .1)
 
--- src/lib.rt:127:13
+-- src/lib.rt:135:13
 clock-after-requires : tie.Need-clock-after-requires Inv-loop μ-loop
 clock-after-requires c κs = search needs
 
--- src/lib.rt:128:13
+-- src/lib.rt:136:13
 next-at-requires : tie.Need-next-at-requires Inv-loop μ-loop
 next-at-requires c κs = search needs
 
--- src/lib.rt:108:5
+-- src/lib.rt:116:5
 loop-less-2 : tie.Need-loop-less-2 Inv-loop μ-loop
-loop-less-2 c = omega (arith, c .next-at .ensures, step-inside (c .before .before .before .before .before .before .before .before .before .before .before .before .args .s .now) (c .before .before .before .before .before .before .before .before .before .before .loop .at) (c .before .before .before .before .before .before .before .before .before .loop-test .taken))
+loop-less-2 c = omega (arith, c .next-at .ensures, step-inside (c .before .before .before .before .before .before .before .before .before .before .before .before .before .args .s .now) (c .before .before .before .before .before .before .before .before .before .before .loop .at) (c .before .before .before .before .before .before .before .before .before .loop-test .taken))
 
--- src/lib.rt:108:5
+-- src/lib.rt:116:5
 loop-again-2 : tie.Need-loop-again-2 Inv-loop μ-loop
 unfolding kindRow kindRowIn
 loop-again-2 c =
-    let s = c .before .before .before .before .before .before .before .before .before .before .before .before .args .s .now in
+    let s = c .before .before .before .before .before .before .before .before .before .before .before .before .before .args .s .now in
     let at = c .before .before .before .before .before .before .before .before .before .before .loop .at in
     let z : faultBy (c .before .before .before .before .before .before .before .before .before .before .loop .clock) (eventAt s at) ≡ 0 = sym (c .before .before .before .before .before .before .fault-at .ensures) ∙ c .before .before .before .before .before .if2 .left in
     let next : c .next-at .result ≡ nextAt s at = c .next-at .ensures ∙ step-inside s at (c .before .before .before .before .before .before .before .before .before .loop-test .taken) in
@@ -137,26 +142,26 @@ loop-again-2 c =
       c .before .before .before .before .before .before .before .before .before .before .loop .inv .3 ∙ ap (λ (r : ℕ). c .before .before .before .before .before .before .before .before .before .before .loop .space + r) (room-more s at (c .before .before .before .before .before .before .before .before .before .loop-test .taken) ∙ (λ i. silent i + room (eventsFrom s (sym next i))) ∙ zero-add _),
     )
 
--- src/lib.rt:131:18
+-- src/lib.rt:139:18
 room-of-requires-2 : tie.Need-room-of-requires-2 Inv-loop μ-loop
 room-of-requires-2 c κs = search needs
 
--- src/lib.rt:131:9
+-- src/lib.rt:139:9
 add-space-2 : tie.Need-add-space-2 Inv-loop μ-loop
 add-space-2 c = search needs
 
--- src/lib.rt:132:9
+-- src/lib.rt:140:9
 next-at-requires-2 : tie.Need-next-at-requires-2 Inv-loop μ-loop
 next-at-requires-2 c κs = search needs
 
--- src/lib.rt:108:5
+-- src/lib.rt:116:5
 loop-less-3 : tie.Need-loop-less-3 Inv-loop μ-loop
-loop-less-3 c = omega (arith, c .next-at2 .ensures, step-inside (c .before .before .before .before .before .before .before .before .before .before .before .args .s .now) (c .before .before .before .before .before .before .before .before .before .loop .at) (c .before .before .before .before .before .before .before .before .loop-test .taken))
+loop-less-3 c = omega (arith, c .next-at2 .ensures, step-inside (c .before .before .before .before .before .before .before .before .before .before .before .before .args .s .now) (c .before .before .before .before .before .before .before .before .before .loop .at) (c .before .before .before .before .before .before .before .before .loop-test .taken))
 
--- src/lib.rt:108:5
+-- src/lib.rt:116:5
 loop-again-3 : tie.Need-loop-again-3 Inv-loop μ-loop
 loop-again-3 c =
-    let s = c .before .before .before .before .before .before .before .before .before .before .before .args .s .now in
+    let s = c .before .before .before .before .before .before .before .before .before .before .before .before .args .s .now in
     let at = c .before .before .before .before .before .before .before .before .before .loop .at in
     let z : faultBy (c .before .before .before .before .before .before .before .before .before .loop .clock) (eventAt s at) ≡ 0 = sym (c .before .before .before .before .before .fault-at .ensures) ∙ c .before .before .before .before .if2 .left in
     let next : c .next-at2 .result ≡ nextAt s at = c .next-at2 .ensures ∙ step-inside s at (c .before .before .before .before .before .before .before .before .loop-test .taken) in
@@ -167,7 +172,7 @@ loop-again-3 c =
       c .before .before .before .before .before .before .before .before .before .loop .inv .3 ∙ ap (λ (r : ℕ). c .before .before .before .before .before .before .before .before .before .loop .space + r) (room-more s at (c .before .before .before .before .before .before .before .before .loop-test .taken)) ∙ rw (next, c .before .room-of2 .ensures .0) (sym (add-assoc _ _ _)),
     )
 
--- src/lib.rt:98:1
+-- src/lib.rt:109:1
 returns-2 : tie.Need-returns-2 Inv-loop μ-loop
 returns-2 c =
     record {
@@ -181,6 +186,7 @@ scan-spec =
     (tie.spec
     Inv-loop
     μ-loop
+    no-stamp-requires
     loop-holds
     shared-slice-read-if1
     cast-if1
