@@ -263,9 +263,13 @@ back-when s at = (
       },
   λ b. (
     b .first,
-    (ap knownInScript (b .stamp),
-    (subst (λ (kind : ℕ). at + 1 + bodyLength kind ≤ length s) (sym (b .stamp)) (omega (arith, b .whole)),
-    (ap (λ (kind : ℕ). inRange kind (bodyAt s at)) (b .stamp) ∙ stamp-range (bodyAt s at) ∙ le-leb _ _ (b .ranged), and-both (isStamp (eventAt s at)) _ (eq-eqb _ _ (b .stamp)) (b .back)))),
+    (
+      ap knownInScript (b .stamp),
+      (
+        subst (λ (kind : ℕ). at + 1 + bodyLength kind ≤ length s) (sym (b .stamp)) (omega (arith, b .whole)),
+        (ap (λ (kind : ℕ). inRange kind (bodyAt s at)) (b .stamp) ∙ stamp-range (bodyAt s at) ∙ le-leb _ _ (b .ranged), and-both (isStamp (eventAt s at)) _ (eq-eqb _ _ (b .stamp)) (b .back)),
+      ),
+    ),
   ),
 )
 

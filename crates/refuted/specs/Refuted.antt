@@ -468,8 +468,8 @@ the-stamps =
 
     all-sound : AllSound rolling-over unset (events rolling-over)
     all-sound = (
-        record { known = refl; whole = omega arith; ranged = refl; forward = λ _. refl },
-        (record { known = refl; whole = omega arith; ranged = refl; forward = λ _. refl }, tt),
+      record { known = refl; whole = omega arith; ranged = refl; forward = λ _. refl },
+      (record { known = refl; whole = omega arith; ranged = refl; forward = λ _. refl }, tt),
     )
 
 -- ---- our three earlier versions

@@ -325,12 +325,12 @@ bodyUncounted c m area s out = ourRun c m area (bodied 0 s) out
 abbrev pub answering : Refusal → List Event → Runner
 answering bad es c m area s out =
     let r : Refusal =
-        cond (not (permitted (length m))) (refusalOf 1 0)
-        (cond (ltb longestArea (length area)) (refusalOf 13 0)
-        (cond (not (legal c (length m))) (refusalOf 2 0)
-        (cond (ltb 65536 (length s)) (refusalOf 3 0)
-        (cond (not (eqb (bad .number) 0)) bad
-        (cond (ltb (length out) (room (events s))) (refusalOf 7 0) (refusalOf 0 0)))))) in
+    cond (not (permitted (length m))) (refusalOf 1 0)
+    (cond (ltb longestArea (length area)) (refusalOf 13 0)
+    (cond (not (legal c (length m))) (refusalOf 2 0)
+    (cond (ltb 65536 (length s)) (refusalOf 3 0)
+    (cond (not (eqb (bad .number) 0)) bad
+    (cond (ltb (length out) (room (events s))) (refusalOf 7 0) (refusalOf 0 0)))))) in
     let w : World = runs (settingOf (length m) area) es (world c m [] 0) in
     ran (cond (eqb (r .number) 0) (done w) (refused c r)) (cond (eqb (r .number) 0) (w .memory) m)
     (cond (eqb (r .number) 0) (w .written ++ drop (length (w .written)) out) out)

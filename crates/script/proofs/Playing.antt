@@ -231,6 +231,7 @@ module _ {T : Setting} {a : Allowances} {s : List ℕ} {c₀ : Chip} {m₀ : Lis
           watches = goes-on _ (jobs-plain T (i .watches .followed) k s at c m more other) (watch-event T a (eventAt s at) _ c m (other .not-one) w (i .watches .followed) (kept .same-on) (kept .same-used));
           modest = omega (arith, i .modest, event-modest (applied T c m (getD s at 0) (bodyAt s at) .chip .core) (applied T c m (getD s at 0) (bodyAt s at) .said) w);
         })
+
     -- an exchange, which leaves the job and says no verdict
     pub exchange-watched : getD s at 0 ≡ EXCHANGE → (f : Frame) (l : List ℕ) (said : Record)
         → outcome (c .core) f l (c .held) m said 0 ≡ applied T c m (getD s at 0) (bodyAt s at) → Watching T a s c₀ m₀ r₀ (whole (c .core) f l (c .held)) m k (at + 2) w

@@ -289,10 +289,7 @@ fn watch_ticks(
     let ended = core.job;
     let kind = ended.kind;
     let report = watch.report;
-    let early = margin(
-        margins::allowance_of(kind, allowances),
-        watch.used + worked,
-    );
+    let early = margin(margins::allowance_of(kind, allowances), watch.used + worked);
     next.on = false;
     next.used = 0;
     let counted = margins::count(kind, early, report);

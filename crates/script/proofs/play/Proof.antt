@@ -136,10 +136,11 @@ loop-again-3 c =
     let kind = getD (c .before .before .before .before .before .before .before .before .before .before .before .before .before .before .before .before .args .script .now) (c .before .before .before .before .before .loop .at) 0 in
     let both : (not (c .before .before .before .before .before .loop .busy) && (eqb kind TICKS || eqb kind TICK)) ≡ true = c .before .if3 .taken in
     let idle = either-false (running (c .before .before .before .before .before .loop .core)) (c .before .before .before .before .before .loop .watch .on) .0 (sym (c .before .before .before .before .before .loop .inv .1) ∙ not-true (c .before .before .before .before .before .loop .busy) (and-left (not (c .before .before .before .before .before .loop .busy)) (eqb kind TICKS || eqb kind TICK) both)) in
-    let plain = and-right (not (c .before .before .before .before .before .loop .busy)) (eqb kind TICKS || eqb kind TICK) both in
-    ( rw next (plain-idle-turn (c .before .before .before .before .before .loop .inv .0) (c .before .before .before .before .loop-test .taken) plain (idle .0))
-    , c .before .before .before .before .before .loop .inv .1
-    , rw next (plain-idle-watched (c .before .before .before .before .before .loop .inv .2) (c .before .before .before .before .loop-test .taken) (good (c .before .before .before .before .before .loop .inv .0) (c .before .before .before .before .loop-test .taken) .ranged) plain (idle .0) (idle .1)))
+    let plain = and-right (not (c .before .before .before .before .before .loop .busy)) (eqb kind TICKS || eqb kind TICK) both in (
+      rw next (plain-idle-turn (c .before .before .before .before .before .loop .inv .0) (c .before .before .before .before .loop-test .taken) plain (idle .0)),
+      c .before .before .before .before .before .loop .inv .1,
+      rw next (plain-idle-watched (c .before .before .before .before .before .loop .inv .2) (c .before .before .before .before .loop-test .taken) (good (c .before .before .before .before .before .loop .inv .0) (c .before .before .before .before .loop-test .taken) .ranged) plain (idle .0) (idle .1)),
+    )
 
 -- src/lib.rt:361:13
 body-at-requires : tie.Need-body-at-requires Inv-loop μ-loop
@@ -180,10 +181,11 @@ loop-again-4 : tie.Need-loop-again-4 Inv-loop μ-loop
 loop-again-4 c =
     let next : c .next-at2 .result ≡ nextAt (c .before .before .before .before .before .before .before .before .before .before .before .before .before .before .before .before .before .before .before .before .before .before .args .script .now) (c .before .before .before .before .before .before .before .before .before .before .before .loop .at) = c .next-at2 .ensures ∙ step-inside (c .before .before .before .before .before .before .before .before .before .before .before .before .before .before .before .before .before .before .before .before .before .before .args .script .now) (c .before .before .before .before .before .before .before .before .before .before .before .loop .at) (c .before .before .before .before .before .before .before .before .before .before .loop-test .taken) in
     let idle = either-false (running (c .before .before .before .before .before .before .before .before .before .before .before .loop .core)) (c .before .before .before .before .before .before .before .before .before .before .before .loop .watch .on) .0 (sym (c .before .before .before .before .before .before .before .before .before .before .before .loop .inv .1) ∙ not-true _ (c .before .if5 .taken)) in
-    let ticking = sym (c .before .before .before .before .before .is-ticking .ensures) ∙ c .before .before .before .before .if4 .taken in
-    ( rw next (idle-turn (c .before .before .before .before .before .before .before .before .before .before .before .loop .inv .0) (c .before .before .before .before .before .before .before .before .before .before .loop-test .taken) ticking _ (c .before .before .before .before .before .before .body-at .ensures .0) _ (c .before .before .before .ticks-of .ensures .0) _ (c .before .before .clock-after .ensures) (idle .0))
-    , c .before .before .before .before .before .before .before .before .before .before .before .loop .inv .1
-    , rw next (idle-watched (c .before .before .before .before .before .before .before .before .before .before .before .loop .inv .2) (c .before .before .before .before .before .before .before .before .before .before .loop-test .taken) ticking _ (c .before .before .before .before .before .before .body-at .ensures .0) _ (c .before .before .before .ticks-of .ensures .0) (c .before .before .before .ticks-of .ensures .1) _ (c .before .before .clock-after .ensures) (idle .0) (idle .1)))
+    let ticking = sym (c .before .before .before .before .before .is-ticking .ensures) ∙ c .before .before .before .before .if4 .taken in (
+      rw next (idle-turn (c .before .before .before .before .before .before .before .before .before .before .before .loop .inv .0) (c .before .before .before .before .before .before .before .before .before .before .loop-test .taken) ticking _ (c .before .before .before .before .before .before .body-at .ensures .0) _ (c .before .before .before .ticks-of .ensures .0) _ (c .before .before .clock-after .ensures) (idle .0)),
+      c .before .before .before .before .before .before .before .before .before .before .before .loop .inv .1,
+      rw next (idle-watched (c .before .before .before .before .before .before .before .before .before .before .before .loop .inv .2) (c .before .before .before .before .before .before .before .before .before .before .loop-test .taken) ticking _ (c .before .before .before .before .before .before .body-at .ensures .0) _ (c .before .before .before .ticks-of .ensures .0) (c .before .before .before .ticks-of .ensures .1) _ (c .before .before .clock-after .ensures) (idle .0) (idle .1)),
+    )
 
 -- src/lib.rt:369:17
 ticks-requires : tie.Need-ticks-requires Inv-loop μ-loop
@@ -193,10 +195,11 @@ ticks-requires c κs = search needs
 watch-ticks-requires : tie.Need-watch-ticks-requires Inv-loop μ-loop
 watch-ticks-requires c κs =
     let ticking = sym (c .before .before .before .before .before .before .before .before .before .is-ticking .ensures) ∙ c .before .before .before .before .before .before .before .before .if4 .taken in
-    let modest = modest-then (c .before .before .before .before .before .before .before .before .before .before .before .before .before .before .before .loop .inv .2) (c .before .before .before .before .before .before .before .before .before .before .before .before .before .before .loop-test .taken) ticking _ (c .before .before .before .before .before .before .before .before .before .before .body-at .ensures .0) _ (c .before .before .before .before .before .before .before .ticks-of .ensures .0) (c .before .before .before .before .before .before .before .ticks-of .ensures .1) _ (c .before .before .before .before .before .before .clock-after .ensures) in
-    ( c .before .before .before .before .before .before .before .before .before .before .before .before .before .before .before .before .before .before .before .before .before .before .before .before .before .before .pre .0
-    , omega (arith, modest, good (c .before .before .before .before .before .before .before .before .before .before .before .before .before .before .before .loop .inv .0) (c .before .before .before .before .before .before .before .before .before .before .before .before .before .before .loop-test .taken) .inside, c .before .before .before .before .before .before .before .before .before .before .before .before .before .before .before .loop .inv .0 .short)
-    , omega (arith, c .before .before .ticks .ensures .working, worked-most (c .before .before .before .before .before .before .before .before .before .before .before .before .before .before .before .before .before .before .before .before .before .before .before .before .before .before .args .sectors) (c .before .before .before .before .before .before .before .ticks-of .result) (c .before .before .before .before .before .before .before .before .before .before .before .before .before .before .before .loop .core)))
+    let modest = modest-then (c .before .before .before .before .before .before .before .before .before .before .before .before .before .before .before .loop .inv .2) (c .before .before .before .before .before .before .before .before .before .before .before .before .before .before .loop-test .taken) ticking _ (c .before .before .before .before .before .before .before .before .before .before .body-at .ensures .0) _ (c .before .before .before .before .before .before .before .ticks-of .ensures .0) (c .before .before .before .before .before .before .before .ticks-of .ensures .1) _ (c .before .before .before .before .before .before .clock-after .ensures) in (
+      c .before .before .before .before .before .before .before .before .before .before .before .before .before .before .before .before .before .before .before .before .before .before .before .before .before .before .pre .0,
+      omega (arith, modest, good (c .before .before .before .before .before .before .before .before .before .before .before .before .before .before .before .loop .inv .0) (c .before .before .before .before .before .before .before .before .before .before .before .before .before .before .loop-test .taken) .inside, c .before .before .before .before .before .before .before .before .before .before .before .before .before .before .before .loop .inv .0 .short),
+      omega (arith, c .before .before .ticks .ensures .working, worked-most (c .before .before .before .before .before .before .before .before .before .before .before .before .before .before .before .before .before .before .before .before .before .before .before .before .before .before .args .sectors) (c .before .before .before .before .before .before .before .ticks-of .result) (c .before .before .before .before .before .before .before .before .before .before .before .before .before .before .before .loop .core)),
+    )
 
 -- src/lib.rt:372:20
 is-running-requires-2 : tie.Need-is-running-requires-2 Inv-loop μ-loop
@@ -226,10 +229,11 @@ loop-less-5 c =
 loop-again-5 : tie.Need-loop-again-5 Inv-loop μ-loop
 loop-again-5 c =
     let next : c .next-at3 .result ≡ nextAt (c .before .before .before .before .before .before .before .before .before .before .before .before .before .before .before .before .before .before .before .before .before .before .before .before .before .before .before .before .before .before .before .before .args .script .now) (c .before .before .before .before .before .before .before .before .before .before .before .before .before .before .before .before .before .before .before .before .before .loop .at) = c .next-at3 .ensures ∙ step-inside (c .before .before .before .before .before .before .before .before .before .before .before .before .before .before .before .before .before .before .before .before .before .before .before .before .before .before .before .before .before .before .before .before .args .script .now) (c .before .before .before .before .before .before .before .before .before .before .before .before .before .before .before .before .before .before .before .before .before .loop .at) (c .before .before .before .before .before .before .before .before .before .before .before .before .before .before .before .before .before .before .before .before .loop-test .taken) in
-    let ticking = sym (c .before .before .before .before .before .before .before .before .before .before .before .before .before .before .before .is-ticking .ensures) ∙ c .before .before .before .before .before .before .before .before .before .before .before .before .before .before .if4 .taken in
-    ( rw next (ticks-turn (c .before .before .before .before .before .before .before .before .before .before .before .before .before .before .before .before .before .before .before .before .before .loop .inv .0) (c .before .before .before .before .before .before .before .before .before .before .before .before .before .before .before .before .before .before .before .before .loop-test .taken) ticking _ (c .before .before .before .before .before .before .before .before .before .before .before .before .before .before .before .before .body-at .ensures .0) _ (c .before .before .before .before .before .before .before .before .before .before .before .before .before .ticks-of .ensures .0) _ (c .before .before .before .before .before .before .before .before .before .before .before .before .clock-after .ensures) _ _ _ _ (c .before .before .before .before .before .before .before .before .ticks .ensures) (search needs) (c .before .before .before .before .before .before .before .before .ticks .kept .1 .1 .0))
-    , ap (λ (b : Bool). b || c .before .before .before .before .before .watch-ticks .result .on) (c .before .before .before .is-running2 .ensures)
-    , rw (next, c .before .before .before .before .before .watch-ticks .ensures) (ticks-watched (c .before .before .before .before .before .before .before .before .before .before .before .before .before .before .before .before .before .before .before .before .before .loop .inv .2) (c .before .before .before .before .before .before .before .before .before .before .before .before .before .before .before .before .before .before .before .before .loop-test .taken) ticking _ (c .before .before .before .before .before .before .before .before .before .before .before .before .before .before .before .before .body-at .ensures .0) _ (c .before .before .before .before .before .before .before .before .before .before .before .before .before .ticks-of .ensures .0) (c .before .before .before .before .before .before .before .before .before .before .before .before .before .ticks-of .ensures .1) _ (c .before .before .before .before .before .before .before .before .before .before .before .before .clock-after .ensures) _ _ _ _ (c .before .before .before .before .before .before .before .before .ticks .ensures)))
+    let ticking = sym (c .before .before .before .before .before .before .before .before .before .before .before .before .before .before .before .is-ticking .ensures) ∙ c .before .before .before .before .before .before .before .before .before .before .before .before .before .before .if4 .taken in (
+      rw next (ticks-turn (c .before .before .before .before .before .before .before .before .before .before .before .before .before .before .before .before .before .before .before .before .before .loop .inv .0) (c .before .before .before .before .before .before .before .before .before .before .before .before .before .before .before .before .before .before .before .before .loop-test .taken) ticking _ (c .before .before .before .before .before .before .before .before .before .before .before .before .before .before .before .before .body-at .ensures .0) _ (c .before .before .before .before .before .before .before .before .before .before .before .before .before .ticks-of .ensures .0) _ (c .before .before .before .before .before .before .before .before .before .before .before .before .clock-after .ensures) _ _ _ _ (c .before .before .before .before .before .before .before .before .ticks .ensures) (search needs) (c .before .before .before .before .before .before .before .before .ticks .kept .1 .1 .0)),
+      ap (λ (b : Bool). b || c .before .before .before .before .before .watch-ticks .result .on) (c .before .before .before .is-running2 .ensures),
+      rw (next, c .before .before .before .before .before .watch-ticks .ensures) (ticks-watched (c .before .before .before .before .before .before .before .before .before .before .before .before .before .before .before .before .before .before .before .before .before .loop .inv .2) (c .before .before .before .before .before .before .before .before .before .before .before .before .before .before .before .before .before .before .before .before .loop-test .taken) ticking _ (c .before .before .before .before .before .before .before .before .before .before .before .before .before .before .before .before .body-at .ensures .0) _ (c .before .before .before .before .before .before .before .before .before .before .before .before .before .ticks-of .ensures .0) (c .before .before .before .before .before .before .before .before .before .before .before .before .before .ticks-of .ensures .1) _ (c .before .before .before .before .before .before .before .before .before .before .before .before .clock-after .ensures) _ _ _ _ (c .before .before .before .before .before .before .before .before .ticks .ensures)),
+    )
 
 -- src/lib.rt:387:13
 cast-step : tie.Need-cast-step Inv-loop μ-loop
@@ -276,10 +280,11 @@ loop-again-6 : tie.Need-loop-again-6 Inv-loop μ-loop
 loop-again-6 c =
     let next : c .next-at4 .result ≡ nextAt (c .before .before .before .before .before .before .before .before .before .before .before .before .before .before .before .before .before .before .before .before .before .before .before .before .before .before .before .before .before .before .before .before .before .before .before .args .script .now) (c .before .before .before .before .before .before .before .before .before .before .before .before .before .before .before .before .before .before .before .before .before .before .before .before .loop .at) = c .next-at4 .ensures ∙ step-inside (c .before .before .before .before .before .before .before .before .before .before .before .before .before .before .before .before .before .before .before .before .before .before .before .before .before .before .before .before .before .before .before .before .before .before .before .args .script .now) (c .before .before .before .before .before .before .before .before .before .before .before .before .before .before .before .before .before .before .before .before .before .before .before .before .loop .at) (c .before .before .before .before .before .before .before .before .before .before .before .before .before .before .before .before .before .before .before .before .before .before .before .loop-test .taken) in
     let other = sym (c .before .before .before .before .before .before .before .before .before .before .before .before .before .before .before .before .before .before .is-ticking .ensures) ∙ c .before .before .before .before .before .before .before .before .before .before .before .before .before .before .before .before .before .if4 .left in
-    let does = c .before .before .before .before .before .before .before .before .before .before .before .before .before .step .ensures ∙ ap (applied _ _ _ _) (c .before .before .before .before .before .before .before .before .before .before .before .before .before .before .before .before .before .before .before .body-at .ensures .0) in
-    ( rw next (turns (c .before .before .before .before .before .before .before .before .before .before .before .before .before .before .before .before .before .before .before .before .before .before .before .before .loop .inv .0) (c .before .before .before .before .before .before .before .before .before .before .before .before .before .before .before .before .before .before .before .before .before .before .before .loop-test .taken) (not-ticking (getD (c .before .before .before .before .before .before .before .before .before .before .before .before .before .before .before .before .before .before .before .before .before .before .before .before .before .before .before .before .before .before .before .before .before .before .before .args .script .now) (c .before .before .before .before .before .before .before .before .before .before .before .before .before .before .before .before .before .before .before .before .before .before .before .before .loop .at) 0) other .not-stamp) _ _ _ does (c .before .before .before .before .before .before .before .before .before .put3 .ensures) (search needs) (c .before .before .before .before .before .before .before .before .before .before .before .before .before .step .kept .1 .1 .1 .1 .0) (c .before .before .before .before .before .before .before .before .before .put3 .kept .0))
-    , ap (λ (b : Bool). b || c .before .before .before .before .before .before .watch-event .result .on) (c .before .before .before .before .is-running3 .ensures)
-    , rw (next, c .before .before .before .before .before .before .watch-event .ensures) (event-watched (c .before .before .before .before .before .before .before .before .before .before .before .before .before .before .before .before .before .before .before .before .before .before .before .before .loop .inv .2) (c .before .before .before .before .before .before .before .before .before .before .before .before .before .before .before .before .before .before .before .before .before .before .before .loop-test .taken) other _ _ _ _ _ _ _ does))
+    let does = c .before .before .before .before .before .before .before .before .before .before .before .before .before .step .ensures ∙ ap (applied _ _ _ _) (c .before .before .before .before .before .before .before .before .before .before .before .before .before .before .before .before .before .before .before .body-at .ensures .0) in (
+      rw next (turns (c .before .before .before .before .before .before .before .before .before .before .before .before .before .before .before .before .before .before .before .before .before .before .before .before .loop .inv .0) (c .before .before .before .before .before .before .before .before .before .before .before .before .before .before .before .before .before .before .before .before .before .before .before .loop-test .taken) (not-ticking (getD (c .before .before .before .before .before .before .before .before .before .before .before .before .before .before .before .before .before .before .before .before .before .before .before .before .before .before .before .before .before .before .before .before .before .before .before .args .script .now) (c .before .before .before .before .before .before .before .before .before .before .before .before .before .before .before .before .before .before .before .before .before .before .before .before .loop .at) 0) other .not-stamp) _ _ _ does (c .before .before .before .before .before .before .before .before .before .put3 .ensures) (search needs) (c .before .before .before .before .before .before .before .before .before .before .before .before .before .step .kept .1 .1 .1 .1 .0) (c .before .before .before .before .before .before .before .before .before .put3 .kept .0)),
+      ap (λ (b : Bool). b || c .before .before .before .before .before .before .watch-event .result .on) (c .before .before .before .before .is-running3 .ensures),
+      rw (next, c .before .before .before .before .before .before .watch-event .ensures) (event-watched (c .before .before .before .before .before .before .before .before .before .before .before .before .before .before .before .before .before .before .before .before .before .before .before .before .loop .inv .2) (c .before .before .before .before .before .before .before .before .before .before .before .before .before .before .before .before .before .before .before .before .before .before .before .loop-test .taken) other _ _ _ _ _ _ _ does),
+    )
 
 -- src/lib.rt:400:14
 finished-requires : tie.Need-finished-requires Inv-loop μ-loop

@@ -29,10 +29,11 @@ turned-away-requires c κs = search needs
 -- src/lib.rt:524:9
 returns : tie.Need-returns
 returns c =
-    let no : refusal (c .before .before .before .before .before .before .before .before .args .chip) (length (c .before .before .before .before .before .before .before .before .args .mem .now)) (length (c .before .before .before .before .before .before .before .before .args .area .now)) (c .before .before .before .before .before .before .before .before .args .script .now) (length (c .before .before .before .before .before .before .before .before .args .out .now)) .number ≡ 0 → ⊥ = λ e. c .before .if1 .taken (ap (λ (r : Refusal). r .number) (c .before .before .before .refuses .ensures) ∙ e) in
-    ( c .turned-away .ensures ∙ ap (refused (c .before .before .before .before .before .before .before .before .args .chip)) (c .before .before .before .refuses .ensures) ∙ sym (answer-refused _ _ _ _ _ no)
-    , sym (memory-refused _ _ _ _ _ no)
-    , sym (output-refused _ _ _ _ _ no))
+    let no : refusal (c .before .before .before .before .before .before .before .before .args .chip) (length (c .before .before .before .before .before .before .before .before .args .mem .now)) (length (c .before .before .before .before .before .before .before .before .args .area .now)) (c .before .before .before .before .before .before .before .before .args .script .now) (length (c .before .before .before .before .before .before .before .before .args .out .now)) .number ≡ 0 → ⊥ = λ e. c .before .if1 .taken (ap (λ (r : Refusal). r .number) (c .before .before .before .refuses .ensures) ∙ e) in (
+      c .turned-away .ensures ∙ ap (refused (c .before .before .before .before .before .before .before .before .args .chip)) (c .before .before .before .refuses .ensures) ∙ sym (answer-refused _ _ _ _ _ no),
+      sym (memory-refused _ _ _ _ _ no),
+      sym (output-refused _ _ _ _ _ no),
+    )
 
 -- src/lib.rt:538:9
 sectors-of-requires : tie.Need-sectors-of-requires
@@ -61,10 +62,11 @@ same-length-2 c = search needs
 returns-2 : tie.Need-returns-2
 returns-2 c =
     let ok : refusal (c .before .before .before .before .before .before .before .before .before .before .before .before .before .before .before .before .before .args .chip) (length (c .before .before .before .before .before .before .before .before .before .before .before .before .before .before .before .before .before .args .mem .now)) (length (c .before .before .before .before .before .before .before .before .before .before .before .before .before .before .before .before .before .args .area .now)) (c .before .before .before .before .before .before .before .before .before .before .before .before .before .before .before .before .before .args .script .now) (length (c .before .before .before .before .before .before .before .before .before .before .before .before .before .before .before .before .before .args .out .now)) .number ≡ 0 = sym (ap (λ (r : Refusal). r .number) (c .before .before .before .before .before .before .before .before .before .before .before .before .refuses .ensures)) ∙ c .before .before .before .before .before .before .before .before .before .before .if1 .left in
-    let s : c .before .before .before .before .before .before .before .sectors-of .result ≡ sectorsIn (length (c .before .before .before .before .before .before .before .before .before .before .before .before .before .before .before .before .before .args .mem .now)) = c .before .before .before .before .before .before .before .sectors-of .ensures ∙ cond-yes _ _ _ (accepted _ _ _ _ _ ok .length-permitted) in
-    ( c .before .before .before .before .before .play .ensures .0 .answer ∙ ap done (worldAfter-as _ _ _ _ _ s) ∙ sym (answer-done _ _ _ _ _ ok)
-    , c .before .before .before .before .before .play .ensures .0 .memory ∙ ap (λ (w : World). w .memory) (worldAfter-as _ _ _ _ _ s) ∙ sym (memory-done _ _ _ _ _ ok)
-    , c .before .before .before .before .before .play .ensures .0 .output ∙ ap (λ (w : World). w .written ++ drop (length (w .written)) (c .before .before .before .before .before .before .before .before .before .before .before .before .before .before .before .before .before .args .out .now)) (worldAfter-as _ _ _ _ _ s) ∙ sym (output-done _ _ _ _ _ ok))
+    let s : c .before .before .before .before .before .before .before .sectors-of .result ≡ sectorsIn (length (c .before .before .before .before .before .before .before .before .before .before .before .before .before .before .before .before .before .args .mem .now)) = c .before .before .before .before .before .before .before .sectors-of .ensures ∙ cond-yes _ _ _ (accepted _ _ _ _ _ ok .length-permitted) in (
+      c .before .before .before .before .before .play .ensures .0 .answer ∙ ap done (worldAfter-as _ _ _ _ _ s) ∙ sym (answer-done _ _ _ _ _ ok),
+      c .before .before .before .before .before .play .ensures .0 .memory ∙ ap (λ (w : World). w .memory) (worldAfter-as _ _ _ _ _ s) ∙ sym (memory-done _ _ _ _ _ ok),
+      c .before .before .before .before .before .play .ensures .0 .output ∙ ap (λ (w : World). w .written ++ drop (length (w .written)) (c .before .before .before .before .before .before .before .before .before .before .before .before .before .before .before .before .before .args .out .now)) (worldAfter-as _ _ _ _ _ s) ∙ sym (output-done _ _ _ _ _ ok),
+    )
 
 pub run-spec : {M : Type 1} → statement M
 run-spec =

@@ -40,11 +40,12 @@ turned-away-requires c κs = search needs
 -- src/lib.rt:457:9
 returns : tie.Need-returns
 returns c =
-    let bad : allowed (c .before .before .before .before .before .before .before .before .args .allowances) ≡ false = sym (c .before .before .before .are-allowed .ensures) ∙ not-true _ (c .before .before .if1 .taken) in
-    ( c .turned-away .ensures ∙ (λ i. refused (c .before .before .before .before .before .before .before .before .args .chip) (refusalOf (c .before .refuse .ensures i .number) (c .before .refuse .ensures i .offset))) ∙ sym (answer-18 _ _ _ _ _ _ bad)
-    , sym (memory-18 _ _ _ _ _ _ bad)
-    , sym (output-18 _ _ _ _ _ _ bad)
-    , sym (report-18 _ _ _ _ _ _ bad _))
+    let bad : allowed (c .before .before .before .before .before .before .before .before .args .allowances) ≡ false = sym (c .before .before .before .are-allowed .ensures) ∙ not-true _ (c .before .before .if1 .taken) in (
+      c .turned-away .ensures ∙ (λ i. refused (c .before .before .before .before .before .before .before .before .args .chip) (refusalOf (c .before .refuse .ensures i .number) (c .before .refuse .ensures i .offset))) ∙ sym (answer-18 _ _ _ _ _ _ bad),
+      sym (memory-18 _ _ _ _ _ _ bad),
+      sym (output-18 _ _ _ _ _ _ bad),
+      sym (report-18 _ _ _ _ _ _ bad _),
+    )
 
 -- src/lib.rt:463:9
 refuses-requires : tie.Need-refuses-requires
@@ -58,11 +59,12 @@ turned-away-requires-2 c κs = search needs
 returns-2 : tie.Need-returns-2
 returns-2 c =
     let good : allowed (c .before .before .before .before .before .before .before .before .before .before .args .allowances) ≡ true = sym (c .before .before .before .before .before .are-allowed .ensures) ∙ not-false _ (c .before .before .before .before .if1 .left) in
-    let no : refusal (c .before .before .before .before .before .before .before .before .before .before .args .chip) (length (c .before .before .before .before .before .before .before .before .before .before .args .mem .now)) (length (c .before .before .before .before .before .before .before .before .before .before .args .area .now)) (c .before .before .before .before .before .before .before .before .before .before .args .script .now) (length (c .before .before .before .before .before .before .before .before .before .before .args .out .now)) .number ≡ 0 → ⊥ = λ e. c .before .if2 .taken (ap (λ (r : Refusal). r .number) (c .before .before .before .refuses .ensures) ∙ e) in
-    ( c .turned-away2 .ensures ∙ ap (refused (c .before .before .before .before .before .before .before .before .before .before .args .chip)) (c .before .before .before .refuses .ensures) ∙ sym (answer-with _ _ _ _ _ _ good ∙ answer-refused _ _ _ _ _ no)
-    , sym (memory-with _ _ _ _ _ _ good ∙ memory-refused _ _ _ _ _ no)
-    , sym (output-with _ _ _ _ _ _ good ∙ output-refused _ _ _ _ _ no)
-    , sym (report-refused _ _ _ _ _ _ good _ no))
+    let no : refusal (c .before .before .before .before .before .before .before .before .before .before .args .chip) (length (c .before .before .before .before .before .before .before .before .before .before .args .mem .now)) (length (c .before .before .before .before .before .before .before .before .before .before .args .area .now)) (c .before .before .before .before .before .before .before .before .before .before .args .script .now) (length (c .before .before .before .before .before .before .before .before .before .before .args .out .now)) .number ≡ 0 → ⊥ = λ e. c .before .if2 .taken (ap (λ (r : Refusal). r .number) (c .before .before .before .refuses .ensures) ∙ e) in (
+      c .turned-away2 .ensures ∙ ap (refused (c .before .before .before .before .before .before .before .before .before .before .args .chip)) (c .before .before .before .refuses .ensures) ∙ sym (answer-with _ _ _ _ _ _ good ∙ answer-refused _ _ _ _ _ no),
+      sym (memory-with _ _ _ _ _ _ good ∙ memory-refused _ _ _ _ _ no),
+      sym (output-with _ _ _ _ _ _ good ∙ output-refused _ _ _ _ _ no),
+      sym (report-refused _ _ _ _ _ _ good _ no),
+    )
 
 -- src/lib.rt:475:9
 sectors-of-requires : tie.Need-sectors-of-requires
@@ -91,11 +93,12 @@ returns-3 : tie.Need-returns-3
 returns-3 c =
     let good : allowed (c .before .before .before .before .before .before .before .before .before .before .before .before .before .before .before .before .before .before .args .allowances) ≡ true = sym (c .before .before .before .before .before .before .before .before .before .before .before .before .before .are-allowed .ensures) ∙ not-false _ (c .before .before .before .before .before .before .before .before .before .before .before .before .if1 .left) in
     let ok : refusal (c .before .before .before .before .before .before .before .before .before .before .before .before .before .before .before .before .before .before .args .chip) (length (c .before .before .before .before .before .before .before .before .before .before .before .before .before .before .before .before .before .before .args .mem .now)) (length (c .before .before .before .before .before .before .before .before .before .before .before .before .before .before .before .before .before .before .args .area .now)) (c .before .before .before .before .before .before .before .before .before .before .before .before .before .before .before .before .before .before .args .script .now) (length (c .before .before .before .before .before .before .before .before .before .before .before .before .before .before .before .before .before .before .args .out .now)) .number ≡ 0 = sym (ap (λ (r : Refusal). r .number) (c .before .before .before .before .before .before .before .before .before .before .before .refuses .ensures)) ∙ c .before .before .before .before .before .before .before .before .before .if2 .left in
-    let s : c .before .before .before .before .before .before .sectors-of .result ≡ sectorsIn (length (c .before .before .before .before .before .before .before .before .before .before .before .before .before .before .before .before .before .before .args .mem .now)) = c .before .before .before .before .before .before .sectors-of .ensures ∙ cond-yes _ _ _ (accepted _ _ _ _ _ ok .length-permitted) in
-    ( c .before .before .before .before .play .ensures .0 .answer ∙ ap done (worldAfter-as _ _ _ _ _ s) ∙ sym (answer-with _ _ _ _ _ _ good ∙ answer-done _ _ _ _ _ ok)
-    , c .before .before .before .before .play .ensures .0 .memory ∙ ap (λ (w : World). w .memory) (worldAfter-as _ _ _ _ _ s) ∙ sym (memory-with _ _ _ _ _ _ good ∙ memory-done _ _ _ _ _ ok)
-    , c .before .before .before .before .play .ensures .0 .output ∙ ap (λ (w : World). w .written ++ drop (length (w .written)) (c .before .before .before .before .before .before .before .before .before .before .before .before .before .before .before .before .before .before .args .out .now)) (worldAfter-as _ _ _ _ _ s) ∙ sym (output-with _ _ _ _ _ _ good ∙ output-done _ _ _ _ _ ok)
-    , c .before .before .before .before .play .ensures .1 ∙ (λ i. reportAfter (c .before .before .before .before .before .before .before .before .before .before .before .before .before .before .before .before .before .before .args .allowances) (jobsOf (setting (s i) (c .before .before .before .before .before .before .before .before .before .before .before .before .before .before .before .before .before .before .args .area .now)) (c .before .before .before .before .before .before .before .before .before .before .before .before .before .before .before .before .before .before .args .script .now) (c .before .before .before .before .before .before .before .before .before .before .before .before .before .before .before .before .before .before .args .chip) (c .before .before .before .before .before .before .before .before .before .before .before .before .before .before .before .before .before .before .args .mem .now)) (c .before .before .before .before .before .start-from .ensures i)) ∙ sym (report-done _ _ _ _ _ _ good _ ok))
+    let s : c .before .before .before .before .before .before .sectors-of .result ≡ sectorsIn (length (c .before .before .before .before .before .before .before .before .before .before .before .before .before .before .before .before .before .before .args .mem .now)) = c .before .before .before .before .before .before .sectors-of .ensures ∙ cond-yes _ _ _ (accepted _ _ _ _ _ ok .length-permitted) in (
+      c .before .before .before .before .play .ensures .0 .answer ∙ ap done (worldAfter-as _ _ _ _ _ s) ∙ sym (answer-with _ _ _ _ _ _ good ∙ answer-done _ _ _ _ _ ok),
+      c .before .before .before .before .play .ensures .0 .memory ∙ ap (λ (w : World). w .memory) (worldAfter-as _ _ _ _ _ s) ∙ sym (memory-with _ _ _ _ _ _ good ∙ memory-done _ _ _ _ _ ok),
+      c .before .before .before .before .play .ensures .0 .output ∙ ap (λ (w : World). w .written ++ drop (length (w .written)) (c .before .before .before .before .before .before .before .before .before .before .before .before .before .before .before .before .before .before .args .out .now)) (worldAfter-as _ _ _ _ _ s) ∙ sym (output-with _ _ _ _ _ _ good ∙ output-done _ _ _ _ _ ok),
+      c .before .before .before .before .play .ensures .1 ∙ (λ i. reportAfter (c .before .before .before .before .before .before .before .before .before .before .before .before .before .before .before .before .before .before .args .allowances) (jobsOf (setting (s i) (c .before .before .before .before .before .before .before .before .before .before .before .before .before .before .before .before .before .before .args .area .now)) (c .before .before .before .before .before .before .before .before .before .before .before .before .before .before .before .before .before .before .args .script .now) (c .before .before .before .before .before .before .before .before .before .before .before .before .before .before .before .before .before .before .args .chip) (c .before .before .before .before .before .before .before .before .before .before .before .before .before .before .before .before .before .before .args .mem .now)) (c .before .before .before .before .before .start-from .ensures i)) ∙ sym (report-done _ _ _ _ _ _ good _ ok),
+    )
 
 pub run-with-report-spec : {M : Type 1} → statement M
 run-with-report-spec =
