@@ -39,3 +39,6 @@ pub mod AtRest
 pub mod ScriptWords
 pub mod TableWords
 pub mod JobWords
+pub mod Reports
+pub mod ReportLines
+pub mod ReportMeets

@@ -2,3 +2,5 @@ pub mod Wrong
 pub mod Refuted
 pub mod WrongWriters
 pub mod RefutedWriters
+pub mod WrongReports
+pub mod RefutedReports

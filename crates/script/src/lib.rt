@@ -136,6 +136,11 @@ fn scan(s: &[u8]) -> Scanned
             at = kinds::next_at(s, at);
             continue;
         }
+        // Ticks are frequent too: what comes next need not wait for a look at the table.
+        if kind == Kind::TICKS {
+            at += 3;
+            continue;
+        }
         space += kinds::room_of(kind);
         at = kinds::next_at(s, at);
     }

@@ -142,34 +142,58 @@ loop-again-2 c =
       c .before .before .before .before .before .before .before .before .before .before .loop .inv .3 ∙ ap (λ (r : ℕ). c .before .before .before .before .before .before .before .before .before .before .loop .space + r) (room-more s at (c .before .before .before .before .before .before .before .before .before .loop-test .taken) ∙ (λ i. silent i + room (eventsFrom s (sym next i))) ∙ zero-add _),
     )
 
--- src/lib.rt:139:18
+-- src/lib.rt:141:13
+add-at-2 : tie.Need-add-at-2 Inv-loop μ-loop
+add-at-2 c = omega (arith, c .before .before .before .before .before .before .before .loop-test .taken, c .before .before .before .before .before .before .before .before .before .before .before .pre)
+
+-- src/lib.rt:116:5
+loop-less-3 : tie.Need-loop-less-3 Inv-loop μ-loop
+loop-less-3 c = omega (arith, c .before .before .before .before .before .before .before .loop-test .taken)
+
+-- src/lib.rt:116:5
+loop-again-3 : tie.Need-loop-again-3 Inv-loop μ-loop
+unfolding kindRow kindRowIn
+loop-again-3 c =
+    let s = c .before .before .before .before .before .before .before .before .before .before .before .args .s .now in
+    let at = c .before .before .before .before .before .before .before .before .loop .at in
+    let z : faultBy (c .before .before .before .before .before .before .before .before .loop .clock) (eventAt s at) ≡ 0 = sym (c .before .before .before .before .fault-at .ensures) ∙ c .before .before .before .if2 .left in
+    let next : at + 3 ≡ nextAt s at = sym (ap (λ (kind : ℕ). at + 1 + kindRow kind .body) (c .if4 .taken) ∙ add-assoc at 1 2) in
+    let same : clockAfter (c .before .before .before .before .before .before .before .before .loop .clock) (eventAt s at) ≡ c .before .before .before .before .before .before .before .before .loop .clock = clock-stays (c .before .before .before .before .before .before .before .before .loop .clock) (eventAt s at) (ne-eqb (getD s at 0) STAMP (c .before .if3 .left)) in
+    let silent : roomOf (getD s at 0) ≡ 0 = ap roomOf (c .if4 .taken) in (
+      omega (arith, next, good-event s at (clean-event (c .before .before .before .before .before .before .before .before .loop .clock) (eventAt s at) z .as-written) .inside),
+      omega (arith, c .before .before .before .before .before .before .before .before .loop .inv .1),
+      c .before .before .before .before .before .before .before .before .loop .inv .2 ∙ firstBad-later (c .before .before .before .before .before .before .before .before .loop .clock) s at (c .before .before .before .before .before .before .before .loop-test .taken) z ∙ (λ i. firstBad (same i) (eventsFrom s (sym next i))),
+      c .before .before .before .before .before .before .before .before .loop .inv .3 ∙ ap (λ (r : ℕ). c .before .before .before .before .before .before .before .before .loop .space + r) (room-more s at (c .before .before .before .before .before .before .before .loop-test .taken) ∙ (λ i. silent i + room (eventsFrom s (sym next i))) ∙ zero-add _),
+    )
+
+-- src/lib.rt:144:18
 room-of-requires-2 : tie.Need-room-of-requires-2 Inv-loop μ-loop
 room-of-requires-2 c κs = search needs
 
--- src/lib.rt:139:9
+-- src/lib.rt:144:9
 add-space-2 : tie.Need-add-space-2 Inv-loop μ-loop
 add-space-2 c = search needs
 
--- src/lib.rt:140:9
+-- src/lib.rt:145:9
 next-at-requires-2 : tie.Need-next-at-requires-2 Inv-loop μ-loop
 next-at-requires-2 c κs = search needs
 
 -- src/lib.rt:116:5
-loop-less-3 : tie.Need-loop-less-3 Inv-loop μ-loop
-loop-less-3 c = omega (arith, c .next-at2 .ensures, step-inside (c .before .before .before .before .before .before .before .before .before .before .before .before .args .s .now) (c .before .before .before .before .before .before .before .before .before .loop .at) (c .before .before .before .before .before .before .before .before .loop-test .taken))
+loop-less-4 : tie.Need-loop-less-4 Inv-loop μ-loop
+loop-less-4 c = omega (arith, c .next-at2 .ensures, step-inside (c .before .before .before .before .before .before .before .before .before .before .before .before .before .args .s .now) (c .before .before .before .before .before .before .before .before .before .before .loop .at) (c .before .before .before .before .before .before .before .before .before .loop-test .taken))
 
 -- src/lib.rt:116:5
-loop-again-3 : tie.Need-loop-again-3 Inv-loop μ-loop
-loop-again-3 c =
-    let s = c .before .before .before .before .before .before .before .before .before .before .before .before .args .s .now in
-    let at = c .before .before .before .before .before .before .before .before .before .loop .at in
-    let z : faultBy (c .before .before .before .before .before .before .before .before .before .loop .clock) (eventAt s at) ≡ 0 = sym (c .before .before .before .before .before .fault-at .ensures) ∙ c .before .before .before .before .if2 .left in
-    let next : c .next-at2 .result ≡ nextAt s at = c .next-at2 .ensures ∙ step-inside s at (c .before .before .before .before .before .before .before .before .loop-test .taken) in
-    let same : clockAfter (c .before .before .before .before .before .before .before .before .before .loop .clock) (eventAt s at) ≡ c .before .before .before .before .before .before .before .before .before .loop .clock = clock-stays (c .before .before .before .before .before .before .before .before .before .loop .clock) (eventAt s at) (ne-eqb (getD s at 0) STAMP (c .before .before .if3 .left)) in (
-      omega (arith, next, good-event s at (clean-event (c .before .before .before .before .before .before .before .before .before .loop .clock) (eventAt s at) z .as-written) .inside),
-      omega (arith, next, c .before .room-of2 .ensures .1, c .before .before .before .before .before .before .before .before .before .loop .inv .1),
-      c .before .before .before .before .before .before .before .before .before .loop .inv .2 ∙ firstBad-later (c .before .before .before .before .before .before .before .before .before .loop .clock) s at (c .before .before .before .before .before .before .before .before .loop-test .taken) z ∙ (λ i. firstBad (same i) (eventsFrom s (sym next i))),
-      c .before .before .before .before .before .before .before .before .before .loop .inv .3 ∙ ap (λ (r : ℕ). c .before .before .before .before .before .before .before .before .before .loop .space + r) (room-more s at (c .before .before .before .before .before .before .before .before .loop-test .taken)) ∙ rw (next, c .before .room-of2 .ensures .0) (sym (add-assoc _ _ _)),
+loop-again-4 : tie.Need-loop-again-4 Inv-loop μ-loop
+loop-again-4 c =
+    let s = c .before .before .before .before .before .before .before .before .before .before .before .before .before .args .s .now in
+    let at = c .before .before .before .before .before .before .before .before .before .before .loop .at in
+    let z : faultBy (c .before .before .before .before .before .before .before .before .before .before .loop .clock) (eventAt s at) ≡ 0 = sym (c .before .before .before .before .before .before .fault-at .ensures) ∙ c .before .before .before .before .before .if2 .left in
+    let next : c .next-at2 .result ≡ nextAt s at = c .next-at2 .ensures ∙ step-inside s at (c .before .before .before .before .before .before .before .before .before .loop-test .taken) in
+    let same : clockAfter (c .before .before .before .before .before .before .before .before .before .before .loop .clock) (eventAt s at) ≡ c .before .before .before .before .before .before .before .before .before .before .loop .clock = clock-stays (c .before .before .before .before .before .before .before .before .before .before .loop .clock) (eventAt s at) (ne-eqb (getD s at 0) STAMP (c .before .before .before .if3 .left)) in (
+      omega (arith, next, good-event s at (clean-event (c .before .before .before .before .before .before .before .before .before .before .loop .clock) (eventAt s at) z .as-written) .inside),
+      omega (arith, next, c .before .room-of2 .ensures .1, c .before .before .before .before .before .before .before .before .before .before .loop .inv .1),
+      c .before .before .before .before .before .before .before .before .before .before .loop .inv .2 ∙ firstBad-later (c .before .before .before .before .before .before .before .before .before .before .loop .clock) s at (c .before .before .before .before .before .before .before .before .before .loop-test .taken) z ∙ (λ i. firstBad (same i) (eventsFrom s (sym next i))),
+      c .before .before .before .before .before .before .before .before .before .before .loop .inv .3 ∙ ap (λ (r : ℕ). c .before .before .before .before .before .before .before .before .before .before .loop .space + r) (room-more s at (c .before .before .before .before .before .before .before .before .before .loop-test .taken)) ∙ rw (next, c .before .room-of2 .ensures .0) (sym (add-assoc _ _ _)),
     )
 
 -- src/lib.rt:109:1
@@ -206,9 +230,12 @@ scan-spec =
     next-at-requires
     loop-less-2
     loop-again-2
+    add-at-2
+    loop-less-3
+    loop-again-3
     room-of-requires-2
     add-space-2
     next-at-requires-2
-    loop-less-3
-    loop-again-3
+    loop-less-4
+    loop-again-4
     returns-2)
