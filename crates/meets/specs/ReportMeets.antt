@@ -255,10 +255,10 @@ module _ (a : Allowances) (r : Report) (c : Chip) (m area s out : List ℕ) wher
   keeps-18 over =
       let bad = over-refused a over in
       λ i.
-          record {
-            run = ran (ReportLaws.answer-18 a c m area s out bad i) (ReportLaws.memory-18 a c m area s out bad i) (ReportLaws.output-18 a c m area s out bad i);
-            report = ReportLaws.report-18 a c m area s out bad r i;
-          }
+      record {
+        run = ran (ReportLaws.answer-18 a c m area s out bad i) (ReportLaws.memory-18 a c m area s out bad i) (ReportLaws.output-18 a c m area s out bad i);
+        report = ReportLaws.report-18 a c m area s out bad r i;
+      }
 
   -- otherwise the answer is the plain run's
   as-plain : allowed a ≡ true → ourReport a r c m area s out .run ≡ ourRun c m area s out

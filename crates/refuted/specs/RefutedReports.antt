@@ -42,10 +42,10 @@ pub by-rules-is-ours : (a : Allowances) (r : Report) (c : Chip) (m area s out : 
 unfolding reportOf afterBy reportAfter
 by-rules-is-ours a r c m area s out =
     λ i.
-        record {
-          run = ourReport a r c m area s out .run;
-          report = cond (eqb (refusalWith a c (length m) (length area) s (length out) .number) 0) (same-after (jobsOf (settingOf (length m) area) s c m) (tidied r) i) r;
-        }
+    record {
+      run = ourReport a r c m area s out .run;
+      report = cond (eqb (refusalWith a c (length m) (length area) s (length out) .number) 0) (same-after (jobsOf (settingOf (length m) area) s c m) (tidied r) i) r;
+    }
   where
     same-counted : (kind : JobKind) (m : ℤ) (r : Report) → countedBy (joined m) kind r ≡ counted kind m r
     same-counted Idle m r = refl

@@ -356,7 +356,7 @@ fn play(
             at += 2;
             continue;
         }
-        if !busy & ((kind == Kind::TICKS) | (kind == Kind::TICK)) {
+        if !busy & (kind == Kind::TICKS) {
             at = kinds::next_at(script, at);
             continue;
         }
