@@ -142,6 +142,7 @@ fn rows() -> Vec<Row> {
     let high_speed = frame_of([0x0B, 0, 0, 0, 0].into_iter().chain(data));
     let mix = mixed(Chip::SECTOR);
     let (many_idle, one_idle) = (vec![(kind::TICKS, 65_535); IDLE], vec![(kind::TICKS, 1); IDLE]);
+    let stamps: Vec<Event> = (0..IDLE as u64).map(|at| (kind::STAMP, at)).collect();
     vec![
         run("a  read of 30,000 bytes, 03h", 32, &low_power, Some(1.5)),
         run("a  read of 30,000 bytes, 0Bh", 32, &high_speed, Some(1.5)),
@@ -152,6 +153,7 @@ fn rows() -> Vec<Row> {
         erase("d  erase of the 2 MiB part", vec![0x60], 32 * Chip::SECTOR),
         run("e  20,000 times 65,535 idle ticks", 1, &many_idle, None),
         run("e  20,000 times 1 idle tick", 1, &one_idle, None),
+        run("e  20,000 stamps, each 1 idle tick", 1, &stamps, None),
         single("f  single events", &mix[..SINGLE], false),
         single("f  single events, lent chip", &mix[..SINGLE], true),
     ]

@@ -46,6 +46,23 @@ fn time_model(case: &Case, rooms: &[usize], memory: &mut [u8], output: &mut [u8]
     begun.elapsed()
 }
 
+/// Allowances for the runs with a report; the times do not depend on them.
+const ALLOWANCES: [u32; 5] = [1_000; 5];
+
+/// The time of the runs of a case on the engine, each with a report that is carried on.
+fn time_reports(engine: &mut Linked, case: &Case, rooms: &[usize]) -> Result<Duration, String> {
+    engine.fresh(0)?;
+    let loan = Loan { memory: case.length, area: case.area.len() };
+    let mut report = Default::default();
+    let begun = Instant::now();
+    for (step, room) in case.steps.iter().zip(rooms) {
+        if let Step::Run { script, .. } = step {
+            black_box(engine.run_report(loan, script, *room, &ALLOWANCES, &mut report)?);
+        }
+    }
+    Ok(begun.elapsed())
+}
+
 /// The time of the steps of a case on the engine.
 fn time_engine(engine: &mut Linked, case: &Case, rooms: &[usize]) -> Result<Duration, String> {
     engine.fresh(0)?;
@@ -107,13 +124,29 @@ fn line(engine: &mut Linked, row: &Row) -> Result<f64, String> {
     Ok(ours)
 }
 
+/// The engine's time for the runs of a case with a report, to its own without.
+fn report_line(engine: &mut Linked, row: &Row) -> Result<(), String> {
+    let rooms: Vec<usize> = row.case.steps.iter().map(room).collect();
+    let (mut with, mut without) = (Vec::new(), Vec::new());
+    for round in 0..ROUNDS {
+        engine.memory()[..row.case.length].fill(round as u8);
+        without.push(time_engine(engine, &row.case, &rooms)?);
+        engine.memory()[..row.case.length].fill(round as u8);
+        with.push(time_reports(engine, &row.case, &rooms)?);
+    }
+    let ratio = median(with) / median(without);
+    println!("  {:<36}{:>12}{:>12}{:>12}", row.words, number(Some(ratio)), "", number(Some(1.3)));
+    Ok(())
+}
+
 /// A ratio in words, or a stroke for none.
 fn number(ratio: Option<f64>) -> String {
     ratio.map_or("-".to_string(), |ratio| format!("{ratio:.2}"))
 }
 
-/// The table: each case's time on the engine as a ratio to the plain model's and to a plain fill's,
-/// and the engine's time for many idle ticks as a ratio to its own for few.
+/// The table: each case's time on the engine as a ratio to the plain model's and to a plain fill's;
+/// the engine's time for many idle ticks, and for stamps, as a ratio to its own for few ticks; and its
+/// time for runs with a report as a ratio to its own for plain ones.
 pub fn table(engine: &mut Linked, rows: &[Row]) -> Result<(), String> {
     println!("medians of {ROUNDS} rounds, as ratios");
     println!("  {:<36}{:>12}{:>12}{:>12}", "engine to", "plain model", "plain fill", "at most");
@@ -124,8 +157,13 @@ pub fn table(engine: &mut Linked, rows: &[Row]) -> Result<(), String> {
             idle.push(ours);
         }
     }
-    if let [many, few] = idle[..] {
+    if let [many, few, stamps] = idle[..] {
         println!("  e, the engine itself, 65,535 idle ticks to 1: {:.2}", many / few);
+        println!("  e, the engine itself, a stamp to 1 idle tick: {:.2}", stamps / few);
+    }
+    println!("  {:<36}{:>12}{:>12}{:>12}", "engine with a report to", "without", "", "at most");
+    for row in rows.iter().filter(|row| row.words.starts_with(['a', 'b', 'c', 'd'])) {
+        report_line(engine, row)?;
     }
     Ok(())
 }
