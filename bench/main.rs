@@ -71,6 +71,8 @@ use timing::Row;
 const SINGLE: usize = 20_000;
 /// Events of the cases of idle ticks.
 const IDLE: usize = 20_000;
+/// Steps of the cases of single working ticks.
+const WORKED: usize = 8_000;
 
 /// The events of a job: write enable, its frame, and its ticks.
 fn job(bytes: Vec<u8>, ticks: u64) -> Vec<Event> {
@@ -109,6 +111,11 @@ fn mixed(length: usize) -> Vec<Event> {
     events
 }
 
+/// The events of a chip erase with these ticks.
+fn worked(ticks: Vec<Event>) -> Vec<Event> {
+    [frame_of([0x06]), frame_of([0x60]), ticks].concat()
+}
+
 /// A case of one run over a memory of so many sectors.
 fn run(words: &'static str, sectors: usize, events: &[Event], target: Option<f64>) -> Row {
     let (script, length, allowances) = (script_of(events), None, None);
@@ -143,6 +150,7 @@ fn rows() -> Vec<Row> {
     let mix = mixed(Chip::SECTOR);
     let (many_idle, one_idle) = (vec![(kind::TICKS, 65_535); IDLE], vec![(kind::TICKS, 1); IDLE]);
     let stamps: Vec<Event> = (0..IDLE as u64).map(|at| (kind::STAMP, at)).collect();
+    let (worked, stamped) = (worked(vec![(kind::TICKS, 1); WORKED]), worked(stamps[..=WORKED].to_vec()));
     vec![
         run("a  read of 30,000 bytes, 03h", 32, &low_power, Some(1.5)),
         run("a  read of 30,000 bytes, 0Bh", 32, &high_speed, Some(1.5)),
@@ -154,6 +162,8 @@ fn rows() -> Vec<Row> {
         run("e  20,000 times 65,535 idle ticks", 1, &many_idle, None),
         run("e  20,000 times 1 idle tick", 1, &one_idle, None),
         run("e  20,000 stamps, each 1 idle tick", 1, &stamps, None),
+        run("g  8,000 steps, 05h of 1 tick each", 32, &worked, None),
+        run("g  8,000 steps, a stamp each", 32, &stamped, None),
         single("f  single events", &mix[..SINGLE], false),
         single("f  single events, lent chip", &mix[..SINGLE], true),
     ]

@@ -150,16 +150,17 @@ fn number(ratio: Option<f64>) -> String {
 pub fn table(engine: &mut Linked, rows: &[Row]) -> Result<(), String> {
     println!("medians of {ROUNDS} rounds, as ratios");
     println!("  {:<36}{:>12}{:>12}{:>12}", "engine to", "plain model", "plain fill", "at most");
-    let mut idle = Vec::new();
+    let mut ticks = Vec::new();
     for row in rows {
         let ours = line(engine, row)?;
-        if row.words.starts_with('e') {
-            idle.push(ours);
+        if row.words.starts_with(['e', 'g']) {
+            ticks.push(ours);
         }
     }
-    if let [many, few, stamps] = idle[..] {
+    if let [many, few, stamps, worked, stamped] = ticks[..] {
         println!("  e, the engine itself, 65,535 idle ticks to 1: {:.2}", many / few);
-        println!("  e, the engine itself, a stamp to 1 idle tick: {:.2}", stamps / few);
+        println!("  e, the engine itself, a stamp of 1 idle tick to an 05h: {:.2}", stamps / few);
+        println!("  g, the engine itself, a stamp of 1 working tick to an 05h: {:.2}", stamped / worked);
     }
     println!("  {:<36}{:>12}{:>12}{:>12}", "engine with a report to", "without", "", "at most");
     for row in rows.iter().filter(|row| row.words.starts_with(['a', 'b', 'c', 'd'])) {

@@ -11,7 +11,7 @@ ghost use Rattle.chip.specs.Chip.{fresh};
 ghost use Rattle.sfdp.specs.Reader.{foundOf};
 ghost use Rattle.writer.specs.Writer.{answerOf, outputOf};
 ghost use Rattle.boundary.specs.Numbers.{kindOf, kindNumber, kindValue, flagNumber, isStateOf, chipOf, numbersOf, legalNumbers};
-ghost use Rattle.boundary.specs.Answers.{padded, noState, refusedEvent, doneEvent, eventOf, eventMemory, refusedRun, doneRun, runNumbers, runOf, runMemory, runOutput, noStateReport, reportRunOf, reportMemory, reportOutput, reportNumbers, tableNumbers, areaNumbers, writtenNumbers};
+ghost use Rattle.boundary.specs.Answers.{padded, noState, refusedEvent, doneEvent, eventOf, eventMemory, refusedRun, doneRun, runOf, runMemory, runOutput, noStateReport, reportRunOf, reportMemory, reportOutput, reportNumbers, tableNumbers, areaNumbers, writtenNumbers};
 use chip::Chip;
 use chip::Core;
 use chip::Frame;
@@ -327,16 +327,6 @@ fn run_done(a: Ran) -> RunNumbers
     }
 }
 
-// The answer to a run on the chip that some numbers mean: refused, these numbers come back.
-fn run_numbers(given: ChipNumbers, a: Ran) -> RunNumbers
-    ensures { λ r. ⌜ r ≡ runNumbers given a ⌝ }
-{
-    if a.refusal != 0 {
-        return refuse_run(given, a.refusal, a.offset);
-    }
-    run_done(a)
-}
-
 // What refuses a run with a report on numbers that are no state: an allowance before all else.
 fn no_state_report(n: usize, extent: usize, allowances: Allowances) -> u8
     ensures { λ r. ⌜ r ≡ noStateReport allowances n extent ⌝ }
@@ -426,7 +416,11 @@ pub extern "C" fn chip_run(
     if !is_state(c.flags, c.kind) {
         return refuse_run(c, no_state(mem.len(), area.len()), 0);
     }
-    run_numbers(c, script::run(chip_of(c), mem, area, script, out))
+    let a = script::run(chip_of(c), mem, area, script, out);
+    if a.refusal != 0 {
+        return refuse_run(c, a.refusal, a.offset);
+    }
+    run_done(a)
 }
 
 // A script run with a margin report, for every state, memory, area, script, output, allowances and report.
@@ -455,8 +449,14 @@ pub extern "C" fn chip_run_report(
     let a = script::run_with_report(chip_of(c), mem, area, script, out, allowances, report);
     let ran = a.ran;
     let counted = a.report;
+    if ran.refusal != 0 {
+        return ReportedNumbers {
+            run: refuse_run(c, ran.refusal, ran.offset),
+            report: counted,
+        };
+    }
     ReportedNumbers {
-        run: run_numbers(c, ran),
+        run: run_done(ran),
         report: counted,
     }
 }

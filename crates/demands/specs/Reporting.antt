@@ -1,7 +1,7 @@
 -- What a run with a margin report promises, of any reporter over a runner: refusal 18, the plain run's answer, and each line of the report in numbers
 -- (RULES, The margin report). Which jobs a run began and ended, and the ticks that each used, is the list `jobsOf`; `Reports` in `meets` says what is true of it.
 use Prim.Native.Nat.{ℕ, _+_, _<_, _≤_, min}
-use mathlib.Core.Bool.{Bool, true, false, cond}
+use mathlib.Core.Bool.{cond}
 use mathlib.Core.List.{List, [], _∷_}
 use mathlib.Core.Path.{_≡_}
 use mathlib.Core.Logic.{_↔_, _⊎_}

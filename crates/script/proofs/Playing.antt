@@ -29,13 +29,13 @@ use Rattle.frame.specs.Frame.{exchange, exchanged}
 use Rattle.event.specs.Event.{Outcome, outcome, settleExchange, applied, tick, sortOf}
 use Rattle.event.specs.Laws.{applied-exchange, says-its-kind, said-room}
 use Rattle.script.specs.declared.Watch.{Watch}
-use Rattle.script.specs.Script.{Event, eventAt, events, eventsFrom, played, timed, clockAfter, isStamp, firstBad, room}
-use Rattle.script.specs.Run.{World, world, after, onward, runs, Stored, Playable, Played, finished, done}
+use Rattle.script.specs.Script.{Event, eventAt, eventsFrom, played, timed, clockAfter, isStamp, firstBad, room}
+use Rattle.script.specs.Run.{World, world, after, runs, Stored, Playable, Played, finished, done}
 use Rattle.script.specs.Jobs.{Finished, Followed, nothing, follows, jobs, jobsOf, tickByTick, oneTick, isTwo}
 use Rattle.script.specs.Report.{reportAfter}
 use Rattle.script.specs.Watch.{ticking, ticksOf, clockBy, watch, afterEvent, afterTicks, Reports}
-use Rattle.script.specs.Laws.{exchange-body, exchange-next, exchange-clock, no-fault, clean-later, clean-event, good-event, Good, room-more, stored-none, timed-none, runs-more, runs-none, clock-stays}
-use Rattle.script.specs.WatchLaws.{clock-as, plain-ticking, plain-clock, ticks-most, ticks-few, runs-ticking, jobs-ticking, jobs-plain, NotTicking, not-ticking, watch-ticks, watch-event, watch-stays, line-not-two, event-modest, ticks-modest, unwatched-ticks, Watches, Keeps, isOn}
+use Rattle.script.specs.Laws.{exchange-body, exchange-next, no-fault, clean-later, clean-event, good-event, Good, room-more, stored-none, timed-none, runs-more, runs-none, clock-stays}
+use Rattle.script.specs.WatchLaws.{clock-as, plain-ticking, plain-clock, ticks-most, ticks-few, runs-ticking, jobs-ticking, jobs-plain, not-ticking, watch-ticks, watch-event, watch-stays, line-not-two, event-modest, ticks-modest, unwatched-ticks, Watches, isOn}
 
 -- ---- the run
 

@@ -1,6 +1,6 @@
 -- The jobs that a run begins and ends, with the ticks that each used: read off its events one by one, tick by tick (RULES, The margin report).
 use Prim.Native.Nat.{ℕ, _+_}
-use mathlib.Core.Bool.{Bool, true, false, cond, not, _&&_}
+use mathlib.Core.Bool.{Bool, false, cond, not, _&&_}
 use mathlib.Core.List.{List, [], _∷_, _++_}
 use lib.Dec.{eqb}
 use lib.ListN.{replicate}

@@ -14,11 +14,11 @@ use Rattle.cells.specs.Put.{Put}
 use Rattle.cells.specs.PutLaws.{put-between}
 use Rattle.part.specs.Part.{permitted, sectorsIn, Setting, setting}
 use Rattle.part.specs.Area.{longestArea}
-use Rattle.kinds.specs.Kinds.{EXCHANGE, TICK, TICKS, STAMP, kindRowIn, kindRow, knownInScript, bodyLength, inRange, roomOf}
+use Rattle.kinds.specs.Kinds.{EXCHANGE, STAMP, kindRowIn, kindRow, knownInScript, bodyLength, inRange, roomOf}
 use Rattle.kinds.specs.Body.{bodyAt, nextAt}
 use Rattle.kinds.specs.Laws.{body-one, exchange-range}
 use Rattle.clock.specs.declared.Clock.{Clock}
-use Rattle.clock.specs.Clock.{unset, shows, movedOn, wentBack}
+use Rattle.clock.specs.Clock.{unset, movedOn, wentBack}
 use Rattle.chip.specs.declared.Chip.{Chip}
 use Rattle.legal.specs.Legal.{legal}
 use Rattle.chip.specs.declared.Record.{Record}

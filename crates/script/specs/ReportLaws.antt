@@ -1,5 +1,5 @@
 -- What is true of a run with a report: each way that it goes, the report over two scripts, and how wide a margin can be.
-use Prim.Native.Nat.{ℕ, _≤_}
+use Prim.Native.Nat.{ℕ}
 use mathlib.Core.Bool.{true, false, cond}
 use mathlib.Core.List.{List, [], _∷_, _++_}
 use mathlib.Core.Path.{_≡_, refl, sym, ap, _∙_}
@@ -12,7 +12,7 @@ use Rattle.chip.specs.declared.Chip.{Chip}
 use Rattle.margins.specs.declared.Allowances.{Allowances}
 use Rattle.margins.specs.declared.Report.{Report}
 use Rattle.margins.specs.Margins.{allowed, tidied}
-use Rattle.margins.specs.Laws.{tidied-tidied, tidied-counted}
+use Rattle.margins.specs.Laws.{tidied-counted}
 use Rattle.script.specs.Script.{Refusal, refusalOf}
 use Rattle.script.specs.Run.{refusal, refused, answerOf, memoryOf, outputOf}
 use Rattle.script.specs.Jobs.{Finished, jobsOf}

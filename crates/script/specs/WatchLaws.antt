@@ -3,7 +3,7 @@ use Prim.Native.Nat.{ℕ, zero, suc, _+_, _*_, _<_, _≤_}
 use mathlib.Core.Bool.{Bool, true, false, cond, not, _&&_, _||_, false≢true}
 use mathlib.Core.List.{List, [], _∷_, _++_}
 use mathlib.Core.Path.{_≡_, refl, sym, ap, subst, _∙_}
-use native.Mathlib.Nat.{add-zero, add-assoc}
+use native.Mathlib.Nat.{add-zero}
 use native.Mathlib.Omega.{arith}
 use native.Mathlib.Decide.{ℕ-discrete}
 use lib.Dec.{eqb, ltb, leb}
@@ -24,19 +24,18 @@ use Rattle.chip.specs.declared.Record.the-variants.{Nothing, Floating, Driven, 
 use Rattle.chip.specs.Job.{isJob, total}
 use Rattle.chip.specs.Chip.{whole, running}
 use Rattle.job.specs.Tick.{advanced, suspends, ended, tickCore, ticksCore, ticksLoad, ticksMemory, worked}
-use Rattle.job.specs.Laws.{ticks-add, ticksLoad-add, ticksMemory-add, worked-add, ticks-rest, ticksLoad-rest, ticksMemory-rest, worked-rest, ended-none}
+use Rattle.job.specs.Laws.{ticks-add, ticksLoad-add, ticksMemory-add, worked-add, ticks-rest, worked-rest, ended-none}
 use Rattle.margins.specs.declared.Allowances.{Allowances}
 use Rattle.margins.specs.declared.Report.{Report}
 use Rattle.event.specs.Event.{Outcome, applied, tick, sortOf}
-use Rattle.event.specs.Laws.{says-its-kind}
 use Rattle.script.specs.declared.Watch.{Watch}
-use Rattle.script.specs.Script.{Event, eventAt, eventsFrom, events, isStamp, clockAfter, ticksGiven, given, timed, played}
+use Rattle.script.specs.Script.{Event, eventAt, eventsFrom, isStamp, clockAfter, ticksGiven, timed}
 use Rattle.script.specs.Run.{World, after, runs}
-use Rattle.script.specs.Jobs.{oneTick, singly, tickByTick, Finished, Followed, nothing, follows, tickMore, isTwo, stands, followedAfter, finished, endedBy, jobs, jobsOf}
-use Rattle.script.specs.Report.{countedJob, reportAfter}
+use Rattle.script.specs.Jobs.{oneTick, tickByTick, Finished, Followed, nothing, follows, tickMore, isTwo, stands, finished, jobs}
+use Rattle.script.specs.Report.{reportAfter}
 use Rattle.margins.specs.Margins.{allowanceOf, margin, counted}
 use Rattle.script.specs.Watch.{ticking, ticksOf, clockBy, watch, afterEvent, afterTicks}
-use Rattle.script.specs.Laws.{timed-more, timed-none, given-itself, clock-stays, runs-more, runs-stamp}
+use Rattle.script.specs.Laws.{timed-more, given-itself, clock-stays, runs-more, runs-stamp}
 
 one-more : (n : ℕ) → suc n ≡ 1 + n
 one-more n = omega arith

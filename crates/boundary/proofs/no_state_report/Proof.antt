@@ -1,3 +1,4 @@
+-- `boundary::no_state_report` meets its contract. 18 first, and then the number of the plain calls.
 use mathlib.Core.Path.{sym, _∙_}
 use borrow.Author.Tests.{not-true, not-false}
 use Rattle.cells.specs.Choice.{cond-yes, cond-no}
@@ -5,25 +6,17 @@ use Rattle.boundary.specs.Answers.{noStateReport}
 use borrow.Author.Needs.{needs}
 use Rattle.boundary.proofs.no_state_report.Statement.{statement}
 use Rattle.boundary.proofs.no_state_report.Tie as tie
-use Rattle.boundary.proofs.no_state_report.Reads as reads
-use Rattle.boundary.proofs.no_state_report.Lts as lts
-use Rattle.boundary.proofs.no_state.Reads as no-state-reads
-use Rattle.margins.proofs.are_allowed.Reads as are-allowed-reads
 
--- src/lib.rt:344:9
 are-allowed-requires : tie.Need-are-allowed-requires
 are-allowed-requires c κs = search needs
 
--- src/lib.rt:345:9
 returns : tie.Need-returns
 unfolding noStateReport
 returns c = sym (cond-no _ _ _ (sym (c .before .are-allowed .ensures) ∙ not-true _ (c .if1 .taken)))
 
--- src/lib.rt:347:5
 no-state-requires : tie.Need-no-state-requires
 no-state-requires c κs = search needs
 
--- src/lib.rt:341:1
 returns-2 : tie.Need-returns-2
 unfolding noStateReport
 returns-2 c = c .no-state .ensures ∙ sym (cond-yes _ _ _ (sym (c .before .before .are-allowed .ensures) ∙ not-false _ (c .before .if1 .left)))

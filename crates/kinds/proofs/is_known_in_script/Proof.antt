@@ -1,8 +1,5 @@
 -- `kinds::is_known_in_script` meets its contract. The two tests joined are what the rows say (`script-as`).
-use mathlib.Core.Bool.{_||_}
-use mathlib.Core.Path.{sym, ap, _∙_}
-use lib.Dec.{eqb}
-use Rattle.kinds.specs.Kinds.{STAMP}
+use mathlib.Core.Path.{sym}
 use Rattle.kinds.specs.Laws.{script-as}
 use borrow.Author.Needs.{needs}
 use Rattle.kinds.proofs.is_known_in_script.Statement.{statement}

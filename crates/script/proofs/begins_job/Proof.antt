@@ -1,48 +1,37 @@
+-- `script::begins_job` meets its contract. By the record.
 use mathlib.Core.Path.{sym, ap}
 use Rattle.script.specs.Jobs.{isTwo}
 use borrow.Author.Needs.{needs}
 use Rattle.script.proofs.begins_job.Statement.{statement}
 use Rattle.script.proofs.begins_job.Tie as tie
-use Rattle.script.proofs.begins_job.Reads as reads
-use Rattle.script.proofs.begins_job.Lts as lts
 
--- src/lib.rt:227:28
 enum-told : tie.Need-enum-told
 enum-told c = search needs
 
--- src/lib.rt:228:29
 enum-told-2 : tie.Need-enum-told-2
 enum-told-2 c = search needs
 
--- src/lib.rt:229:30
 enum-told-3 : tie.Need-enum-told-3
 enum-told-3 c = search needs
 
--- src/lib.rt:230:25
 enum-known-said : tie.Need-enum-known-said
 enum-known-said c = search needs
 
--- src/lib.rt:231:35
 enum-told-4 : tie.Need-enum-told-4
 enum-told-4 c = search needs
 
--- src/lib.rt:223:1
 returns : tie.Need-returns
 returns c = search needs
 
--- src/lib.rt:223:1
 returns-2 : tie.Need-returns-2
 returns-2 c = search needs
 
--- src/lib.rt:223:1
 returns-3 : tie.Need-returns-3
 returns-3 c = search needs
 
--- src/lib.rt:223:1
 returns-4 : tie.Need-returns-4
 returns-4 c = ap isTwo (sym (c .before .said .given .1))
 
--- src/lib.rt:223:1
 returns-5 : tie.Need-returns-5
 returns-5 c = search needs
 

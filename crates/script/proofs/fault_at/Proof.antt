@@ -1,8 +1,7 @@
+-- `script::fault_at` meets its contract. 5, 4, 6 and 8 in that order, each early return after the ones before it passed.
 use mathlib.Core.Path.{sym, ap, _∙_}
 use native.Mathlib.Omega.{arith}
 use borrow.Author.Tests.{not-true, not-false}
-use lib.ListN.{length}
-use Prim.Native.Nat.{_<_, _≤_}
 use Rattle.kinds.specs.Laws.{step-inside}
 use Rattle.script.specs.Laws.{fault-five, fault-four, fault-six, fault-eight, fault-none-forward, fault-none-other}
 use Rattle.kinds.specs.Kinds.{inRange}
@@ -10,67 +9,46 @@ use Rattle.clock.specs.Clock.{wentBack}
 use borrow.Author.Needs.{needs}
 use Rattle.script.proofs.fault_at.Statement.{statement}
 use Rattle.script.proofs.fault_at.Tie as tie
-use Rattle.script.proofs.fault_at.Reads as reads
-use Rattle.script.proofs.fault_at.Lts as lts
-use Rattle.clock.proofs.went_back.Reads as went-back-reads
-use Rattle.kinds.proofs.body_at.Reads as body-at-reads
-use Rattle.kinds.proofs.is_in_range.Reads as is-in-range-reads
-use Rattle.kinds.proofs.is_known_in_script.Reads as is-known-in-script-reads
-use Rattle.kinds.proofs.next_at.Reads as next-at-reads
 
--- src/lib.rt:65:16
 shared-slice-read-kind : tie.Need-shared-slice-read-kind
 shared-slice-read-kind c = search needs
 
--- src/lib.rt:65:16
 cast-kind : tie.Need-cast-kind
 cast-kind c = omega (arith, c .before .shared-slice-known .given (c .before .before .args .at))
 
--- src/lib.rt:66:9
 is-known-in-script-requires : tie.Need-is-known-in-script-requires
 is-known-in-script-requires c κs = search needs
 
--- src/lib.rt:67:9
 returns : tie.Need-returns
 returns c = sym (fault-five _ _ _ (sym (c .before .is-known-in-script .ensures) ∙ not-true _ (c .if1 .taken)))
 
--- src/lib.rt:69:18
 next-at-requires : tie.Need-next-at-requires
 next-at-requires c κs = search needs
 
--- src/lib.rt:70:9
 returns-2 : tie.Need-returns-2
 returns-2 c = sym (fault-four _ _ _ (sym (c .before .before .before .is-known-in-script .ensures) ∙ not-false _ (c .before .before .if1 .left)) (omega (arith, c .if2 .taken, c .before .next-at .ensures, step-inside (c .before .before .before .before .before .before .args .s .now) (c .before .before .before .before .before .before .args .at) (c .before .before .before .before .before .before .pre))))
 
--- src/lib.rt:72:9
 body-at-requires : tie.Need-body-at-requires
 body-at-requires c κs = search needs
 
--- src/lib.rt:73:9
 is-in-range-requires : tie.Need-is-in-range-requires
 is-in-range-requires c κs = search needs
 
--- src/lib.rt:74:9
 returns-3 : tie.Need-returns-3
 returns-3 c = sym (fault-six _ _ _ (sym (c .before .before .before .before .before .before .is-known-in-script .ensures) ∙ not-false _ (c .before .before .before .before .before .if1 .left)) (omega (arith, c .before .before .before .if2 .left, c .before .before .before .before .next-at .ensures, step-inside (c .before .before .before .before .before .before .before .before .before .args .s .now) (c .before .before .before .before .before .before .before .before .before .args .at) (c .before .before .before .before .before .before .before .before .before .pre))) (ap (inRange _) (sym (c .before .before .body-at .ensures .0)) ∙ sym (c .before .is-in-range .ensures) ∙ not-true _ (c .if3 .taken)))
 
--- src/lib.rt:77:36
 cast-went-back : tie.Need-cast-went-back
 cast-went-back c = omega (arith, c .before .before .before .body-at .ensures .1)
 
--- src/lib.rt:77:12
 went-back-requires : tie.Need-went-back-requires
 went-back-requires c κs = search needs
 
--- src/lib.rt:78:13
 returns-4 : tie.Need-returns-4
 returns-4 c = sym (fault-eight _ _ _ (sym (c .before .before .before .before .before .before .before .before .before .is-known-in-script .ensures) ∙ not-false _ (c .before .before .before .before .before .before .before .before .if1 .left)) (omega (arith, c .before .before .before .before .before .before .if2 .left, c .before .before .before .before .before .before .before .next-at .ensures, step-inside (c .before .before .before .before .before .before .before .before .before .before .before .before .args .s .now) (c .before .before .before .before .before .before .before .before .before .before .before .before .args .at) (c .before .before .before .before .before .before .before .before .before .before .before .before .pre))) (ap (inRange _) (sym (c .before .before .before .before .before .body-at .ensures .0)) ∙ sym (c .before .before .before .before .is-in-range .ensures) ∙ not-false _ (c .before .before .before .if3 .left)) (c .before .before .if4 .taken) (ap (wentBack _) (sym (c .before .before .before .before .before .body-at .ensures .0)) ∙ sym (c .before .went-back .ensures) ∙ c .if5 .taken))
 
--- src/lib.rt:61:1
 returns-5 : tie.Need-returns-5
 returns-5 c = sym (fault-none-forward _ _ _ (sym (c .before .before .before .before .before .before .before .before .before .is-known-in-script .ensures) ∙ not-false _ (c .before .before .before .before .before .before .before .before .if1 .left)) (omega (arith, c .before .before .before .before .before .before .if2 .left, c .before .before .before .before .before .before .before .next-at .ensures, step-inside (c .before .before .before .before .before .before .before .before .before .before .before .before .args .s .now) (c .before .before .before .before .before .before .before .before .before .before .before .before .args .at) (c .before .before .before .before .before .before .before .before .before .before .before .before .pre))) (ap (inRange _) (sym (c .before .before .before .before .before .body-at .ensures .0)) ∙ sym (c .before .before .before .before .is-in-range .ensures) ∙ not-false _ (c .before .before .before .if3 .left)) (ap (wentBack _) (sym (c .before .before .before .before .before .body-at .ensures .0)) ∙ sym (c .before .went-back .ensures) ∙ c .if5 .left))
 
--- src/lib.rt:61:1
 returns-6 : tie.Need-returns-6
 returns-6 c = sym (fault-none-other _ _ _ (sym (c .before .before .before .before .before .before .before .is-known-in-script .ensures) ∙ not-false _ (c .before .before .before .before .before .before .if1 .left)) (omega (arith, c .before .before .before .before .if2 .left, c .before .before .before .before .before .next-at .ensures, step-inside (c .before .before .before .before .before .before .before .before .before .before .args .s .now) (c .before .before .before .before .before .before .before .before .before .before .args .at) (c .before .before .before .before .before .before .before .before .before .before .pre))) (ap (inRange _) (sym (c .before .before .before .body-at .ensures .0)) ∙ sym (c .before .before .is-in-range .ensures) ∙ not-false _ (c .before .if3 .left)) (c .if4 .left))
 

@@ -1,6 +1,6 @@
 -- `script::margin` meets its contract. Both numbers are far below 2^31, and so is the difference on either side of zero (`margin-fits`).
 use Prim.Native.Nat.{ℕ, _<_}
-use mathlib.Core.Path.{_≡_, sym, ap, _∙_}
+use mathlib.Core.Path.{_≡_, ap, _∙_}
 use native.Mathlib.Omega.{arith}
 use lib.IntN.{ℤ, pos, _-ℤ_}
 use mir.Syntax.{w32}

@@ -1,3 +1,4 @@
+-- `script::play` meets its contract. What is left of the script, run from here, comes to what the whole script comes to (`Playing`), and the jobs told from here on to the whole report (`Watching`); each turn is one event of it, a data byte an exchange by `exchanged-stream`, ticks of any kind by `ticks-turn`, those that find nothing to do by `idle-turn`. Beside it stands whether a job runs or is followed.
 use Prim.Native.Nat.{_+_, _<_, _-_}
 use mathlib.Core.Bool.{Bool, true, false, not, _&&_, _||_}
 use mathlib.Core.Path.{_≡_, refl, sym, _∙_, ap}
@@ -8,7 +9,7 @@ use lib.ListN.{length, getD}
 use Rattle.cells.specs.Choice.{and-left, and-right, either-false}
 use Rattle.part.specs.Part.{setting}
 use Rattle.kinds.specs.Kinds.{TICK, TICKS}
-use Rattle.kinds.specs.Body.{nextAt, bodyAt}
+use Rattle.kinds.specs.Body.{nextAt}
 use Rattle.kinds.specs.Laws.{step-inside}
 use Rattle.chip.specs.Chip.{whole, running}
 use Rattle.frame.specs.StreamLaws.{exchanged-stream}
@@ -18,24 +19,6 @@ use Rattle.script.proofs.Playing.{Playing, starts, good, finds-room, ex
 use borrow.Author.Needs.{needs}
 use Rattle.script.proofs.play.Statement.{statement}
 use Rattle.script.proofs.play.Tie as tie
-use Rattle.script.proofs.play.Reads as reads
-use Rattle.script.proofs.play.Lts as lts
-use Rattle.chip.proofs.is_running.Reads as is-running-reads
-use Rattle.event.proofs.step.Reads as step-reads
-use Rattle.frame.proofs.exchange.Reads as exchange-reads
-use Rattle.frame.proofs.stream.Reads as stream-reads
-use Rattle.frame.proofs.streams.Reads as streams-reads
-use Rattle.job.proofs.ticks.Reads as ticks-reads
-use Rattle.kinds.proofs.body_at.Reads as body-at-reads
-use Rattle.kinds.proofs.next_at.Reads as next-at-reads
-use Rattle.script.proofs.clock_after.Reads as clock-after-reads
-use Rattle.script.proofs.finished.Reads as finished-reads
-use Rattle.script.proofs.is_ticking.Reads as is-ticking-reads
-use Rattle.script.proofs.no_stamp.Reads as no-stamp-reads
-use Rattle.script.proofs.put.Reads as put-reads
-use Rattle.script.proofs.ticks_of.Reads as ticks-of-reads
-use Rattle.script.proofs.watch_event.Reads as watch-event-reads
-use Rattle.script.proofs.watch_ticks.Reads as watch-ticks-reads
 
 or-false : (b : Bool) → (b || false) ≡ b
 or-false true = refl
@@ -47,89 +30,68 @@ Inv-loop mem₀ script out₀ sectors area allowances core₀ frame₀ load₀ h
 abbrev μ-loop : tie.MeasureT-loop
 μ-loop mem₀ script out₀ sectors area allowances core₀ frame₀ load₀ held₀ busy₀ clock₀ watch₀ at₀ pos₀ ticks₀ mem out core frame load held busy clock watch at pos ticks = length script - at
 
--- src/lib.rt:329:9
 is-running-requires : tie.Need-is-running-requires Inv-loop μ-loop
 is-running-requires c κs = search needs
 
--- src/lib.rt:330:9
 no-stamp-requires : tie.Need-no-stamp-requires Inv-loop μ-loop
 no-stamp-requires c κs = search needs
 
--- src/lib.rt:339:5
 loop-holds : tie.Need-loop-holds Inv-loop μ-loop
 loop-holds c = (rw (c .no-stamp .ensures) (starts _ _ _ _ _ (c .before .before .before .before .before .before .before .before .before .before .pre .1)), c .before .is-running .ensures ∙ sym (or-false _), rw (c .no-stamp .ensures) (watch-starts _ _ _ _ _ _))
 
--- src/lib.rt:340:20
 shared-slice-read-kind : tie.Need-shared-slice-read-kind Inv-loop μ-loop
 shared-slice-read-kind c = search needs
 
--- src/lib.rt:340:20
 cast-kind : tie.Need-cast-kind Inv-loop μ-loop
 cast-kind c = omega (arith, c .shared-slice-known3 .given (c .before .before .loop .at))
 
--- src/lib.rt:342:28
 add-b : tie.Need-add-b Inv-loop μ-loop
 add-b c = omega (arith, exchange-inside (c .before .before .before .loop .inv .0) (c .before .before .loop-test .taken) (c .if1 .taken))
 
--- src/lib.rt:342:21
 shared-slice-read-b : tie.Need-shared-slice-read-b Inv-loop μ-loop
 shared-slice-read-b c = omega (arith, exchange-inside (c .before .before .before .before .loop .inv .0) (c .before .before .before .loop-test .taken) (c .before .if1 .taken))
 
--- src/lib.rt:343:16
 streams-requires : tie.Need-streams-requires Inv-loop μ-loop
 streams-requires c κs = search needs
 
--- src/lib.rt:344:21
 stream-requires : tie.Need-stream-requires Inv-loop μ-loop
 stream-requires c κs = search needs
 
--- src/lib.rt:346:17
 put-requires : tie.Need-put-requires Inv-loop μ-loop
 put-requires c κs = exchange-finds-room (c .before .before .before .before .before .before .before .before .before .before .loop .inv .0) (c .before .before .before .before .before .before .before .before .before .loop-test .taken) (c .before .before .before .before .before .before .before .if1 .taken) (c .before .before .before .before .before .before .shared-slice-known4 .given (c .before .before .before .before .before .before .before .before .before .before .loop .at + 1) .fits) _ _ _ (c .before .stream .ensures ∙ sym (exchanged-stream _ _ _ _ _ _ (sym (c .before .before .before .before .before .streams .ensures) ∙ c .before .before .before .before .if2 .taken)))
 
--- src/lib.rt:348:17
 add-at : tie.Need-add-at Inv-loop μ-loop
 add-at c = omega (arith, exchange-inside (c .before .before .before .before .before .before .before .before .before .before .before .before .before .before .loop .inv .0) (c .before .before .before .before .before .before .before .before .before .before .before .before .before .loop-test .taken) (c .before .before .before .before .before .before .before .before .before .before .before .if1 .taken))
 
--- src/lib.rt:339:5
 loop-less : tie.Need-loop-less Inv-loop μ-loop
 loop-less c = omega (arith, c .before .before .before .before .before .before .before .before .before .before .before .before .before .loop-test .taken)
 
--- src/lib.rt:339:5
 loop-again : tie.Need-loop-again Inv-loop μ-loop
 loop-again c = (exchange-turns (c .before .before .before .before .before .before .before .before .before .before .before .before .before .before .loop .inv .0) (c .before .before .before .before .before .before .before .before .before .before .before .before .before .loop-test .taken) (c .before .before .before .before .before .before .before .before .before .before .before .if1 .taken) (c .before .before .before .before .before .before .before .before .before .before .shared-slice-known4 .given (c .before .before .before .before .before .before .before .before .before .before .before .before .before .before .loop .at + 1) .fits) _ _ _ (c .before .before .before .before .before .stream .ensures ∙ sym (exchanged-stream _ _ _ _ _ _ (sym (c .before .before .before .before .before .before .before .before .before .streams .ensures) ∙ c .before .before .before .before .before .before .before .before .if2 .taken))) _ _ (c .before .before .before .put .ensures) (c .before .before .before .put .kept .0), c .before .before .before .before .before .before .before .before .before .before .before .before .before .before .loop .inv .1, exchange-watched (c .before .before .before .before .before .before .before .before .before .before .before .before .before .before .loop .inv .2) (c .before .before .before .before .before .before .before .before .before .before .before .before .before .loop-test .taken) (c .before .before .before .before .before .before .before .before .before .before .before .if1 .taken) _ _ _ (heard-is (c .before .before .before .before .before .before .before .before .before .before .before .before .before .before .loop .inv .0) (c .before .before .before .before .before .before .before .before .before .before .before .before .before .loop-test .taken) (c .before .before .before .before .before .before .before .before .before .before .before .if1 .taken) (c .before .before .before .before .before .before .before .before .before .before .shared-slice-known4 .given (c .before .before .before .before .before .before .before .before .before .before .before .before .before .before .loop .at + 1) .fits) _ _ _ (c .before .before .before .before .before .stream .ensures ∙ sym (exchanged-stream _ _ _ _ _ _ (sym (c .before .before .before .before .before .before .before .before .before .streams .ensures) ∙ c .before .before .before .before .before .before .before .before .if2 .taken)))))
 
--- src/lib.rt:352:17
 exchange-requires : tie.Need-exchange-requires Inv-loop μ-loop
 exchange-requires c κs = search needs
 
--- src/lib.rt:354:13
 put-requires-2 : tie.Need-put-requires-2 Inv-loop μ-loop
 put-requires-2 c κs = exchange-finds-room (c .before .before .before .before .before .before .before .before .before .before .loop .inv .0) (c .before .before .before .before .before .before .before .before .before .loop-test .taken) (c .before .before .before .before .before .before .before .if1 .taken) (c .before .before .before .before .before .before .shared-slice-known4 .given (c .before .before .before .before .before .before .before .before .before .before .loop .at + 1) .fits) _ _ _ (c .before .exchange .ensures)
 
--- src/lib.rt:356:13
 add-at-2 : tie.Need-add-at-2 Inv-loop μ-loop
 add-at-2 c = omega (arith, exchange-inside (c .before .before .before .before .before .before .before .before .before .before .before .before .before .before .loop .inv .0) (c .before .before .before .before .before .before .before .before .before .before .before .before .before .loop-test .taken) (c .before .before .before .before .before .before .before .before .before .before .before .if1 .taken))
 
--- src/lib.rt:339:5
 loop-less-2 : tie.Need-loop-less-2 Inv-loop μ-loop
 loop-less-2 c = omega (arith, c .before .before .before .before .before .before .before .before .before .before .before .before .before .loop-test .taken)
 
--- src/lib.rt:339:5
 loop-again-2 : tie.Need-loop-again-2 Inv-loop μ-loop
 loop-again-2 c = (exchange-turns (c .before .before .before .before .before .before .before .before .before .before .before .before .before .before .loop .inv .0) (c .before .before .before .before .before .before .before .before .before .before .before .before .before .loop-test .taken) (c .before .before .before .before .before .before .before .before .before .before .before .if1 .taken) (c .before .before .before .before .before .before .before .before .before .before .shared-slice-known4 .given (c .before .before .before .before .before .before .before .before .before .before .before .before .before .before .loop .at + 1) .fits) _ _ _ (c .before .before .before .before .before .exchange .ensures) _ _ (c .before .before .before .put2 .ensures) (c .before .before .before .put2 .kept .0), c .before .before .before .before .before .before .before .before .before .before .before .before .before .before .loop .inv .1, exchange-watched (c .before .before .before .before .before .before .before .before .before .before .before .before .before .before .loop .inv .2) (c .before .before .before .before .before .before .before .before .before .before .before .before .before .loop-test .taken) (c .before .before .before .before .before .before .before .before .before .before .before .if1 .taken) _ _ _ (heard-is (c .before .before .before .before .before .before .before .before .before .before .before .before .before .before .loop .inv .0) (c .before .before .before .before .before .before .before .before .before .before .before .before .before .loop-test .taken) (c .before .before .before .before .before .before .before .before .before .before .before .if1 .taken) (c .before .before .before .before .before .before .before .before .before .before .shared-slice-known4 .given (c .before .before .before .before .before .before .before .before .before .before .before .before .before .before .loop .at + 1) .fits) _ _ _ (c .before .before .before .before .before .exchange .ensures)))
 
--- src/lib.rt:360:13
 next-at-requires : tie.Need-next-at-requires Inv-loop μ-loop
 next-at-requires c κs = search needs
 
--- src/lib.rt:339:5
 loop-less-3 : tie.Need-loop-less-3 Inv-loop μ-loop
 loop-less-3 c =
     let next : c .next-at .result ≡ nextAt (c .before .before .before .before .before .before .before .before .before .before .before .before .before .before .before .before .args .script .now) (c .before .before .before .before .before .loop .at) = c .next-at .ensures ∙ step-inside (c .before .before .before .before .before .before .before .before .before .before .before .before .before .before .before .before .args .script .now) (c .before .before .before .before .before .loop .at) (c .before .before .before .before .loop-test .taken) in
     omega (arith, next, c .before .before .before .before .loop-test .taken)
 
--- src/lib.rt:339:5
 loop-again-3 : tie.Need-loop-again-3 Inv-loop μ-loop
 loop-again-3 c =
     let next : c .next-at .result ≡ nextAt (c .before .before .before .before .before .before .before .before .before .before .before .before .before .before .before .before .args .script .now) (c .before .before .before .before .before .loop .at) = c .next-at .ensures ∙ step-inside (c .before .before .before .before .before .before .before .before .before .before .before .before .before .before .before .before .args .script .now) (c .before .before .before .before .before .loop .at) (c .before .before .before .before .loop-test .taken) in
@@ -142,41 +104,32 @@ loop-again-3 c =
       rw next (plain-idle-watched (c .before .before .before .before .before .loop .inv .2) (c .before .before .before .before .loop-test .taken) (good (c .before .before .before .before .before .loop .inv .0) (c .before .before .before .before .loop-test .taken) .ranged) plain (idle .0) (idle .1)),
     )
 
--- src/lib.rt:363:13
 body-at-requires : tie.Need-body-at-requires Inv-loop μ-loop
 body-at-requires c κs = search needs
 
--- src/lib.rt:364:12
 is-ticking-requires : tie.Need-is-ticking-requires Inv-loop μ-loop
 is-ticking-requires c κs = search needs
 
--- src/lib.rt:365:43
 cast-ticks-of : tie.Need-cast-ticks-of Inv-loop μ-loop
 cast-ticks-of c = omega (arith, c .before .before .body-at .ensures .1)
 
--- src/lib.rt:365:17
 ticks-of-requires : tie.Need-ticks-of-requires Inv-loop μ-loop
 ticks-of-requires c κs = search needs
 
--- src/lib.rt:366:46
 cast-clock-after : tie.Need-cast-clock-after Inv-loop μ-loop
 cast-clock-after c = omega (arith, c .before .before .before .body-at .ensures .1)
 
--- src/lib.rt:366:13
 clock-after-requires : tie.Need-clock-after-requires Inv-loop μ-loop
 clock-after-requires c κs = search needs
 
--- src/lib.rt:368:17
 next-at-requires-2 : tie.Need-next-at-requires-2 Inv-loop μ-loop
 next-at-requires-2 c κs = search needs
 
--- src/lib.rt:339:5
 loop-less-4 : tie.Need-loop-less-4 Inv-loop μ-loop
 loop-less-4 c =
     let next : c .next-at2 .result ≡ nextAt (c .before .before .before .before .before .before .before .before .before .before .before .before .before .before .before .before .before .before .before .before .before .before .args .script .now) (c .before .before .before .before .before .before .before .before .before .before .before .loop .at) = c .next-at2 .ensures ∙ step-inside (c .before .before .before .before .before .before .before .before .before .before .before .before .before .before .before .before .before .before .before .before .before .before .args .script .now) (c .before .before .before .before .before .before .before .before .before .before .before .loop .at) (c .before .before .before .before .before .before .before .before .before .before .loop-test .taken) in
     omega (arith, next, c .before .before .before .before .before .before .before .before .before .before .loop-test .taken)
 
--- src/lib.rt:339:5
 loop-again-4 : tie.Need-loop-again-4 Inv-loop μ-loop
 loop-again-4 c =
     let next : c .next-at2 .result ≡ nextAt (c .before .before .before .before .before .before .before .before .before .before .before .before .before .before .before .before .before .before .before .before .before .before .args .script .now) (c .before .before .before .before .before .before .before .before .before .before .before .loop .at) = c .next-at2 .ensures ∙ step-inside (c .before .before .before .before .before .before .before .before .before .before .before .before .before .before .before .before .before .before .before .before .before .before .args .script .now) (c .before .before .before .before .before .before .before .before .before .before .before .loop .at) (c .before .before .before .before .before .before .before .before .before .before .loop-test .taken) in
@@ -187,11 +140,9 @@ loop-again-4 c =
       rw next (idle-watched (c .before .before .before .before .before .before .before .before .before .before .before .loop .inv .2) (c .before .before .before .before .before .before .before .before .before .before .loop-test .taken) ticking _ (c .before .before .before .before .before .before .body-at .ensures .0) _ (c .before .before .before .ticks-of .ensures .0) (c .before .before .before .ticks-of .ensures .1) _ (c .before .before .clock-after .ensures) (idle .0) (idle .1)),
     )
 
--- src/lib.rt:371:17
 ticks-requires : tie.Need-ticks-requires Inv-loop μ-loop
 ticks-requires c κs = search needs
 
--- src/lib.rt:372:13
 watch-ticks-requires : tie.Need-watch-ticks-requires Inv-loop μ-loop
 watch-ticks-requires c κs =
     let ticking = sym (c .before .before .before .before .before .before .before .before .before .is-ticking .ensures) ∙ c .before .before .before .before .before .before .before .before .if4 .taken in
@@ -201,31 +152,25 @@ watch-ticks-requires c κs =
       omega (arith, c .before .before .ticks .ensures .working, worked-most (c .before .before .before .before .before .before .before .before .before .before .before .before .before .before .before .before .before .before .before .before .before .before .before .before .before .before .args .sectors) (c .before .before .before .before .before .before .before .ticks-of .result) (c .before .before .before .before .before .before .before .before .before .before .before .before .before .before .before .loop .core)),
     )
 
--- src/lib.rt:374:20
 is-running-requires-2 : tie.Need-is-running-requires-2 Inv-loop μ-loop
 is-running-requires-2 c κs = search needs
 
--- src/lib.rt:375:22
 cast-ticks : tie.Need-cast-ticks Inv-loop μ-loop
 cast-ticks c = search needs
 
--- src/lib.rt:375:13
 add-ticks : tie.Need-add-ticks Inv-loop μ-loop
 add-ticks c =
     let t : c .before .before .before .before .before .before .before .ticks .result .worked < 4294967296 = search needs in
     omega (arith, c .before .before .before .before .before .before .before .before .before .before .before .before .before .before .before .before .before .before .before .before .loop .inv .0 .few, c .before .before .before .before .before .before .before .before .before .before .before .before .before .before .before .before .before .before .before .before .loop .inv .0 .inside, c .before .before .before .before .before .before .before .before .before .before .before .before .before .before .before .before .before .before .before .before .loop .inv .0 .short)
 
--- src/lib.rt:376:13
 next-at-requires-3 : tie.Need-next-at-requires-3 Inv-loop μ-loop
 next-at-requires-3 c κs = search needs
 
--- src/lib.rt:339:5
 loop-less-5 : tie.Need-loop-less-5 Inv-loop μ-loop
 loop-less-5 c =
     let next : c .next-at3 .result ≡ nextAt (c .before .before .before .before .before .before .before .before .before .before .before .before .before .before .before .before .before .before .before .before .before .before .before .before .before .before .before .before .before .before .before .before .args .script .now) (c .before .before .before .before .before .before .before .before .before .before .before .before .before .before .before .before .before .before .before .before .before .loop .at) = c .next-at3 .ensures ∙ step-inside (c .before .before .before .before .before .before .before .before .before .before .before .before .before .before .before .before .before .before .before .before .before .before .before .before .before .before .before .before .before .before .before .before .args .script .now) (c .before .before .before .before .before .before .before .before .before .before .before .before .before .before .before .before .before .before .before .before .before .loop .at) (c .before .before .before .before .before .before .before .before .before .before .before .before .before .before .before .before .before .before .before .before .loop-test .taken) in
     omega (arith, next, c .before .before .before .before .before .before .before .before .before .before .before .before .before .before .before .before .before .before .before .before .loop-test .taken)
 
--- src/lib.rt:339:5
 loop-again-5 : tie.Need-loop-again-5 Inv-loop μ-loop
 loop-again-5 c =
     let next : c .next-at3 .result ≡ nextAt (c .before .before .before .before .before .before .before .before .before .before .before .before .before .before .before .before .before .before .before .before .before .before .before .before .before .before .before .before .before .before .before .before .args .script .now) (c .before .before .before .before .before .before .before .before .before .before .before .before .before .before .before .before .before .before .before .before .before .loop .at) = c .next-at3 .ensures ∙ step-inside (c .before .before .before .before .before .before .before .before .before .before .before .before .before .before .before .before .before .before .before .before .before .before .before .before .before .before .before .before .before .before .before .before .args .script .now) (c .before .before .before .before .before .before .before .before .before .before .before .before .before .before .before .before .before .before .before .before .before .loop .at) (c .before .before .before .before .before .before .before .before .before .before .before .before .before .before .before .before .before .before .before .before .loop-test .taken) in
@@ -235,47 +180,37 @@ loop-again-5 c =
       rw (next, c .before .before .before .before .before .watch-ticks .ensures) (ticks-watched (c .before .before .before .before .before .before .before .before .before .before .before .before .before .before .before .before .before .before .before .before .before .loop .inv .2) (c .before .before .before .before .before .before .before .before .before .before .before .before .before .before .before .before .before .before .before .before .loop-test .taken) ticking _ (c .before .before .before .before .before .before .before .before .before .before .before .before .before .before .before .before .body-at .ensures .0) _ (c .before .before .before .before .before .before .before .before .before .before .before .before .before .ticks-of .ensures .0) (c .before .before .before .before .before .before .before .before .before .before .before .before .before .ticks-of .ensures .1) _ (c .before .before .before .before .before .before .before .before .before .before .before .before .clock-after .ensures) _ _ _ _ (c .before .before .before .before .before .before .before .before .ticks .ensures)),
     )
 
--- src/lib.rt:389:13
 cast-step : tie.Need-cast-step Inv-loop μ-loop
 cast-step c = omega (arith, c .before .before .before .before .before .body-at .ensures .1)
 
--- src/lib.rt:380:13
 step-requires : tie.Need-step-requires Inv-loop μ-loop
 step-requires c κs = search needs
 
--- src/lib.rt:392:9
 put-requires-3 : tie.Need-put-requires-3 Inv-loop μ-loop
 put-requires-3 c κs = finds-room (c .before .before .before .before .before .before .before .before .before .before .before .before .before .before .loop .inv .0) (c .before .before .before .before .before .before .before .before .before .before .before .before .before .loop-test .taken) _ (c .before .before .before .step .ensures ∙ ap (applied _ _ _ _) (c .before .before .before .before .before .before .before .before .before .body-at .ensures .0))
 
--- src/lib.rt:393:9
 watch-event-requires : tie.Need-watch-event-requires Inv-loop μ-loop
 watch-event-requires c κs = search needs
 
--- src/lib.rt:395:16
 is-running-requires-3 : tie.Need-is-running-requires-3 Inv-loop μ-loop
 is-running-requires-3 c κs = search needs
 
--- src/lib.rt:397:18
 cast-ticks-2 : tie.Need-cast-ticks-2 Inv-loop μ-loop
 cast-ticks-2 c = search needs
 
--- src/lib.rt:397:9
 add-ticks-2 : tie.Need-add-ticks-2 Inv-loop μ-loop
 add-ticks-2 c =
     let t : c .before .before .before .before .before .before .before .before .before .before .before .before .step .result .ticks < 4294967296 = search needs in
     omega (arith, c .before .before .before .before .before .before .before .before .before .before .before .before .before .before .before .before .before .before .before .before .before .before .before .loop .inv .0 .few, c .before .before .before .before .before .before .before .before .before .before .before .before .before .before .before .before .before .before .before .before .before .before .before .loop .inv .0 .inside, c .before .before .before .before .before .before .before .before .before .before .before .before .before .before .before .before .before .before .before .before .before .before .before .loop .inv .0 .short)
 
--- src/lib.rt:398:9
 next-at-requires-4 : tie.Need-next-at-requires-4 Inv-loop μ-loop
 next-at-requires-4 c κs = search needs
 
--- src/lib.rt:339:5
 loop-less-6 : tie.Need-loop-less-6 Inv-loop μ-loop
 loop-less-6 c =
     let next : c .next-at4 .result ≡ nextAt (c .before .before .before .before .before .before .before .before .before .before .before .before .before .before .before .before .before .before .before .before .before .before .before .before .before .before .before .before .before .before .before .before .before .before .before .args .script .now) (c .before .before .before .before .before .before .before .before .before .before .before .before .before .before .before .before .before .before .before .before .before .before .before .before .loop .at) = c .next-at4 .ensures ∙ step-inside (c .before .before .before .before .before .before .before .before .before .before .before .before .before .before .before .before .before .before .before .before .before .before .before .before .before .before .before .before .before .before .before .before .before .before .before .args .script .now) (c .before .before .before .before .before .before .before .before .before .before .before .before .before .before .before .before .before .before .before .before .before .before .before .before .loop .at) (c .before .before .before .before .before .before .before .before .before .before .before .before .before .before .before .before .before .before .before .before .before .before .before .loop-test .taken) in
     omega (arith, next, c .before .before .before .before .before .before .before .before .before .before .before .before .before .before .before .before .before .before .before .before .before .before .before .loop-test .taken)
 
--- src/lib.rt:339:5
 loop-again-6 : tie.Need-loop-again-6 Inv-loop μ-loop
 loop-again-6 c =
     let next : c .next-at4 .result ≡ nextAt (c .before .before .before .before .before .before .before .before .before .before .before .before .before .before .before .before .before .before .before .before .before .before .before .before .before .before .before .before .before .before .before .before .before .before .before .args .script .now) (c .before .before .before .before .before .before .before .before .before .before .before .before .before .before .before .before .before .before .before .before .before .before .before .before .loop .at) = c .next-at4 .ensures ∙ step-inside (c .before .before .before .before .before .before .before .before .before .before .before .before .before .before .before .before .before .before .before .before .before .before .before .before .before .before .before .before .before .before .before .before .before .before .before .args .script .now) (c .before .before .before .before .before .before .before .before .before .before .before .before .before .before .before .before .before .before .before .before .before .before .before .before .loop .at) (c .before .before .before .before .before .before .before .before .before .before .before .before .before .before .before .before .before .before .before .before .before .before .before .loop-test .taken) in
@@ -286,19 +221,15 @@ loop-again-6 c =
       rw (next, c .before .before .before .before .before .before .watch-event .ensures) (event-watched (c .before .before .before .before .before .before .before .before .before .before .before .before .before .before .before .before .before .before .before .before .before .before .before .before .loop .inv .2) (c .before .before .before .before .before .before .before .before .before .before .before .before .before .before .before .before .before .before .before .before .before .before .before .loop-test .taken) other _ _ _ _ _ _ _ does),
     )
 
--- src/lib.rt:402:14
 finished-requires : tie.Need-finished-requires Inv-loop μ-loop
 finished-requires c κs = search needs
 
--- src/lib.rt:311:1
 same-length : tie.Need-same-length Inv-loop μ-loop
 same-length c = c .before .before .before .loop .inv .0 .memory
 
--- src/lib.rt:311:1
 same-length-2 : tie.Need-same-length-2 Inv-loop μ-loop
 same-length-2 c = c .before .before .before .loop .inv .0 .output
 
--- src/lib.rt:311:1
 returns : tie.Need-returns Inv-loop μ-loop
 returns c = (rw (c .finished .ensures) (ends (c .before .before .before .loop .inv .0) (c .before .before .loop-test .left)), reports (c .before .before .before .loop .inv .2) (c .before .before .loop-test .left))
 

@@ -1,3 +1,4 @@
+-- `script::run` meets its contract. Refused: all as it was. Done: nothing refused it, so the script can be played, and what that comes to is the world after the run.
 use mathlib.Core.Path.{_≡_, refl, sym, _∙_, ap}
 use mathlib.Core.List.{_++_}
 use lib.ListN.{length, drop}
@@ -10,23 +11,13 @@ use Rattle.script.specs.Laws.{accepted, answer-refused, memory-refused, 
 use borrow.Author.Needs.{needs}
 use Rattle.script.proofs.run.Statement.{statement}
 use Rattle.script.proofs.run.Tie as tie
-use Rattle.script.proofs.run.Reads as reads
-use Rattle.script.proofs.run.Lts as lts
-use Rattle.part.proofs.sectors_of.Reads as sectors-of-reads
-use Rattle.script.proofs.no_report.Reads as no-report-reads
-use Rattle.script.proofs.play.Reads as play-reads
-use Rattle.script.proofs.refuses.Reads as refuses-reads
-use Rattle.script.proofs.turned_away.Reads as turned-away-reads
 
--- src/lib.rt:522:9
 refuses-requires : tie.Need-refuses-requires
 refuses-requires c κs = search needs
 
--- src/lib.rt:524:9
 turned-away-requires : tie.Need-turned-away-requires
 turned-away-requires c κs = search needs
 
--- src/lib.rt:524:9
 returns : tie.Need-returns
 returns c =
     let no : refusal (c .before .before .before .before .before .before .before .before .args .chip) (length (c .before .before .before .before .before .before .before .before .args .mem .now)) (length (c .before .before .before .before .before .before .before .before .args .area .now)) (c .before .before .before .before .before .before .before .before .args .script .now) (length (c .before .before .before .before .before .before .before .before .args .out .now)) .number ≡ 0 → ⊥ = λ e. c .before .if1 .taken (ap (λ (r : Refusal). r .number) (c .before .before .before .refuses .ensures) ∙ e) in (
@@ -35,30 +26,24 @@ returns c =
       sym (output-refused _ _ _ _ _ no),
     )
 
--- src/lib.rt:538:9
 sectors-of-requires : tie.Need-sectors-of-requires
 sectors-of-requires c κs = search needs
 
--- src/lib.rt:541:9
 no-report-requires : tie.Need-no-report-requires
 no-report-requires c κs = search needs
 
--- src/lib.rt:533:9
 play-requires : tie.Need-play-requires
 unfolding allowed
 play-requires c κs =
     let ok : refusal (c .before .before .before .before .before .before .before .before .before .before .before .args .chip) (length (c .before .before .before .before .before .before .before .before .before .before .before .args .mem .now)) (length (c .before .before .before .before .before .before .before .before .before .before .before .args .area .now)) (c .before .before .before .before .before .before .before .before .before .before .before .args .script .now) (length (c .before .before .before .before .before .before .before .before .before .before .before .args .out .now)) .number ≡ 0 = sym (ap (λ (r : Refusal). r .number) (c .before .before .before .before .before .before .refuses .ensures)) ∙ c .before .before .before .before .if1 .left in
     (refl, accepted _ _ _ _ _ ok .script-playable)
 
--- src/lib.rt:516:1
 same-length : tie.Need-same-length
 same-length c = search needs
 
--- src/lib.rt:516:1
 same-length-2 : tie.Need-same-length-2
 same-length-2 c = search needs
 
--- src/lib.rt:516:1
 returns-2 : tie.Need-returns-2
 returns-2 c =
     let ok : refusal (c .before .before .before .before .before .before .before .before .before .before .before .before .before .before .before .before .before .args .chip) (length (c .before .before .before .before .before .before .before .before .before .before .before .before .before .before .before .before .before .args .mem .now)) (length (c .before .before .before .before .before .before .before .before .before .before .before .before .before .before .before .before .before .args .area .now)) (c .before .before .before .before .before .before .before .before .before .before .before .before .before .before .before .before .before .args .script .now) (length (c .before .before .before .before .before .before .before .before .before .before .before .before .before .before .before .before .before .args .out .now)) .number ≡ 0 = sym (ap (λ (r : Refusal). r .number) (c .before .before .before .before .before .before .before .before .before .before .before .before .refuses .ensures)) ∙ c .before .before .before .before .before .before .before .before .before .before .if1 .left in

@@ -1,3 +1,4 @@
+-- `script::run_with_report` meets its contract. 18 before all else; refused: all as it was, the report too; done: what playing comes to, and the report after its jobs.
 use mathlib.Core.Path.{_≡_, sym, _∙_, ap}
 use mathlib.Core.List.{_++_}
 use mathlib.Core.Bool.{true, false}
@@ -15,29 +16,16 @@ use Rattle.script.specs.ReportLaws.{answer-18, memory-18, output-18, rep
 use borrow.Author.Needs.{needs}
 use Rattle.script.proofs.run_with_report.Statement.{statement}
 use Rattle.script.proofs.run_with_report.Tie as tie
-use Rattle.script.proofs.run_with_report.Reads as reads
-use Rattle.script.proofs.run_with_report.Lts as lts
-use Rattle.margins.proofs.are_allowed.Reads as are-allowed-reads
-use Rattle.margins.proofs.start_from.Reads as start-from-reads
-use Rattle.part.proofs.sectors_of.Reads as sectors-of-reads
-use Rattle.script.proofs.play.Reads as play-reads
-use Rattle.script.proofs.refuse.Reads as refuse-reads
-use Rattle.script.proofs.refuses.Reads as refuses-reads
-use Rattle.script.proofs.turned_away.Reads as turned-away-reads
 
--- src/lib.rt:456:9
 are-allowed-requires : tie.Need-are-allowed-requires
 are-allowed-requires c κs = search needs
 
--- src/lib.rt:458:36
 refuse-requires : tie.Need-refuse-requires
 refuse-requires c κs = search needs
 
--- src/lib.rt:458:18
 turned-away-requires : tie.Need-turned-away-requires
 turned-away-requires c κs = search needs
 
--- src/lib.rt:457:9
 returns : tie.Need-returns
 returns c =
     let bad : allowed (c .before .before .before .before .before .before .before .before .args .allowances) ≡ false = sym (c .before .before .before .are-allowed .ensures) ∙ not-true _ (c .before .before .if1 .taken) in (
@@ -47,15 +35,12 @@ returns c =
       sym (report-18 _ _ _ _ _ _ bad _),
     )
 
--- src/lib.rt:463:9
 refuses-requires : tie.Need-refuses-requires
 refuses-requires c κs = search needs
 
--- src/lib.rt:466:18
 turned-away-requires-2 : tie.Need-turned-away-requires-2
 turned-away-requires-2 c κs = search needs
 
--- src/lib.rt:465:9
 returns-2 : tie.Need-returns-2
 returns-2 c =
     let good : allowed (c .before .before .before .before .before .before .before .before .before .before .args .allowances) ≡ true = sym (c .before .before .before .before .before .are-allowed .ensures) ∙ not-false _ (c .before .before .before .before .if1 .left) in
@@ -66,29 +51,23 @@ returns-2 c =
       sym (report-refused _ _ _ _ _ _ good _ no),
     )
 
--- src/lib.rt:475:9
 sectors-of-requires : tie.Need-sectors-of-requires
 sectors-of-requires c κs = search needs
 
--- src/lib.rt:478:9
 start-from-requires : tie.Need-start-from-requires
 start-from-requires c κs = search needs
 
--- src/lib.rt:470:5
 play-requires : tie.Need-play-requires
 play-requires c κs =
     let ok : refusal (c .before .before .before .before .before .before .before .before .before .before .before .before .before .args .chip) (length (c .before .before .before .before .before .before .before .before .before .before .before .before .before .args .mem .now)) (length (c .before .before .before .before .before .before .before .before .before .before .before .before .before .args .area .now)) (c .before .before .before .before .before .before .before .before .before .before .before .before .before .args .script .now) (length (c .before .before .before .before .before .before .before .before .before .before .before .before .before .args .out .now)) .number ≡ 0 = sym (ap (λ (r : Refusal). r .number) (c .before .before .before .before .before .before .refuses .ensures)) ∙ c .before .before .before .before .if2 .left in
     (sym (c .before .before .before .before .before .before .before .before .are-allowed .ensures) ∙ not-false _ (c .before .before .before .before .before .before .before .if1 .left), accepted _ _ _ _ _ ok .script-playable)
 
--- src/lib.rt:442:1
 same-length : tie.Need-same-length
 same-length c = search needs
 
--- src/lib.rt:442:1
 same-length-2 : tie.Need-same-length-2
 same-length-2 c = search needs
 
--- src/lib.rt:442:1
 returns-3 : tie.Need-returns-3
 returns-3 c =
     let good : allowed (c .before .before .before .before .before .before .before .before .before .before .before .before .before .before .before .before .before .before .args .allowances) ≡ true = sym (c .before .before .before .before .before .before .before .before .before .before .before .before .before .are-allowed .ensures) ∙ not-false _ (c .before .before .before .before .before .before .before .before .before .before .before .before .if1 .left) in

@@ -1,6 +1,7 @@
+-- `script::scan` meets its contract. No event passed was bad by the clock that it found, so the first bad one lies ahead; the room counted and the room ahead are the whole. A whole exchange is never bad.
 use Prim.Native.Nat.{ℕ, _≤_, _<_, _+_, _*_, _-_}
 use mathlib.Core.Bool.{true, _&&_}
-use mathlib.Core.Path.{_≡_, refl, sym, _∙_, ap}
+use mathlib.Core.Path.{_≡_, sym, _∙_, ap}
 use native.Mathlib.Nat.{add-zero, add-assoc, zero-add}
 use native.Mathlib.Omega.{arith}
 use lib.Dec.{eqb, ltb}
@@ -19,14 +20,6 @@ use Rattle.script.specs.Laws.{firstBad-none, firstBad-here, firstBad-lat
 use borrow.Author.Needs.{needs}
 use Rattle.script.proofs.scan.Statement.{statement}
 use Rattle.script.proofs.scan.Tie as tie
-use Rattle.script.proofs.scan.Reads as reads
-use Rattle.script.proofs.scan.Lts as lts
-use Rattle.kinds.proofs.body_at.Reads as body-at-reads
-use Rattle.kinds.proofs.next_at.Reads as next-at-reads
-use Rattle.kinds.proofs.room_of.Reads as room-of-reads
-use Rattle.script.proofs.clock_after.Reads as clock-after-reads
-use Rattle.script.proofs.fault_at.Reads as fault-at-reads
-use Rattle.script.proofs.no_stamp.Reads as no-stamp-reads
 
 abbrev Inv-loop : tie.InvT-loop
 Inv-loop s at₀ space₀ clock₀ at space clock = (at ≤ length s) × (space ≤ mostRoom * at) × (firstBad unset (events s) ≡ firstBad clock (eventsFrom s at)) × (room (events s) ≡ space + room (eventsFrom s at))
@@ -34,43 +27,33 @@ Inv-loop s at₀ space₀ clock₀ at space clock = (at ≤ length s) × (space 
 abbrev μ-loop : tie.MeasureT-loop
 μ-loop s at₀ space₀ clock₀ at space clock = length s - at
 
--- src/lib.rt:115:9
 no-stamp-requires : tie.Need-no-stamp-requires Inv-loop μ-loop
 no-stamp-requires c κs = search needs
 
--- src/lib.rt:116:5
 loop-holds : tie.Need-loop-holds Inv-loop μ-loop
 loop-holds c = (search needs, search needs, ap (λ (k : Clock). firstBad k (eventsFrom (c .before .before .args .s .now) 0)) (sym (c .no-stamp .ensures)), sym (zero-add _))
 
--- src/lib.rt:118:13
 shared-slice-read-if1 : tie.Need-shared-slice-read-if1 Inv-loop μ-loop
 shared-slice-read-if1 c = search needs
 
--- src/lib.rt:118:13
 cast-if1 : tie.Need-cast-if1 Inv-loop μ-loop
 cast-if1 c = omega (arith, c .shared-slice-known2 .given (c .before .before .loop .at))
 
--- src/lib.rt:118:48
 add-if1 : tie.Need-add-if1 Inv-loop μ-loop
 add-if1 c = search needs
 
--- src/lib.rt:119:22
 room-of-requires : tie.Need-room-of-requires Inv-loop μ-loop
 room-of-requires c κs = search needs
 
--- src/lib.rt:119:13
 add-space : tie.Need-add-space Inv-loop μ-loop
 add-space c = omega (arith, c .before .before .before .before .loop .inv .1, c .before .before .before .before .before .before .before .pre)
 
--- src/lib.rt:120:13
 add-at : tie.Need-add-at Inv-loop μ-loop
 add-at c = omega (arith, c .before .before .before .before .loop .inv .0, c .before .before .before .before .before .before .before .pre)
 
--- src/lib.rt:116:5
 loop-less : tie.Need-loop-less Inv-loop μ-loop
 loop-less c = omega (arith, c .before .before .before .loop-test .taken)
 
--- src/lib.rt:116:5
 loop-again : tie.Need-loop-again Inv-loop μ-loop
 loop-again c =
     let s = c .before .before .before .before .before .before .before .args .s .now in
@@ -85,11 +68,9 @@ loop-again c =
       c .before .before .before .before .loop .inv .3 ∙ ap (λ (r : ℕ). c .before .before .before .before .loop .space + r) (exchange-room s at e (c .before .before .before .loop-test .taken)) ∙ rw (c .room-of .ensures .0) (sym (add-assoc (c .before .before .before .before .loop .space) (roomOf EXCHANGE) _)),
     )
 
--- src/lib.rt:123:13
 fault-at-requires : tie.Need-fault-at-requires Inv-loop μ-loop
 fault-at-requires c κs = search needs
 
--- src/lib.rt:125:13
 returns : tie.Need-returns Inv-loop μ-loop
 returns c =
     let is : c .before .fault-at .result ≡ faultBy (c .before .before .before .before .before .loop .clock) (eventAt (c .before .before .before .before .before .before .before .before .args .s .now) (c .before .before .before .before .before .loop .at)) = c .before .fault-at .ensures in
@@ -98,35 +79,27 @@ returns c =
       rooms = λ e. absurd (c .if2 .taken e);
     }
 
--- src/lib.rt:133:20
 shared-slice-read-kind : tie.Need-shared-slice-read-kind Inv-loop μ-loop
 shared-slice-read-kind c = search needs
 
--- src/lib.rt:133:20
 cast-kind : tie.Need-cast-kind Inv-loop μ-loop
 cast-kind c = omega (arith, c .shared-slice-known3 .given (c .before .before .before .before .before .before .loop .at))
 
--- src/lib.rt:135:46
 body-at-requires : tie.Need-body-at-requires Inv-loop μ-loop
 body-at-requires c κs = search needs
 
--- src/lib.rt:135:46
 cast-clock-after : tie.Need-cast-clock-after Inv-loop μ-loop
 cast-clock-after c = omega (arith, c .body-at .ensures .1)
 
--- src/lib.rt:135:13
 clock-after-requires : tie.Need-clock-after-requires Inv-loop μ-loop
 clock-after-requires c κs = search needs
 
--- src/lib.rt:136:13
 next-at-requires : tie.Need-next-at-requires Inv-loop μ-loop
 next-at-requires c κs = search needs
 
--- src/lib.rt:116:5
 loop-less-2 : tie.Need-loop-less-2 Inv-loop μ-loop
 loop-less-2 c = omega (arith, c .next-at .ensures, step-inside (c .before .before .before .before .before .before .before .before .before .before .before .before .before .args .s .now) (c .before .before .before .before .before .before .before .before .before .before .loop .at) (c .before .before .before .before .before .before .before .before .before .loop-test .taken))
 
--- src/lib.rt:116:5
 loop-again-2 : tie.Need-loop-again-2 Inv-loop μ-loop
 unfolding kindRow kindRowIn
 loop-again-2 c =
@@ -142,15 +115,12 @@ loop-again-2 c =
       c .before .before .before .before .before .before .before .before .before .before .loop .inv .3 ∙ ap (λ (r : ℕ). c .before .before .before .before .before .before .before .before .before .before .loop .space + r) (room-more s at (c .before .before .before .before .before .before .before .before .before .loop-test .taken) ∙ (λ i. silent i + room (eventsFrom s (sym next i))) ∙ zero-add _),
     )
 
--- src/lib.rt:141:13
 add-at-2 : tie.Need-add-at-2 Inv-loop μ-loop
 add-at-2 c = omega (arith, c .before .before .before .before .before .before .before .loop-test .taken, c .before .before .before .before .before .before .before .before .before .before .before .pre)
 
--- src/lib.rt:116:5
 loop-less-3 : tie.Need-loop-less-3 Inv-loop μ-loop
 loop-less-3 c = omega (arith, c .before .before .before .before .before .before .before .loop-test .taken)
 
--- src/lib.rt:116:5
 loop-again-3 : tie.Need-loop-again-3 Inv-loop μ-loop
 unfolding kindRow kindRowIn
 loop-again-3 c =
@@ -166,23 +136,18 @@ loop-again-3 c =
       c .before .before .before .before .before .before .before .before .loop .inv .3 ∙ ap (λ (r : ℕ). c .before .before .before .before .before .before .before .before .loop .space + r) (room-more s at (c .before .before .before .before .before .before .before .loop-test .taken) ∙ (λ i. silent i + room (eventsFrom s (sym next i))) ∙ zero-add _),
     )
 
--- src/lib.rt:144:18
 room-of-requires-2 : tie.Need-room-of-requires-2 Inv-loop μ-loop
 room-of-requires-2 c κs = search needs
 
--- src/lib.rt:144:9
 add-space-2 : tie.Need-add-space-2 Inv-loop μ-loop
 add-space-2 c = search needs
 
--- src/lib.rt:145:9
 next-at-requires-2 : tie.Need-next-at-requires-2 Inv-loop μ-loop
 next-at-requires-2 c κs = search needs
 
--- src/lib.rt:116:5
 loop-less-4 : tie.Need-loop-less-4 Inv-loop μ-loop
 loop-less-4 c = omega (arith, c .next-at2 .ensures, step-inside (c .before .before .before .before .before .before .before .before .before .before .before .before .before .args .s .now) (c .before .before .before .before .before .before .before .before .before .before .loop .at) (c .before .before .before .before .before .before .before .before .before .loop-test .taken))
 
--- src/lib.rt:116:5
 loop-again-4 : tie.Need-loop-again-4 Inv-loop μ-loop
 loop-again-4 c =
     let s = c .before .before .before .before .before .before .before .before .before .before .before .before .before .args .s .now in
@@ -196,7 +161,6 @@ loop-again-4 c =
       c .before .before .before .before .before .before .before .before .before .before .loop .inv .3 ∙ ap (λ (r : ℕ). c .before .before .before .before .before .before .before .before .before .before .loop .space + r) (room-more s at (c .before .before .before .before .before .before .before .before .before .loop-test .taken)) ∙ rw (next, c .before .room-of2 .ensures .0) (sym (add-assoc _ _ _)),
     )
 
--- src/lib.rt:109:1
 returns-2 : tie.Need-returns-2 Inv-loop μ-loop
 returns-2 c =
     record {

@@ -1,3 +1,4 @@
+-- `script::ticks_of` meets its contract. By the kind: one, those of a stamp, or the body.
 use mathlib.Core.Path.{sym, _∙_}
 use native.Mathlib.Omega.{arith}
 use borrow.Author.Tests.{eq-eqb, ne-eqb}
@@ -7,29 +8,21 @@ use Rattle.script.specs.Watch.{ticksOf}
 use borrow.Author.Needs.{needs}
 use Rattle.script.proofs.ticks_of.Statement.{statement}
 use Rattle.script.proofs.ticks_of.Tie as tie
-use Rattle.script.proofs.ticks_of.Reads as reads
-use Rattle.script.proofs.ticks_of.Lts as lts
-use Rattle.clock.proofs.moved_on.Reads as moved-on-reads
 
--- src/lib.rt:206:9
 returns : tie.Need-returns
 unfolding ticksOf
 returns c = (sym (cond-yes _ _ _ (eq-eqb _ _ (c .if1 .taken))), search needs)
 
--- src/lib.rt:209:16
 moved-on-requires : tie.Need-moved-on-requires
 moved-on-requires c κs = search needs
 
--- src/lib.rt:209:16
 cast-result : tie.Need-cast-result
 cast-result c = search needs
 
--- src/lib.rt:209:9
 returns-2 : tie.Need-returns-2
 unfolding ticksOf
 returns-2 c = (c .moved-on .ensures ∙ sym (cond-no _ _ _ (ne-eqb _ _ (c .before .before .if1 .left)) ∙ cond-yes _ _ _ (eq-eqb _ _ (c .before .if2 .taken))), omega (arith, c .moved-on .ensures, moved-most (c .before .before .before .args .clock) (c .before .before .before .args .body)))
 
--- src/lib.rt:202:1
 returns-3 : tie.Need-returns-3
 unfolding ticksOf
 returns-3 c = (sym (cond-no _ _ _ (ne-eqb _ _ (c .before .if1 .left)) ∙ cond-no _ _ _ (ne-eqb _ _ (c .if2 .left))), omega (arith, c .before .before .fits .body))

@@ -1,10 +1,11 @@
+-- `script::watch_ticks` meets its contract. Each early return is a case of the definition; the margin of a job that ended fits.
 use mir.Syntax.{w32}
 use mir.Facts.{toZ-ofZ}
-use borrow.Author.Tests.{not-true, not-false}
+use borrow.Author.Tests.{not-false}
 use Prim.Native.Nat.{_+_}
 use Rattle.margins.specs.Margins.{counted, margin}
 use mathlib.Core.Path.{sym, ap, _∙_}
-use mathlib.Core.Bool.{not, false}
+use mathlib.Core.Bool.{false}
 use native.Mathlib.Omega.{arith}
 use Rattle.cells.specs.Choice.{cond-yes, cond-no}
 use Rattle.margins.specs.Laws.{allowed-most}
@@ -12,48 +13,33 @@ use Rattle.script.specs.Watch.{afterTicks, watch}
 use borrow.Author.Needs.{needs}
 use Rattle.script.proofs.watch_ticks.Statement.{statement}
 use Rattle.script.proofs.watch_ticks.Tie as tie
-use Rattle.script.proofs.watch_ticks.Reads as reads
-use Rattle.script.proofs.watch_ticks.Lts as lts
-use Rattle.chip.proofs.is_job.Reads as is-job-reads
-use Rattle.margins.proofs.allowance_of.Reads as allowance-of-reads
-use Rattle.margins.proofs.count.Reads as count-reads
-use Rattle.script.proofs.margin.Reads as margin-reads
 
--- src/lib.rt:268:9
 returns : tie.Need-returns
 unfolding afterTicks
 returns c = sym (cond-yes _ _ _ (c .if1 .taken))
 
--- src/lib.rt:273:8
 is-job-requires : tie.Need-is-job-requires
 is-job-requires c κs = search needs
 
--- src/lib.rt:274:21
 add-next : tie.Need-add-next
 add-next c = omega (arith, c .before .before .before .before .before .before .pre .1)
 
--- src/lib.rt:275:9
 returns-2 : tie.Need-returns-2
 unfolding afterTicks
 returns-2 c = (λ i. watch (not-false (c .before .before .before .before .before .before .args .watch .on) (c .before .before .before .before .if1 .left) i) (c .before .before .before .before .before .before .args .watch .used + c .before .before .before .before .before .before .args .n) (c .before .before .before .before .before .before .args .watch .report)) ∙ sym (cond-no _ _ _ (c .before .before .before .before .if1 .left) ∙ cond-yes _ _ _ (sym (c .before .before .is-job .ensures) ∙ c .before .if2 .taken))
 
--- src/lib.rt:281:9
 allowance-of-requires : tie.Need-allowance-of-requires
 allowance-of-requires c κs = search needs
 
--- src/lib.rt:282:9
 add-margin : tie.Need-add-margin
 add-margin c = omega (arith, c .before .before .before .before .before .before .before .before .before .pre .1, c .before .before .before .before .before .before .before .before .before .pre .2)
 
--- src/lib.rt:280:9
 margin-requires : tie.Need-margin-requires
 margin-requires c κs = (omega (arith, c .before .allowance-of .ensures, allowed-most (c .before .before .before .before .before .before .before .before .before .args .core .job .kind) (c .before .before .before .before .before .before .before .before .before .args .allowances) (c .before .before .before .before .before .before .before .before .before .pre .0)), omega (arith, c .before .before .before .before .before .before .before .before .before .pre .1, c .before .before .before .before .before .before .before .before .before .pre .2))
 
--- src/lib.rt:286:9
 count-requires : tie.Need-count-requires
 count-requires c κs = search needs
 
--- src/lib.rt:256:1
 returns-3 : tie.Need-returns-3
 unfolding afterTicks
 returns-3 c = ap (watch false 0) (c .count .ensures ∙ (λ i. counted (c .before .before .before .before .before .before .before .before .before .before .before .args .core .job .kind) ((toZ-ofZ {w = w32} (record { sfits = c .before .margin .ok }) ∙ c .before .margin .ensures ∙ (λ j. margin (c .before .before .before .allowance-of .ensures j) (c .before .before .before .before .before .before .before .before .before .before .before .args .watch .used + c .before .before .before .before .before .before .before .before .before .before .before .args .worked))) i) (c .before .before .before .before .before .before .before .before .before .before .before .args .watch .report))) ∙ sym (cond-no _ _ _ (c .before .before .before .before .before .before .before .before .before .if1 .left) ∙ cond-no _ _ _ (sym (c .before .before .before .before .before .before .before .is-job .ensures) ∙ c .before .before .before .before .before .before .if2 .left))
