@@ -15,6 +15,6 @@ shows stamp = record { set = true; stamp = stamp }
 unfoldable pub movedOn : Clock → ℕ → ℕ
 movedOn k stamp = cond (k .set) ((stamp + 65536 - k .stamp) % 65536) 0
 
--- a move of 32,768 or more is a counter that went back
+-- half the counter's range or more is taken for a move back
 unfoldable pub wentBack : Clock → ℕ → Bool
 wentBack k stamp = leb 32768 (movedOn k stamp)

@@ -94,7 +94,7 @@ pub record LineIs (old : Line) (margins : List ℤ) (new : Line) : Type 0 where
   pub count-is : new .count ≡ min (old .count + length margins) 4294967295
   -- no job ever: both margins are 0, whatever was handed in
   pub none-is : old .count ≡ 0 → length margins ≡ 0 → (new .smallest ≡ pos 0) × (new .largest ≡ pos 0)
-  -- the first jobs: margins that were handed in with a count of 0 are not read
+  -- the first jobs: what stood in a line whose count was 0 plays no part
   pub first-smallest : old .count ≡ 0 → 1 ≤ length margins → OneOf (new .smallest) margins × AtMostEach (new .smallest) margins
   pub first-largest : old .count ≡ 0 → 1 ≤ length margins → OneOf (new .largest) margins × AtLeastEach (new .largest) margins
   -- later ones join, each end on its own

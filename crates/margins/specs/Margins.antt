@@ -58,7 +58,7 @@ tidyLine l = cond (eqb (l .count) 0) (line 0 (pos 0) (pos 0)) l
 
 -- ---- the report
 
--- what a script starts from: margins handed in with a count of 0 are not read
+-- what a script starts from: the margins of a line whose count is 0 are forgotten
 abbrev pub tidied : Report → Report
 tidied r =
     record {
