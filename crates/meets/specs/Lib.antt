@@ -40,5 +40,4 @@ pub mod ScriptWords
 pub mod TableWords
 pub mod JobWords
 pub mod Reports
-pub mod ReportLines
 pub mod ReportMeets
