@@ -40,4 +40,5 @@ pub mod ScriptWords
 pub mod TableWords
 pub mod JobWords
 pub mod Reports
+pub mod JobLives
 pub mod ReportMeets

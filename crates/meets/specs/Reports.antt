@@ -1,7 +1,7 @@
 -- What a margin report tells of a run: the ticks of each job that it counts, where the job began, how far its margin can be, and one report over two scripts.
 use Prim.Native.Nat.{ℕ, zero, suc, _+_, _*_, _<_, _≤_, _%_}
 use mathlib.Core.Bool.{Bool, true, false, cond, not, _&&_, false≢true}
-use mathlib.Core.List.{List, [], _∷_, _++_, append-nil, append-assoc}
+use mathlib.Core.List.{List, [], _∷_, _++_, append-nil}
 use mathlib.Core.Path.{_≡_, refl, sym, ap, subst, _∙_}
 use mathlib.Core.Logic.{⊎-elim}
 use native.Mathlib.Nat.{add-zero}
@@ -18,7 +18,7 @@ use Rattle.part.specs.declared.Protected.{Protected}
 use Rattle.part.specs.declared.Protected.the-variants.{NoSector, Sectors}
 use Rattle.part.specs.Protection.{protectedSectors}
 use Rattle.commands.specs.Table.{reset}
-use Rattle.kinds.specs.Kinds.{EXCHANGE, DESELECT, TICK, TICKS, STAMP, kindRow, kindRowIn, knownInScript, bodyLength, inRange}
+use Rattle.kinds.specs.Kinds.{EXCHANGE, TICK, TICKS, STAMP, kindRow, kindRowIn, knownInScript, bodyLength, inRange}
 use Rattle.kinds.specs.Body.{bodyAt, nextAt}
 use Rattle.kinds.specs.Laws.{kind-each, none-in-script, range-small}
 use Rattle.clock.specs.declared.Clock.{Clock}
@@ -47,7 +47,7 @@ use Rattle.event.specs.Laws.{applied-each, applied-ticks, says-its-kind}
 use Rattle.event.specs.Keeps.{length-applied}
 use Rattle.event.specs.Leftovers.{reset-leaves-nothing}
 use Rattle.script.specs.Script.{Event, faultAt, eventAt, eventsFrom, events, clockAfter, ticksGiven, given, timed, played, firstBad}
-use Rattle.script.specs.Run.{World, world, does, after, onward, runs, refusal, worldAfter}
+use Rattle.script.specs.Run.{World, world, after, onward, runs, refusal, worldAfter}
 use Rattle.script.specs.Jobs.{oneTick, singly, tickByTick, Finished, Followed, nothing, follows, tickMore, isTwo, stands, followedAfter, finished, endedBy, jobs, jobsOf}
 use Rattle.script.specs.Report.{reportAfter, reportOf}
 use Rattle.script.specs.Watch.{mostUsed}
@@ -72,10 +72,10 @@ all-append P (j ∷ js) ks a b = (a .0, all-append P js ks (a .1) b)
 
 -- What each event of a row keeps, and what each job that it ends has by that, all the jobs of the row have.
 module _ (T : Setting) (P : Finished → Type 0) (Kept : List Event → Followed → Chip → List ℕ → Type 0) where
-  abbrev Passed : Event → List Event → Followed → Core → Outcome → Type 0
+  abbrev pub Passed : Event → List Event → Followed → Core → Outcome → Type 0
   Passed e es f k o = AllJobs P (endedBy e k o f) × Kept es (followedAfter e k o f) (o .chip) (o .memory)
 
-  jobs-each : ((e : Event) (es : List Event) (f : Followed) (c : Chip) (m : List ℕ) → Kept (e ∷ es) f c m → Passed e es f (c .core) (applied T c m (e .kind) (e .body)))
+  pub jobs-each : ((e : Event) (es : List Event) (f : Followed) (c : Chip) (m : List ℕ) → Kept (e ∷ es) f c m → Passed e es f (c .core) (applied T c m (e .kind) (e .body)))
       → (es : List Event) (f : Followed) (c : Chip) (m : List ℕ) → Kept es f c m → AllJobs P (jobs T f es c m)
   unfolding AllJobs jobs
   jobs-each step [] f c m kept = tt
@@ -454,181 +454,3 @@ run-tick-by-tick T (e ∷ es) w = runs-add T (singly e) (tickByTick es) w ∙ ap
         ∙ runs-singly T (e .body) (e .offset) w
         ∙ ap (after w) (sym (applied-ticks T (w .chip) (w .memory) (e .kind) (e .body) is))
     go (no is) = ap (λ (fs : List Event). runs T fs w) (cond-no (eqb (e .kind) TICKS) _ _ (ne-eqb _ _ is))
-
--- ---- where a job began
-
--- only a deselect says verdict 2
-two-deselects : (T : Setting) (c : Chip) (m : List ℕ) (kind body : ℕ) → isTwo (applied T c m kind body .said) ≡ true → kind ≡ DESELECT
-unfolding applied kindRow kindRowIn
-two-deselects T c m kind body =
-    applied-each T c m kind body (λ (o : Outcome). isTwo (o .said) ≡ true → kind ≡ DESELECT)
-    (λ _ two. absurd (false≢true two))
-    (λ _ two. absurd (false≢true (sym (line-not-two (exchangeByte T c m (body % 256) .said) (says-its-kind T c m EXCHANGE body)) ∙ two)))
-    (λ is _. is)
-    (λ _ two. absurd (false≢true two)) (λ _ two. absurd (false≢true two)) (λ _ two. absurd (false≢true two)) (λ _ two. absurd (false≢true two)) (λ _ two. absurd (false≢true two))
-
--- after each event of a row a job stands, and none of them began it
-unfoldable pub Undisturbed : Setting → List Event → World → Type 0
-Undisturbed T [] w = Unit {0}
-Undisturbed T (e ∷ es) w = (stands (does T e w .chip .core) ≡ true) × (isTwo (does T e w .said) ≡ false) × Undisturbed T es (onward T e w)
-
--- one event more
-undisturbed-more : (T : Setting) (es : List Event) (e : Event) (w : World) → Undisturbed T es w → stands (does T e (runs T es w) .chip .core) ≡ true → isTwo (does T e (runs T es w) .said) ≡ false
-    → Undisturbed T (es ++ (e ∷ [])) w
-unfolding Undisturbed runs
-undisturbed-more T [] e w u there other = (there, other, tt)
-undisturbed-more T (q ∷ es) e w u there other = (u .0, u .1, undisturbed-more T es e (onward T q w) (u .2) there other)
-
--- a row with one event more has a tick more if it is one
-ticks-more : (es : List Event) (e : Event) → ticksIn (es ++ (e ∷ [])) ≡ ticksIn es + cond (eqb (e .kind) TICK) 1 0
-unfolding ticksIn
-ticks-more [] e = omega arith
-ticks-more (q ∷ es) e = omega (arith, ticks-more es e)
-
--- a row ends in a job's begin and what came since: a deselect at an offset that says verdict 2, and events that leave the job, so many of them ticks
-pub record Since (T : Setting) (past : List Event) (w : World) (begin used : ℕ) : Type 0 where
-  pub before : List Event
-  pub event : Event
-  pub between : List Event
-  pub is-past : past ≡ before ++ (event ∷ between)
-  pub begins-at : event .offset ≡ begin
-  pub a-deselect : event .kind ≡ DESELECT
-  pub says-two : isTwo (does T event (runs T before w) .said) ≡ true
-  pub stands-then : stands (does T event (runs T before w) .chip .core) ≡ true
-  pub undisturbed : Undisturbed T between (onward T event (runs T before w))
-  pub ticks-since : ticksIn between ≡ used
-
--- a job's life in a row: such a begin, all but the last of its ticks since, and that last one, which finds a job of its kind and leaves none
-pub record Lived (T : Setting) (es : List Event) (w : World) (j : Finished) : Type 0 where
-  pub past : List Event
-  pub last : Event
-  pub behind : List Event
-  pub others : ℕ
-  pub in-the-row : es ≡ past ++ (last ∷ behind)
-  pub begun : Since T past w (j .begin) others
-  pub one-more : j .used ≡ others + 1
-  pub ends-at : last .offset ≡ j .end
-  pub a-tick : last .kind ≡ TICK
-  pub of-its-kind : runs T past w .chip .core .job .kind ≡ j .kind
-  pub over : stands (does T last (runs T past w) .chip .core) ≡ false
-
--- so it is of a job that is followed
-abbrev SinceIf : Setting → List Event → World → Followed → Type 0
-SinceIf T past w nothing = Unit {0}
-SinceIf T past w (follows begin used working suspended) = Since T past w begin used
-
--- the row up to here, the chip and the memory that it leaves, and the begin of what is followed
-record Reached (T : Setting) (es : List Event) (w : World) (rest : List Event) (c : Chip) (m : List ℕ) (f : Followed) : Type 0 where
-  past : List Event
-  split : es ≡ past ++ rest
-  chip-is : runs T past w .chip ≡ c
-  memory-is : runs T past w .memory ≡ m
-  since : SinceIf T past w f
-
-module _ (T : Setting) (es : List Event) (w : World) (e : Event) (rest : List Event) (c : Chip) (m : List ℕ) (f : Followed) (at : Reached T es w (e ∷ rest) c m f) where
-  abbrev o : Outcome
-  o = applied T c m (e .kind) (e .body)
-
-  abbrev past′ : List Event
-  past′ = at .past ++ (e ∷ [])
-
-  -- the event in the world that those before it leave is the event here
-  here : does T e (runs T (at .past) w) ≡ o
-  here = λ i. applied T (at .chip-is i) (at .memory-is i) (e .kind) (e .body)
-
-  -- an event that leaves the job is one more since its begin
-  since-more : (begin used : ℕ) → Since T (at .past) w begin used → stands (o .chip .core) ≡ true → isTwo (o .said) ≡ false → Since T past′ w begin (used + cond (eqb (e .kind) TICK) 1 0)
-  unfolding runs
-  since-more begin used s there other =
-      let same : runs T (s .between) (onward T (s .event) (runs T (s .before) w)) ≡ runs T (at .past) w = sym (ap (λ (q : List Event). runs T q w) (s .is-past) ∙ runs-add T (s .before) (s .event ∷ s .between) w) in
-      record {
-        before = s .before;
-        event = s .event;
-        between = s .between ++ (e ∷ []);
-        is-past = ap (λ (q : List Event). q ++ (e ∷ [])) (s .is-past) ∙ append-assoc (s .before) (s .event ∷ s .between) (e ∷ []);
-        begins-at = s .begins-at;
-        a-deselect = s .a-deselect;
-        says-two = s .says-two;
-        stands-then = s .stands-then;
-        undisturbed =
-            undisturbed-more T (s .between) e _ (s .undisturbed) (ap (λ (q : World). stands (does T e q .chip .core)) same ∙ ap (λ (q : Outcome). stands (q .chip .core)) here ∙ there)
-            (ap (λ (q : World). isTwo (does T e q .said)) same ∙ ap (λ (q : Outcome). isTwo (q .said)) here ∙ other);
-        ticks-since = ticks-more (s .between) e ∙ ap (λ (n : ℕ). n + cond (eqb (e .kind) TICK) 1 0) (s .ticks-since);
-      }
-
-  -- a verdict 2 is a begin
-  since-begun : stands (o .chip .core) ≡ true → isTwo (o .said) ≡ true → Since T past′ w (e .offset) 0
-  unfolding Undisturbed ticksIn
-  since-begun there two =
-      record {
-        before = at .past;
-        event = e;
-        between = [];
-        is-past = refl;
-        begins-at = refl;
-        a-deselect = two-deselects T c m (e .kind) (e .body) two;
-        says-two = ap (λ (q : Outcome). isTwo (q .said)) here ∙ two;
-        stands-then = ap (λ (q : Outcome). stands (q .chip .core)) here ∙ there;
-        undisturbed = tt;
-        ticks-since = refl;
-      }
-
-  -- a tick that leaves no job is an end
-  lived : (g : Followed) → SinceIf T (at .past) w g → eqb (e .kind) TICK ≡ true → stands (o .chip .core) ≡ false → AllJobs (Lived T es w) (finished (e .offset) (c .core .job .kind) (tickMore (c .core) g))
-  unfolding AllJobs
-  lived nothing s is gone = tt
-  lived (follows begin used working suspended) s is gone = (
-    record {
-      past = at .past;
-      last = e;
-      behind = rest;
-      others = used;
-      in-the-row = at .split;
-      begun = s;
-      one-more = refl;
-      ends-at = refl;
-      a-tick = eqb-true _ _ is;
-      of-its-kind = ap (λ (q : Chip). q .core .job .kind) (at .chip-is);
-      over = ap (λ (q : Outcome). stands (q .chip .core)) here ∙ gone;
-    },
-    tt,
-  )
-
-  -- what the event ends, and what is followed after it
-  ends : (ticks stays : Bool) → eqb (e .kind) TICK ≡ ticks → stands (o .chip .core) ≡ stays → AllJobs (Lived T es w) (cond (ticks && not stays) (finished (e .offset) (c .core .job .kind) (tickMore (c .core) f)) [])
-  unfolding AllJobs
-  ends true true is p = tt
-  ends true false is p = lived f (at .since) is p
-  ends false stays is p = tt
-
-  goes : (ticks stays two : Bool) → eqb (e .kind) TICK ≡ ticks → stands (o .chip .core) ≡ stays → isTwo (o .said) ≡ two → (g : Followed) → SinceIf T (at .past) w g
-      → SinceIf T past′ w (cond (not stays) nothing (cond two (follows (e .offset) 0 0 0) (cond ticks (tickMore (c .core) g) g)))
-  goes ticks false two is p q g s = tt
-  goes ticks true true is p q g s = since-begun p q
-  goes true true false is p q nothing s = tt
-  goes true true false is p q (follows begin used working suspended) s = subst (λ (b : Bool). Since T past′ w begin (used + cond b 1 0)) is (since-more begin used s p q)
-  goes false true false is p q nothing s = tt
-  goes false true false is p q (follows begin used working suspended) s =
-      subst (Since T past′ w begin) (ap (λ (b : Bool). used + cond b 1 0) is ∙ add-zero used) (since-more begin used s p q)
-
-  -- the row up to the event behind it
-  reached : Reached T es w rest (o .chip) (o .memory) (followedAfter e (c .core) o f)
-  unfolding runs
-  reached =
-      let next : runs T past′ w ≡ onward T e (runs T (at .past) w) = runs-add T (at .past) (e ∷ []) w in
-      record {
-        past = past′;
-        split = at .split ∙ sym (append-assoc (at .past) (e ∷ []) rest);
-        chip-is = ap (λ (v : World). v .chip) next ∙ ap (λ (q : Outcome). q .chip) here;
-        memory-is = ap (λ (v : World). v .memory) next ∙ ap (λ (q : Outcome). q .memory) here;
-        since = goes (eqb (e .kind) TICK) (stands (o .chip .core)) (isTwo (o .said)) refl refl refl f (at .since);
-      }
-
--- Every job that is told lived so: from a deselect with verdict 2 to the tick that ended it, it used the ticks after the one up to and with the other. A job that stood at the start is not told.
-pub job-begins : (T : Setting) (es : List Event) (w : World) → AllJobs (Lived T es w) (jobs T nothing es (w .chip) (w .memory))
-unfolding runs
-job-begins T es w =
-    jobs-each T (Lived T es w) (λ rest f c m. Reached T es w rest c m f)
-    (λ e rest f c m at.
-    (ends T es w e rest c m f at (eqb (e .kind) TICK) (stands (applied T c m (e .kind) (e .body) .chip .core)) refl refl, reached T es w e rest c m f at))
-    es nothing (w .chip) (w .memory) (record { past = []; split = refl; chip-is = refl; memory-is = refl; since = tt })
