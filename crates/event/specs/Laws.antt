@@ -65,6 +65,11 @@ applied-each T c m kind body P p₁ p₂ p₃ p₄ p₅ p₆ p₇ p₈ =
     (p₈ (ap knownKind e ∙ no)))
     kind refl
 
+-- a select, as an event
+pub applied-select : (T : Setting) (c : Chip) (m : List ℕ) (kind body : ℕ) → kind ≡ SELECT → applied T c m kind body ≡ select c m
+unfolding applied
+applied-select T c m kind body e = ap (λ (q : ℕ). applied T c m q body) e
+
 -- the exchange of a byte, as an event
 pub applied-exchange : (T : Setting) (c : Chip) (m : List ℕ) (kind b : ℕ) → kind ≡ EXCHANGE → b < 256 → applied T c m kind b ≡ exchangeByte T c m b
 unfolding applied

@@ -2,7 +2,7 @@
 -- and one turn of it.
 use Prim.Native.Nat.{ℕ, _+_, _*_, _<_, _≤_}
 use mathlib.Core.List.{List, [], _++_}
-use mathlib.Core.Bool.{true, false, _||_, false≢true}
+use mathlib.Core.Bool.{Bool, true, false, _||_, false≢true}
 use mathlib.Core.Path.{_≡_, refl, sym, ap, subst, _∙_}
 use native.Mathlib.Nat.{add-zero}
 use native.Mathlib.Omega.{arith}
@@ -10,7 +10,7 @@ use lib.Dec.{eqb}
 use lib.ListN.{length, getD, take, drop, replicate, take-append-drop}
 use lib.Seq.{drop-drop, length-take-le}
 use Rattle.part.specs.Part.{Setting}
-use Rattle.kinds.specs.Kinds.{EXCHANGE, TICK, TICKS, STAMP, roomOf, saysOf, inRange, kindRow, kindRowIn}
+use Rattle.kinds.specs.Kinds.{SELECT, EXCHANGE, TICK, TICKS, STAMP, roomOf, saysOf, inRange, kindRow, kindRowIn}
 use Rattle.kinds.specs.Body.{nextAt, bodyAt}
 use Rattle.clock.specs.declared.Clock.{Clock}
 use Rattle.clock.specs.Clock.{unset}
@@ -26,16 +26,16 @@ use Rattle.margins.specs.declared.Report.{Report}
 use Rattle.job.specs.Tick.{TicksAnswer, worked}
 use Rattle.job.specs.Laws.{answer-rests}
 use Rattle.frame.specs.Frame.{exchange, exchanged}
-use Rattle.event.specs.Event.{Outcome, outcome, settleExchange, applied, tick, sortOf}
-use Rattle.event.specs.Laws.{applied-exchange, says-its-kind, said-room}
+use Rattle.event.specs.Event.{Outcome, outcome, select, settleExchange, applied, tick, sortOf}
+use Rattle.event.specs.Laws.{applied-select, applied-exchange, says-its-kind, said-room}
 use Rattle.script.specs.declared.Watch.{Watch}
 use Rattle.script.specs.Script.{Event, eventAt, eventsFrom, played, timed, clockAfter, isStamp, firstBad, room}
 use Rattle.script.specs.Run.{World, world, after, runs, Stored, Playable, Played, finished, done}
-use Rattle.script.specs.Jobs.{Finished, Followed, nothing, follows, jobs, jobsOf, tickByTick, oneTick, isTwo}
+use Rattle.script.specs.Jobs.{Finished, Followed, nothing, jobs, jobsOf, tickByTick, oneTick, isTwo}
 use Rattle.script.specs.Report.{reportAfter}
 use Rattle.script.specs.Watch.{ticking, ticksOf, clockBy, watch, afterEvent, afterTicks, Reports}
-use Rattle.script.specs.Laws.{exchange-body, exchange-next, no-fault, clean-later, clean-event, good-event, Good, room-more, stored-none, timed-none, runs-more, runs-none, clock-stays}
-use Rattle.script.specs.WatchLaws.{clock-as, plain-ticking, plain-clock, ticks-most, ticks-few, runs-ticking, jobs-ticking, jobs-plain, not-ticking, watch-ticks, watch-event, watch-stays, line-not-two, event-modest, ticks-modest, unwatched-ticks, Watches, isOn}
+use Rattle.script.specs.Laws.{select-next, exchange-body, exchange-next, no-fault, clean-later, clean-event, good-event, Good, room-more, stored-none, timed-none, runs-more, runs-none, clock-stays}
+use Rattle.script.specs.WatchLaws.{clock-as, plain-ticking, plain-clock, ticks-most, ticks-few, runs-ticking, jobs-ticking, jobs-plain, not-ticking, watch-ticks, watch-event, watch-stays, line-not-two, event-wanted, event-modest, ticks-wanted, ticks-modest, unwatched-ticks, Watches}
 
 -- ---- the run
 
@@ -117,6 +117,13 @@ module _ {T : Setting} {s : List ℕ} {c₀ : Chip} {m₀ out₀ : List ℕ} {c 
         (runs-more T k s at here more no-stamp ∙ ap (λ (x : Outcome). runs T (timed k (eventsFrom s (nextAt s at))) (after here x)) (sym e))
         (record-room o e) st t lm lo
 
+    -- a select opens the frame, and no more
+    pub select-turns : getD s at 0 ≡ SELECT → Playing T s c₀ m₀ out₀ (select c m .chip) m out k (at + 1) pos ticks
+    select-turns is =
+        let p : Playing T s c₀ m₀ out₀ (select c m .chip) m out k (nextAt s at) pos (ticks + 0) =
+        turns (ap (λ (kind : ℕ). eqb kind STAMP) is) (select c m) pos out (sym (applied-select T c m (getD s at 0) (bodyAt s at) is)) (stored-none out pos Nothing refl) (omega arith) refl refl in
+        rw (select-next s at is, add-zero ticks) at p
+
     -- an exchange stands whole in the script
     pub exchange-inside : getD s at 0 ≡ EXCHANGE → at + 2 ≤ length s
     exchange-inside e = omega (arith, good .inside, exchange-next s at e)
@@ -187,65 +194,77 @@ module _ {T : Setting} {s : List ℕ} {c₀ : Chip} {m₀ out₀ : List ℕ} {c 
 
 -- ---- the report
 
-pub record Watching (T : Setting) (a : Allowances) (s : List ℕ) (c₀ : Chip) (m₀ : List ℕ) (r₀ : Report) (c : Chip) (m : List ℕ) (k : Clock) (at : ℕ) (w : Watch) : Type 0 where
-  pub watches : Watches T a w (jobsOf T s c₀ m₀) (tickByTick (timed k (eventsFrom s at))) c m r₀
+-- if one is wanted, what is watched and told from here on comes to it; the ticks used are few in any case
+pub record Watching (wanted : Bool) (T : Setting) (a : Allowances) (s : List ℕ) (c₀ : Chip) (m₀ : List ℕ) (r₀ : Report) (c : Chip) (m : List ℕ) (k : Clock) (at : ℕ) (w : Watch) : Type 0 where
+  pub asked : w .wanted ≡ wanted
+  pub watches : wanted ≡ true → Watches T a w (jobsOf T s c₀ m₀) (tickByTick (timed k (eventsFrom s at))) c m r₀
   pub modest : w .used ≤ 21845 * at
 
 -- before the first event nothing is followed
-pub watch-starts : (T : Setting) (a : Allowances) (s : List ℕ) (c : Chip) (m : List ℕ) (r : Report) → Watching T a s c m r c m unset 0 (watch false 0 r)
-watch-starts T a s c m r =
+pub watch-starts : (wanted : Bool) (T : Setting) (a : Allowances) (s : List ℕ) (c : Chip) (m : List ℕ) (r : Report) → Watching wanted T a s c m r c m unset 0 (watch wanted false 0 r)
+watch-starts wanted T a s c m r =
     record {
-      watches = record { followed = nothing; keeps = record { same-on = refl; same-used = refl; there = λ h. absurd (false≢true h) }; comes-to = refl };
+      asked = refl;
+      watches = λ _. record { followed = nothing; keeps = record { same-on = refl; same-used = refl; there = λ h. absurd (false≢true h) }; comes-to = refl };
       modest = omega arith;
     }
 
-module _ {T : Setting} {a : Allowances} {s : List ℕ} {c₀ : Chip} {m₀ : List ℕ} {r₀ : Report} {c : Chip} {m : List ℕ} {k : Clock} {at : ℕ} {w : Watch}
-    (i : Watching T a s c₀ m₀ r₀ c m k at w) where
+module _ {wanted : Bool} {T : Setting} {a : Allowances} {s : List ℕ} {c₀ : Chip} {m₀ : List ℕ} {r₀ : Report} {c : Chip} {m : List ℕ} {k : Clock} {at : ℕ} {w : Watch}
+    (i : Watching wanted T a s c₀ m₀ r₀ c m k at w) where
   -- what is watched from here on, after a turn
-  goes-on : {w′ : Watch} {es : List Event} {c′ : Chip} {m′ : List ℕ} (js : List Finished)
-      → jobs T (i .watches .followed) (tickByTick (timed k (eventsFrom s at))) c m ≡ js → Watches T a w′ js es c′ m′ (w .report) → Watches T a w′ (jobsOf T s c₀ m₀) es c′ m′ r₀
-  goes-on js e next =
+  goes-on : {w′ : Watch} {es : List Event} {c′ : Chip} {m′ : List ℕ} (wants : wanted ≡ true) (js : List Finished)
+      → jobs T (i .watches wants .followed) (tickByTick (timed k (eventsFrom s at))) c m ≡ js → Watches T a w′ js es c′ m′ (w .report) → Watches T a w′ (jobsOf T s c₀ m₀) es c′ m′ r₀
+  goes-on wants js e next =
       record {
         followed = next .followed;
         keeps = next .keeps;
-        comes-to = i .watches .comes-to ∙ ap (λ (q : List Finished). reportAfter a q (w .report)) e ∙ next .comes-to;
+        comes-to = i .watches wants .comes-to ∙ ap (λ (q : List Finished). reportAfter a q (w .report)) e ∙ next .comes-to;
       }
-
-  -- a job that is followed stands, so ticks that find no job running and none followed are skipped
-  pub unwatched : w .on ≡ false → i .watches .followed ≡ nothing
-  unwatched off = go (i .watches .followed) (sym (i .watches .keeps .same-on) ∙ off)
-    where
-      go : (f : Followed) → isOn f ≡ false → f ≡ nothing
-      go nothing h = refl
-      go (follows begin used working suspended) h = absurd (false≢true (sym h))
 
   module _ (more : at < length s) where
     -- an event that is no ticks
     pub event-watched : ticking (getD s at 0) ≡ false → (q : Core) (f : Frame) (l held m′ : List ℕ) (said : Record) (t : ℕ) → outcome q f l held m′ said t ≡ applied T c m (getD s at 0) (bodyAt s at)
-        → Watching T a s c₀ m₀ r₀ (whole q f l held) m′ k (nextAt s at) (afterEvent q said w)
+        → Watching wanted T a s c₀ m₀ r₀ (whole q f l held) m′ k (nextAt s at) (afterEvent q said w)
     event-watched plain q f l held m′ said t e =
         let other = not-ticking (getD s at 0) plain in
-        let kept = i .watches .keeps in
-        subst (λ (o : Outcome). Watching T a s c₀ m₀ r₀ (o .chip) (o .memory) k (nextAt s at) (afterEvent (o .chip .core) (o .said) w)) (sym e)
+        let left : Outcome = applied T c m (getD s at 0) (bodyAt s at) in
+        subst (λ (o : Outcome). Watching wanted T a s c₀ m₀ r₀ (o .chip) (o .memory) k (nextAt s at) (afterEvent (o .chip .core) (o .said) w)) (sym e)
         (record {
-          watches = goes-on _ (jobs-plain T (i .watches .followed) k s at c m more other) (watch-event T a (eventAt s at) _ c m (other .not-one) w (i .watches .followed) (kept .same-on) (kept .same-used));
-          modest = omega (arith, i .modest, event-modest (applied T c m (getD s at 0) (bodyAt s at) .chip .core) (applied T c m (getD s at 0) (bodyAt s at) .said) w);
+          asked = event-wanted (left .chip .core) (left .said) w ∙ i .asked;
+          watches = λ wants.
+              let now = i .watches wants in
+              goes-on wants _ (jobs-plain T (now .followed) k s at c m more other)
+              (watch-event T a (eventAt s at) _ c m (other .not-one) w (now .followed) (i .asked ∙ wants) (now .keeps .same-on) (now .keeps .same-used));
+          modest = omega (arith, i .modest, event-modest (left .chip .core) (left .said) w);
         })
 
-    -- an exchange, which leaves the job and says no verdict
+    -- an event that is no ticks, leaves the job and says no verdict
+    leaves-watched : ticking (getD s at 0) ≡ false → (f : Frame) (l : List ℕ) (said : Record) → isTwo said ≡ false
+        → outcome (c .core) f l (c .held) m said 0 ≡ applied T c m (getD s at 0) (bodyAt s at) → Watching wanted T a s c₀ m₀ r₀ (whole (c .core) f l (c .held)) m k (nextAt s at) w
+    leaves-watched plain f l said quiet e =
+        let other = not-ticking (getD s at 0) plain in
+        subst (λ (o : Outcome). Watching wanted T a s c₀ m₀ r₀ (o .chip) (o .memory) k (nextAt s at) w) (sym e)
+        (record {
+          asked = i .asked;
+          watches = λ wants.
+              let now = i .watches wants in
+              goes-on wants _ (jobs-plain T (now .followed) k s at c m more other)
+              (watch-stays T a (eventAt s at) _ c m (other .not-one) w (now .followed) (now .keeps) (ap (λ (o : Outcome). o .chip .core) (sym e)) (ap (λ (o : Outcome). isTwo (o .said)) (sym e) ∙ quiet));
+          modest = omega (arith, i .modest);
+        })
+
+    -- so it is of a select, and of an exchange
+    pub select-watched : getD s at 0 ≡ SELECT → Watching wanted T a s c₀ m₀ r₀ (select c m .chip) m k (at + 1) w
+    select-watched is =
+        subst (λ (next : ℕ). Watching wanted T a s c₀ m₀ r₀ (select c m .chip) m k next w) (select-next s at is)
+        (leaves-watched (ap ticking is) _ _ Nothing refl (sym (applied-select T c m (getD s at 0) (bodyAt s at) is)))
+
     pub exchange-watched : getD s at 0 ≡ EXCHANGE → (f : Frame) (l : List ℕ) (said : Record)
-        → outcome (c .core) f l (c .held) m said 0 ≡ applied T c m (getD s at 0) (bodyAt s at) → Watching T a s c₀ m₀ r₀ (whole (c .core) f l (c .held)) m k (at + 2) w
+        → outcome (c .core) f l (c .held) m said 0 ≡ applied T c m (getD s at 0) (bodyAt s at) → Watching wanted T a s c₀ m₀ r₀ (whole (c .core) f l (c .held)) m k (at + 2) w
     unfolding kindRow kindRowIn
     exchange-watched is f l said e =
-        let other = not-ticking (getD s at 0) (ap ticking is) in
-        let quiet = line-not-two said (ap (λ (o : Outcome). sortOf (o .said)) e ∙ says-its-kind T c m (getD s at 0) (bodyAt s at) ∙ ap saysOf is) in
-        subst (λ (next : ℕ). Watching T a s c₀ m₀ r₀ (whole (c .core) f l (c .held)) m k next w) (exchange-next s at is)
-        (subst (λ (o : Outcome). Watching T a s c₀ m₀ r₀ (o .chip) (o .memory) k (nextAt s at) w) (sym e)
-        (record {
-          watches = goes-on _ (jobs-plain T (i .watches .followed) k s at c m more other)
-              (watch-stays T a (eventAt s at) _ c m (other .not-one) w (i .watches .followed) (i .watches .keeps) (ap (λ (o : Outcome). o .chip .core) (sym e)) (ap (λ (o : Outcome). isTwo (o .said)) (sym e) ∙ quiet));
-          modest = omega (arith, i .modest);
-        }))
+        subst (λ (next : ℕ). Watching wanted T a s c₀ m₀ r₀ (whole (c .core) f l (c .held)) m k next w) (exchange-next s at is)
+        (leaves-watched (ap ticking is) f l said (line-not-two said (ap (λ (o : Outcome). sortOf (o .said)) e ∙ says-its-kind T c m (getD s at 0) (bodyAt s at) ∙ ap saysOf is)) e)
 
     -- ticks
     module _ (is-ticking : ticking (getD s at 0) ≡ true) (body : ℕ) (is-body : body ≡ bodyAt s at) (n : ℕ) (is : n ≡ ticksOf k (getD s at 0) body) (most : n ≤ 65535)
@@ -260,37 +279,41 @@ module _ {T : Setting} {a : Allowances} {s : List ℕ} {c₀ : Chip} {m₀ : Lis
       pub modest-then : w .used + n ≤ 21845 * nextAt s at
       modest-then = omega (arith, i .modest, number-of, ticks-few k s at is-ticking (omega (arith, number-of, most)))
 
-      jobs-then : jobs T (i .watches .followed) (tickByTick (timed k (eventsFrom s at))) c m
-          ≡ jobs T (i .watches .followed) (replicate n (oneTick at) ++ tickByTick (timed k′ (eventsFrom s (nextAt s at)))) c m
-      jobs-then =
-          jobs-ticking T (i .watches .followed) k s at c m more is-ticking
-          ∙ (λ j. jobs T (i .watches .followed) (replicate (number-of j) (oneTick at) ++ tickByTick (timed (clock-of j) (eventsFrom s (nextAt s at)))) c m)
+      jobs-then : (f : Followed) → jobs T f (tickByTick (timed k (eventsFrom s at))) c m
+          ≡ jobs T f (replicate n (oneTick at) ++ tickByTick (timed k′ (eventsFrom s (nextAt s at)))) c m
+      jobs-then f =
+          jobs-ticking T f k s at c m more is-ticking
+          ∙ (λ j. jobs T f (replicate (number-of j) (oneTick at) ++ tickByTick (timed (clock-of j) (eventsFrom s (nextAt s at)))) c m)
 
       pub ticks-watched : (q : Core) (t : ℕ) (held m′ : List ℕ) → TicksAnswer (T .sectors) n (c .core) (c .held) m q t held m′
-          → Watching T a s c₀ m₀ r₀ (whole q (c .frame) (c .load) held) m′ k′ (nextAt s at) (afterTicks a (c .core) q n t w)
+          → Watching wanted T a s c₀ m₀ r₀ (whole q (c .frame) (c .load) held) m′ k′ (nextAt s at) (afterTicks a (c .core) q n t w)
       ticks-watched q t held m′ ans =
           let does : outcome q (c .frame) (c .load) held m′ Nothing t ≡ tick T c m n = (λ j. outcome (ans .core j) (c .frame) (c .load) (ans .load j) (ans .memory j) Nothing (ans .working j)) in
-          subst (λ (o : Outcome). Watching T a s c₀ m₀ r₀ (o .chip) (o .memory) k′ (nextAt s at) (afterTicks a (c .core) (o .chip .core) n (o .ticks) w)) (sym does)
+          subst (λ (o : Outcome). Watching wanted T a s c₀ m₀ r₀ (o .chip) (o .memory) k′ (nextAt s at) (afterTicks a (c .core) (o .chip .core) n (o .ticks) w)) (sym does)
           (record {
-            watches = goes-on _ jobs-then (watch-ticks T a at (tickByTick (timed k′ (eventsFrom s (nextAt s at)))) n c m w (i .watches .followed) (i .watches .keeps));
+            asked = ticks-wanted a (c .core) (tick T c m n .chip .core) n (worked (T .sectors) n (c .core)) w ∙ i .asked;
+            watches = λ wants.
+                let now = i .watches wants in
+                goes-on wants _ (jobs-then (now .followed)) (watch-ticks T a at (tickByTick (timed k′ (eventsFrom s (nextAt s at)))) n c m w (now .followed) (now .keeps));
             modest = omega (arith, modest-then, ticks-modest a (c .core) (tick T c m n .chip .core) n (worked (T .sectors) n (c .core)) w);
           })
 
       -- where no job runs and none is followed, nothing is told
-      pub idle-watched : running (c .core) ≡ false → w .on ≡ false → Watching T a s c₀ m₀ r₀ c m k′ (nextAt s at) w
+      pub idle-watched : running (c .core) ≡ false → w .on ≡ false → Watching wanted T a s c₀ m₀ r₀ c m k′ (nextAt s at) w
       idle-watched rests off =
-          subst (λ (v : Watch). Watching T a s c₀ m₀ r₀ c m k′ (nextAt s at) v) (unwatched-ticks a (c .core) (c .core) n 0 w off)
+          subst (λ (v : Watch). Watching wanted T a s c₀ m₀ r₀ c m k′ (nextAt s at) v) (unwatched-ticks a (c .core) (c .core) n 0 w off)
           (ticks-watched (c .core) 0 (c .held) m (answer-rests (T .sectors) n (c .core) (c .held) m rests))
 
     -- ticks as they are written, where no job runs and none is followed
     pub plain-idle-watched : inRange (getD s at 0) (bodyAt s at) ≡ true → (eqb (getD s at 0) TICKS || eqb (getD s at 0) TICK) ≡ true → running (c .core) ≡ false → w .on ≡ false
-        → Watching T a s c₀ m₀ r₀ c m k (nextAt s at) w
+        → Watching wanted T a s c₀ m₀ r₀ c m k (nextAt s at) w
     plain-idle-watched ranged plain =
         let is-ticking = plain-ticking (getD s at 0) plain in
         idle-watched is-ticking (bodyAt s at) refl _ refl (ticks-most k (getD s at 0) (bodyAt s at) is-ticking ranged) k (plain-clock k (getD s at 0) (bodyAt s at) plain)
 
   -- after the last event the report is that of all jobs
-  pub reports : length s ≤ at → Reports T a c₀ m₀ s r₀ (w .report)
+  pub reports : length s ≤ at → wanted ≡ true → Reports T a c₀ m₀ s r₀ (w .report)
   unfolding jobs tickByTick reportAfter
-  reports over =
-      sym (i .watches .comes-to ∙ ap (λ (es : List Event). reportAfter a (jobs T (i .watches .followed) (tickByTick es) c m) (w .report)) (timed-none k s at over))
+  reports over wants =
+      let now = i .watches wants in
+      sym (now .comes-to ∙ ap (λ (es : List Event). reportAfter a (jobs T (now .followed) (tickByTick es) c m) (w .report)) (timed-none k s at over))

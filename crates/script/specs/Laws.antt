@@ -14,9 +14,9 @@ use Rattle.cells.specs.Put.{Put}
 use Rattle.cells.specs.PutLaws.{put-between}
 use Rattle.part.specs.Part.{permitted, sectorsIn, Setting, setting}
 use Rattle.part.specs.Area.{longestArea}
-use Rattle.kinds.specs.Kinds.{EXCHANGE, STAMP, kindRowIn, kindRow, knownInScript, bodyLength, inRange, roomOf}
+use Rattle.kinds.specs.Kinds.{SELECT, EXCHANGE, TICKS, STAMP, kindRowIn, kindRow, knownInScript, bodyLength, inRange, roomOf}
 use Rattle.kinds.specs.Body.{bodyAt, nextAt}
-use Rattle.kinds.specs.Laws.{body-one, exchange-range}
+use Rattle.kinds.specs.Laws.{body-one, exchange-range, stamp-range}
 use Rattle.clock.specs.declared.Clock.{Clock}
 use Rattle.clock.specs.Clock.{unset, movedOn, wentBack}
 use Rattle.chip.specs.declared.Chip.{Chip}
@@ -222,6 +222,42 @@ exchange-good k s at e more byte =
 
 pub exchange-clock : (k : Clock) (s : List ℕ) (at : ℕ) → getD s at 0 ≡ EXCHANGE → clockAfter k (eventAt s at) ≡ k
 exchange-clock k s at e = clock-stays k (eventAt s at) (exchange-unstamped s at e)
+
+-- ---- selects, ticks and stamps in a script
+
+-- a select has no body, an 05h and a stamp have two bytes
+pub select-next : (s : List ℕ) (at : ℕ) → getD s at 0 ≡ SELECT → nextAt s at ≡ at + 1
+unfolding kindRow kindRowIn
+select-next s at e = ap (λ (kind : ℕ). at + 1 + bodyLength kind) e ∙ omega arith
+
+pub ticks-next : (s : List ℕ) (at : ℕ) → getD s at 0 ≡ TICKS → nextAt s at ≡ at + 3
+unfolding kindRow kindRowIn
+ticks-next s at e = ap (λ (kind : ℕ). at + 1 + bodyLength kind) e ∙ omega arith
+
+pub stamp-next : (s : List ℕ) (at : ℕ) → getD s at 0 ≡ STAMP → nextAt s at ≡ at + 3
+unfolding kindRow kindRowIn
+stamp-next s at e = ap (λ (kind : ℕ). at + 1 + bodyLength kind) e ∙ omega arith
+
+-- a whole 05h is good exactly if its body is in range
+pub ticks-good : (k : Clock) (s : List ℕ) (at : ℕ) → getD s at 0 ≡ TICKS → nextAt s at ≤ length s → eqb (faultBy k (eventAt s at)) 0 ≡ inRange TICKS (bodyAt s at)
+unfolding knownInScript kindRow kindRowIn
+ticks-good k s at e whole = go (inRange (getD s at 0) (bodyAt s at)) refl ∙ ap (λ (kind : ℕ). inRange kind (bodyAt s at)) e
+  where
+    go : (ranged : Bool) → inRange (getD s at 0) (bodyAt s at) ≡ ranged → eqb (faultBy k (eventAt s at)) 0 ≡ ranged
+    go true r = ap (λ (fault : ℕ). eqb fault 0) (fault-none-other k s at (ap knownInScript e) whole r (λ stamp. omega (arith, e, stamp)))
+    go false r = ap (λ (fault : ℕ). eqb fault 0) (fault-six k s at (ap knownInScript e) whole r)
+
+-- a whole stamp exactly if it did not go back
+pub stamp-good : (k : Clock) (s : List ℕ) (at : ℕ) → getD s at 0 ≡ STAMP → nextAt s at ≤ length s → bodyAt s at ≤ 65535 → eqb (faultBy k (eventAt s at)) 0 ≡ not (wentBack k (bodyAt s at))
+unfolding knownInScript kindRow kindRowIn
+stamp-good k s at e whole small = go (wentBack k (bodyAt s at)) refl
+  where
+    ranged : inRange (getD s at 0) (bodyAt s at) ≡ true
+    ranged = ap (λ (kind : ℕ). inRange kind (bodyAt s at)) e ∙ stamp-range (bodyAt s at) ∙ le-leb (bodyAt s at) 65535 small
+
+    go : (back : Bool) → wentBack k (bodyAt s at) ≡ back → eqb (faultBy k (eventAt s at)) 0 ≡ not back
+    go true b = ap (λ (fault : ℕ). eqb fault 0) (fault-eight k s at (ap knownInScript e) whole ranged e b)
+    go false b = ap (λ (fault : ℕ). eqb fault 0) (fault-none-forward k s at (ap knownInScript e) whole ranged b)
 
 -- ---- room
 

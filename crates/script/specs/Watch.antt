@@ -1,5 +1,5 @@
--- What the run's code keeps of the jobs that a script begins: whether one is followed, the ticks that it used, and the report so far. `WatchLaws` shows that the report
--- comes out as the list of jobs has it (RULES, The margin report).
+-- What the run's code keeps of the jobs that a script begins: whether a report is wanted, whether a job is followed, the ticks that it used, and the report so far.
+-- `WatchLaws` shows that the report comes out as the list of jobs has it (RULES, The margin report).
 use Prim.Native.Nat.{ℕ, _+_}
 use mathlib.Core.Bool.{Bool, true, false, cond, not, _||_}
 use mathlib.Core.List.{List}
@@ -27,26 +27,29 @@ ticking kind = eqb kind TICKS || eqb kind TICK || eqb kind STAMP
 
 -- how many, where the clock stands so; and the clock after an event
 unfoldable pub ticksOf : Clock → ℕ → ℕ → ℕ
-ticksOf k kind body = cond (eqb kind TICK) 1 (cond (eqb kind STAMP) (movedOn k body) body)
+ticksOf k kind body = cond (eqb kind TICKS) body (cond (eqb kind TICK) 1 (movedOn k body))
 
 unfoldable pub clockBy : Clock → ℕ → ℕ → Clock
 clockBy k kind body = cond (eqb kind STAMP) (shows body) k
 
 -- ---- the watch
 
-abbrev pub watch : Bool → ℕ → Report → Watch
-watch on used report = record { on = on; used = used; report = report }
+abbrev pub watch : Bool → Bool → ℕ → Report → Watch
+watch wanted on used report = record { wanted = wanted; on = on; used = used; report = report }
 
--- after an event that is no tick, which left this core and said this
+-- after an event that is no tick, which left this core and said this; no job is followed where no report is wanted
 unfoldable pub afterEvent : Core → Record → Watch → Watch
-afterEvent left said w = cond (not (stands left)) (watch false 0 (w .report)) (cond (isTwo said) (watch true 0 (w .report)) w)
+afterEvent left said w =
+    cond (not (w .wanted)) w
+    (cond (not (stands left)) (watch (w .wanted) false 0 (w .report))
+    (cond (isTwo said) (watch (w .wanted) true 0 (w .report)) w))
 
 -- after n ticks, of which some worked, that found one core and left another
 unfoldable pub afterTicks : Allowances → Core → Core → ℕ → ℕ → Watch → Watch
 afterTicks a k left n worked w =
     cond (not (w .on)) w
-    (cond (stands left) (watch true (w .used + n) (w .report))
-    (watch false 0 (counted (k .job .kind) (margin (allowanceOf (k .job .kind) a) (w .used + worked)) (w .report))))
+    (cond (stands left) (watch (w .wanted) true (w .used + n) (w .report))
+    (watch (w .wanted) false 0 (counted (k .job .kind) (margin (allowanceOf (k .job .kind) a) (w .used + worked)) (w .report))))
 
 -- the most ticks that a script of 65,536 bytes can give: three bytes for 65,535 of them
 abbrev pub mostUsed : ℕ

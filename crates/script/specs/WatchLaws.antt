@@ -389,8 +389,8 @@ module _ (T : Setting) (a : Allowances) (at : ℕ) (es : List Event) (n : ℕ) (
 
       told : Bool → Watch
       told b =
-          cond b (watch true (w .used + n) (w .report))
-          (watch false 0 (counted (c .core .job .kind) (margin (allowanceOf (c .core .job .kind) a) (w .used + worked (T .sectors) n (c .core))) (w .report)))
+          cond b (watch (w .wanted) true (w .used + n) (w .report))
+          (watch (w .wanted) false 0 (counted (c .core .job .kind) (margin (allowanceOf (c .core .job .kind) a) (w .used + worked (T .sectors) n (c .core))) (w .report)))
 
       go : Seen T at es n c m begin used js → Watches T a (told (stands (left .core))) js es left (tick T c m n .memory) (w .report)
       go (still s w′ z′ e) =
@@ -421,18 +421,20 @@ module _ (T : Setting) (a : Allowances) (e : Event) (es : List Event) (c : Chip)
       ap (λ (b : Bool). cond (b && not (stands (o .chip .core))) (finished (e .offset) (c .core .job .kind) (tickMore (c .core) f)) []
       ++ jobs T (cond (not (stands (o .chip .core))) nothing (cond (isTwo (o .said)) (follows (e .offset) 0 0 0) (cond b (tickMore (c .core) f) f))) es (o .chip) (o .memory)) no-tick
 
-  -- after such an event
-  pub watch-event : (w : Watch) (f : Followed) → w .on ≡ isOn f → w .used ≡ usedBy f → Watches T a (afterEvent (o .chip .core) (o .said) w) (jobs T f (e ∷ es) c m) es (o .chip) (o .memory) (w .report)
+  -- after such an event, if a report is wanted
+  pub watch-event : (w : Watch) (f : Followed) → w .wanted ≡ true → w .on ≡ isOn f → w .used ≡ usedBy f
+      → Watches T a (afterEvent (o .chip .core) (o .said) w) (jobs T f (e ∷ es) c m) es (o .chip) (o .memory) (w .report)
   unfolding afterEvent
-  watch-event w f on used =
-      subst (λ (js : List Finished). Watches T a (afterEvent (o .chip .core) (o .said) w) js es (o .chip) (o .memory) (w .report)) (sym (jobs-event f))
-      (go (stands (o .chip .core)) (isTwo (o .said)) refl)
+  watch-event w f wanted on used =
+      subst (λ (v : Watch). Watches T a v (jobs T f (e ∷ es) c m) es (o .chip) (o .memory) (w .report)) (sym (cond-no (not (w .wanted)) _ _ (ap not wanted)))
+      (subst (λ (js : List Finished). Watches T a (kept (stands (o .chip .core)) (isTwo (o .said))) js es (o .chip) (o .memory) (w .report)) (sym (jobs-event f))
+      (go (stands (o .chip .core)) (isTwo (o .said)) refl))
     where
       follow : Bool → Bool → Followed
       follow s t = cond (not s) nothing (cond t (follows (e .offset) 0 0 0) f)
 
       kept : Bool → Bool → Watch
-      kept s t = cond (not s) (watch false 0 (w .report)) (cond t (watch true 0 (w .report)) w)
+      kept s t = cond (not s) (watch (w .wanted) false 0 (w .report)) (cond t (watch (w .wanted) true 0 (w .report)) w)
 
       go : (s t : Bool) → stands (o .chip .core) ≡ s → Watches T a (kept s t) (jobs T (follow s t) es (o .chip) (o .memory)) es (o .chip) (o .memory) (w .report)
       go false t p = record { followed = nothing; keeps = record { same-on = refl; same-used = refl; there = λ h. absurd (false≢true h) }; comes-to = refl }
@@ -467,14 +469,27 @@ line-not-two (Verdict v) e = absurd (false≢true (ap isLine e))
     isLine Says.verdict = false
 line-not-two (InTheWay from to) e = refl
 
--- ---- how many ticks are used
+-- ---- what stays, and how many ticks are used
 
--- an event that is no tick uses none
-pub event-modest : (q : Core) (said : Record) (w : Watch) → afterEvent q said w .used ≤ w .used
+-- what holds of a watch as it was, and of any that is made of it, holds after an event that is no tick
+after-event : (P : Watch → Type 0) (q : Core) (said : Record) (w : Watch) → P w → ((on : Bool) → P (watch (w .wanted) on 0 (w .report))) → P (afterEvent q said w)
 unfolding afterEvent
-event-modest q said w =
-    cond-either (λ (v : Watch). v .used ≤ w .used) (not (stands q)) _ _ (λ _. omega arith)
-    (λ _. cond-either (λ (v : Watch). v .used ≤ w .used) (isTwo said) _ _ (λ _. omega arith) (λ _. omega arith))
+after-event P q said w as-it-was made =
+    cond-either P (not (w .wanted)) _ _ (λ _. as-it-was)
+    (λ _. cond-either P (not (stands q)) _ _ (λ _. made false) (λ _. cond-either P (isTwo said) _ _ (λ _. made true) (λ _. as-it-was)))
+
+-- so a report that was wanted is wanted, and no ticks are used
+pub event-wanted : (q : Core) (said : Record) (w : Watch) → afterEvent q said w .wanted ≡ w .wanted
+event-wanted q said w = after-event (λ (v : Watch). v .wanted ≡ w .wanted) q said w refl (λ on. refl)
+
+pub event-modest : (q : Core) (said : Record) (w : Watch) → afterEvent q said w .used ≤ w .used
+event-modest q said w = after-event (λ (v : Watch). v .used ≤ w .used) q said w (omega arith) (λ on. omega arith)
+
+-- the same of n ticks
+pub ticks-wanted : (a : Allowances) (k q : Core) (n t : ℕ) (w : Watch) → afterTicks a k q n t w .wanted ≡ w .wanted
+unfolding afterTicks
+ticks-wanted a k q n t w =
+    cond-either (λ (v : Watch). v .wanted ≡ w .wanted) (not (w .on)) _ _ (λ _. refl) (λ _. cond-either (λ (v : Watch). v .wanted ≡ w .wanted) (stands q) _ _ (λ _. refl) (λ _. refl))
 
 -- n ticks use at most n
 pub ticks-modest : (a : Allowances) (k q : Core) (n t : ℕ) (w : Watch) → afterTicks a k q n t w .used ≤ w .used + n

@@ -1,13 +1,18 @@
 // A script run, plain or with a margin report: one pass that finds what is wrong with the script, and one that runs it.
-ghost use mathlib.Core.Bool.{true};
+ghost use mathlib.Core.Bool.{true, _&&_};
 ghost use mathlib.Core.Path.{_≡_};
 ghost use Prim.Native.Nat.{_+_, _≤_, _<_};
-ghost use lib.ListN.{length};
+ghost use lib.Dec.{eqb};
+ghost use lib.ListN.{length, getD};
 ghost use Rattle.part.specs.Part.{setting};
+ghost use Rattle.kinds.specs.Kinds.{TICKS, STAMP};
+ghost use Rattle.chip.specs.declared.Chip.{Chip as ChipValue};
 ghost use Rattle.chip.specs.Chip.{whole};
 ghost use Rattle.chip.specs.Record.{recordBytes};
+ghost use Rattle.clock.specs.declared.Clock.{Clock as ClockValue};
 ghost use Rattle.clock.specs.Clock.{unset};
 ghost use Rattle.margins.specs.Margins.{allowed, margin};
+ghost use Rattle.legal.specs.Legal.{legal};
 ghost use Rattle.script.specs.Script.{eventAt, faultBy, refusalOf};
 ghost use Rattle.script.specs.Run.{finished, refused, Scan, Stored, Playable, Played, refusal, answerOf, memoryOf, outputOf};
 ghost use Rattle.script.specs.Jobs.{isTwo};
@@ -39,10 +44,20 @@ pub struct Reported {
     pub report: Report,
 }
 
-// What is watched for the report: whether a job is followed, the ticks that it used so far, and the report so far.
+// What is watched for the report: whether one is wanted at all, whether a job is followed, the ticks that it used so far, and the report so far.
 struct Watch {
+    wanted: bool,
     on: bool,
     used: u32,
+    report: Report,
+}
+
+// What a script that is played ends with, but for the two loads of the chip, which are lent.
+struct Ended {
+    core: Core,
+    frame: Frame,
+    written: usize,
+    ticks: u64,
     report: Report,
 }
 
@@ -105,7 +120,36 @@ fn clock_after(clock: Clock, kind: u64, body: u16) -> Clock
     clock
 }
 
-// A look through the script: the first bad event, and the room for the records.
+// Whether the event at an offset is an 05h that nothing refuses: whole, and not of 0 ticks.
+fn is_good_ticks(s: &[u8], at: usize) -> bool
+    requires { ⌜ at < length (now s) ⌝ }
+    ensures { λ r. ⌜ ((clock : ClockValue) → r ≡ (eqb (getD (now (s .entry)) at 0) TICKS && eqb (faultBy clock (eventAt (now (s .entry)) at)) 0)) ⌝ }
+{
+    if s[at] as u64 != Kind::TICKS {
+        return false;
+    }
+    if s.len() < kinds::next_at(s, at) {
+        return false;
+    }
+    kinds::is_in_range(Kind::TICKS, kinds::body_at(s, at))
+}
+
+// Whether the event at an offset is a stamp that nothing refuses: whole, and not gone back.
+fn is_good_stamp(s: &[u8], at: usize, clock: Clock) -> bool
+    requires { ⌜ at < length (now s) ⌝ }
+    ensures { λ r. ⌜ r ≡ (eqb (getD (now (s .entry)) at 0) STAMP && eqb (faultBy clock (eventAt (now (s .entry)) at)) 0) ⌝ }
+{
+    if s[at] as u64 != Kind::STAMP {
+        return false;
+    }
+    if s.len() < kinds::next_at(s, at) {
+        return false;
+    }
+    !clock::went_back(clock, kinds::body_at(s, at) as u16)
+}
+
+// A look through the script: the first bad event, and the room for the records. Ticks and stamps are
+// frequent: what comes after them need not wait for a look at the table of kinds.
 fn scan(s: &[u8]) -> Scanned
     requires { ⌜ length (now s) ≤ 65536 ⌝ }
     ensures { λ r. ⌜ Scan (now (s .entry)) (r .bad .number) (r .bad .offset) (r .room) ⌝ }
@@ -120,6 +164,15 @@ fn scan(s: &[u8]) -> Scanned
             at += 2;
             continue;
         }
+        if is_good_ticks(s, at) {
+            at += 3;
+            continue;
+        }
+        if is_good_stamp(s, at, clock) {
+            clock = clock_after(clock, Kind::STAMP, kinds::body_at(s, at) as u16);
+            at += 3;
+            continue;
+        }
         let fault = fault_at(s, at, clock);
         if fault != 0 {
             return Scanned {
@@ -130,18 +183,7 @@ fn scan(s: &[u8]) -> Scanned
                 room: 0,
             };
         }
-        let kind = s[at] as u64;
-        if kind == Kind::STAMP {
-            clock = clock_after(clock, kind, kinds::body_at(s, at) as u16);
-            at = kinds::next_at(s, at);
-            continue;
-        }
-        // Ticks are frequent too: what comes next need not wait for a look at the table.
-        if kind == Kind::TICKS {
-            at += 3;
-            continue;
-        }
-        space += kinds::room_of(kind);
+        space += kinds::room_of(s[at] as u64);
         at = kinds::next_at(s, at);
     }
     Scanned {
@@ -219,13 +261,13 @@ fn is_ticking(kind: u64) -> bool
 fn ticks_of(clock: Clock, kind: u64, body: u16) -> u32
     ensures { λ r. ⌜ (r ≡ ticksOf clock kind body) × (r ≤ 65535) ⌝ }
 {
+    if kind == Kind::TICKS {
+        return body as u32;
+    }
     if kind == Kind::TICK {
         return 1;
     }
-    if kind == Kind::STAMP {
-        return clock::moved_on(clock, body) as u32;
-    }
-    body as u32
+    clock::moved_on(clock, body) as u32
 }
 
 // Allowance less ticks used.
@@ -249,10 +291,13 @@ fn begins_job(said: Record) -> bool
     }
 }
 
-// What is watched after an event that is no tick: a job that begins is followed from there on, and none where no job is left.
+// What is watched after an event that is no tick, if a report is wanted: a job that begins is followed from there on, and none where no job is left.
 fn watch_event(watch: Watch, core: Core, said: Record) -> Watch
     ensures { λ r. ⌜ r ≡ afterEvent core said watch ⌝ }
 {
+    if !watch.wanted {
+        return watch;
+    }
     let job = core.job;
     let kind = job.kind;
     let mut next = watch;
@@ -302,33 +347,38 @@ fn watch_ticks(
     next
 }
 
-// Runs a script that nothing refuses: the chip is taken apart once, and put together at the end.
-// Data bytes are most of a script: they go by the frame alone, and ticks by the core alone. Whether
-// ticks matter, because a job runs or one is followed, is kept beside the core, so that ticks that
-// find neither copy nothing; it is read off the answers, since a core that is only handed on stays
-// in one piece. The other calls get a copy of the frame, so that it need not lie in memory from one
-// data byte to the next.
+// Runs a script that nothing refuses, on a chip in its parts: the two loads are lent.
+// Data bytes are most of a script: they go by the frame alone, as selects do, and ticks by the core
+// alone. Whether ticks matter, because a job runs or one is followed, is kept beside the core, so that
+// ticks that find neither copy nothing; it is read off the answers, since a core that is only handed
+// on stays in one piece. The other calls get a copy of the frame, so that it need not lie in memory
+// from one data byte to the next. Where no report is wanted no job is followed.
 fn play(
-    chip: Chip,
+    first_core: Core,
+    first_frame: Frame,
+    load: &mut [u8; 256],
+    held: &mut [u8; 256],
     mem: &mut [u8],
     script: &[u8],
     out: &mut [u8],
     sectors: u8,
     area: &[u8],
+    wanted: bool,
     allowances: Allowances,
     report: Report,
-) -> Reported
+) -> Ended
     requires { ⌜ (allowed allowances ≡ true) × Playable (now script) (length (now out)) ⌝ }
-    ensures { λ r. ⌜ Played (setting sectors (now (area .entry))) chip (now (mem .entry)) (now (script .entry)) (now (out .entry)) (r .ran) (now (mem .exit)) (now (out .exit))
-        × Reports (setting sectors (now (area .entry))) allowances chip (now (mem .entry)) (now (script .entry)) report (r .report) ⌝ }
+    ensures { λ r. ⌜ Played (setting sectors (now (area .entry))) (whole «first_core» «first_frame» (now (load .entry)) (now (held .entry))) (now (mem .entry)) (now (script .entry)) (now (out .entry))
+        (finished (whole (r .core) (r .frame) (now (load .exit)) (now (held .exit))) (r .written) (r .ticks)) (now (mem .exit)) (now (out .exit))
+        × (wanted ≡ true
+        → Reports (setting sectors (now (area .entry))) allowances (whole «first_core» «first_frame» (now (load .entry)) (now (held .entry))) (now (mem .entry)) (now (script .entry)) report (r .report)) ⌝ }
 {
-    let mut core = chip.core;
-    let mut frame = chip.frame;
-    let mut load = chip.load;
-    let mut held = chip.held;
-    let mut busy = chip::is_running(chip.core);
+    let mut core = first_core;
+    let mut frame = first_frame;
+    let mut busy = chip::is_running(first_core);
     let mut clock = no_stamp();
     let mut watch = Watch {
+        wanted: wanted,
         on: false,
         used: 0,
         report: report,
@@ -341,7 +391,7 @@ fn play(
         if kind == Kind::EXCHANGE {
             let b = script[at + 1];
             if frame::streams(frame) {
-                let data = frame::stream(frame, &mut load, mem, sectors, b);
+                let data = frame::stream(frame, load, mem, sectors, b);
                 let given = data.said;
                 pos = put(out, pos, given);
                 frame = data.frame;
@@ -349,11 +399,16 @@ fn play(
                 continue;
             }
             let before = frame;
-            let e = frame::exchange(core, before, &mut load, mem, sectors, area, b);
+            let e = frame::exchange(core, before, load, mem, sectors, area, b);
             let heard = e.said;
             pos = put(out, pos, heard);
             frame = e.frame;
             at += 2;
+            continue;
+        }
+        if kind == Kind::SELECT {
+            frame.selected = true;
+            at += 1;
             continue;
         }
         if !busy & (kind == Kind::TICKS) {
@@ -364,24 +419,23 @@ fn play(
         if is_ticking(kind) {
             let n = ticks_of(clock, kind, body as u16);
             clock = clock_after(clock, kind, body as u16);
+            at = kinds::next_at(script, at);
             if !busy {
-                at = kinds::next_at(script, at);
                 continue;
             }
-            let t = job::ticks(core, &mut held, mem, sectors, n);
+            let t = job::ticks(core, held, mem, sectors, n);
             watch = watch_ticks(watch, allowances, core, t.core, n, t.worked);
             core = t.core;
             busy = chip::is_running(t.core) | watch.on;
             ticks += t.worked as u64;
-            at = kinds::next_at(script, at);
             continue;
         }
         let before = frame;
         let s = event::step(
             core,
             before,
-            &mut load,
-            &mut held,
+            load,
+            held,
             mem,
             sectors,
             area,
@@ -398,8 +452,11 @@ fn play(
         at = kinds::next_at(script, at);
     }
     let counted = watch.report;
-    Reported {
-        ran: finished(core, frame, load, held, pos, ticks),
+    Ended {
+        core: core,
+        frame: frame,
+        written: pos,
+        ticks: ticks,
         report: counted,
     }
 }
@@ -413,9 +470,9 @@ fn refuse(number: u8) -> Refused
     }
 }
 
-// What refuses a run, in the order of the definition; the number 0 for nothing.
-fn refuses(chip: Chip, n: usize, extent: usize, script: &[u8], space: usize) -> Refused
-    ensures { λ r. ⌜ refusalOf (r .number) (r .offset) ≡ refusal chip n extent (now (script .entry)) space ⌝ }
+// What refuses a run on a chip that is legal or not, in the order of the definition; the number 0 for nothing.
+fn refuses(fine: bool, n: usize, extent: usize, script: &[u8], space: usize) -> Refused
+    ensures { λ r. ⌜ ((chip : ChipValue) → fine ≡ legal chip n → refusalOf (r .number) (r .offset) ≡ refusal chip n extent (now (script .entry)) space) ⌝ }
 {
     if part::sectors_of(n) == 0 {
         return refuse(1);
@@ -423,7 +480,7 @@ fn refuses(chip: Chip, n: usize, extent: usize, script: &[u8], space: usize) -> 
     if Part::LONGEST_AREA < extent {
         return refuse(13);
     }
-    if !legal::is_legal(chip, n) {
+    if !fine {
         return refuse(2);
     }
     if 65536 < script.len() {
@@ -475,23 +532,35 @@ pub fn run_with_report(
         };
     }
     let n = mem.len();
-    let no = refuses(chip, n, area.len(), script, out.len());
+    let fine = legal::is_legal(chip, n);
+    let no = refuses(fine, n, area.len(), script, out.len());
     if no.number != 0 {
         return Reported {
             ran: turned_away(chip, no),
             report: report,
         };
     }
-    play(
-        chip,
+    let mut load = chip.load;
+    let mut held = chip.held;
+    let end = play(
+        chip.core,
+        chip.frame,
+        &mut load,
+        &mut held,
         mem,
         script,
         out,
         part::sectors_of(n),
         area,
+        true,
         allowances,
         margins::start_from(report),
-    )
+    );
+    let counted = end.report;
+    Reported {
+        ran: finished(end.core, end.frame, load, held, end.written, end.ticks),
+        report: counted,
+    }
 }
 
 // A line without jobs.
@@ -514,14 +583,15 @@ fn no_report() -> Report {
     }
 }
 
-// A script run, for every chip, memory, area, script and output: the report that goes with it is thrown away.
+// A script run, for every chip, memory, area, script and output: no report is wanted, and the empty one is thrown away.
 pub fn run(chip: Chip, mem: &mut [u8], area: &[u8], script: &[u8], out: &mut [u8]) -> Ran
     ensures { λ r. ⌜ (r ≡ answerOf chip (now (mem .entry)) (now (area .entry)) (now (script .entry)) (now (out .entry)))
         × (now (mem .exit) ≡ memoryOf chip (now (mem .entry)) (now (area .entry)) (now (script .entry)) (now (out .entry)))
         × (now (out .exit) ≡ outputOf chip (now (mem .entry)) (now (area .entry)) (now (script .entry)) (now (out .entry))) ⌝ }
 {
     let n = mem.len();
-    let no = refuses(chip, n, area.len(), script, out.len());
+    let fine = legal::is_legal(chip, n);
+    let no = refuses(fine, n, area.len(), script, out.len());
     if no.number != 0 {
         return turned_away(chip, no);
     }
@@ -532,15 +602,21 @@ pub fn run(chip: Chip, mem: &mut [u8], area: &[u8], script: &[u8], out: &mut [u8
         sector: 0,
         chip: 0,
     };
-    let played = play(
-        chip,
+    let mut load = chip.load;
+    let mut held = chip.held;
+    let end = play(
+        chip.core,
+        chip.frame,
+        &mut load,
+        &mut held,
         mem,
         script,
         out,
         part::sectors_of(n),
         area,
+        false,
         none,
         no_report(),
     );
-    played.ran
+    finished(end.core, end.frame, load, held, end.written, end.ticks)
 }

@@ -1,4 +1,4 @@
--- `script::play` meets its contract. What is left of the script, run from here, comes to what the whole script comes to (`Playing`), and the jobs told from here on to the whole report (`Watching`); each turn is one event of it, a data byte an exchange by `exchanged-stream`, ticks of any kind by `ticks-turn`, those that find nothing to do by `idle-turn`. Beside it stands whether a job runs or is followed.
+-- `script::play` meets its contract. What is left of the script, run from here, comes to what the whole script comes to (`Playing`), and the jobs told from here on to the whole report if one is wanted (`Watching`); each turn is one event of it, a data byte an exchange by `exchanged-stream`, a select by `select-turns`, ticks of any kind by `ticks-turn`, those that find nothing to do by `idle-turn`. Beside it stands whether a job runs or is followed.
 use Prim.Native.Nat.{_+_, _<_, _-_}
 use mathlib.Core.Bool.{Bool, true, false, not, _&&_, _||_}
 use mathlib.Core.Path.{_≡_, refl, sym, _∙_, ap}
@@ -15,7 +15,7 @@ use Rattle.chip.specs.Chip.{whole, running}
 use Rattle.frame.specs.StreamLaws.{exchanged-stream}
 use Rattle.event.specs.Event.{applied}
 use Rattle.script.specs.WatchLaws.{worked-most, not-ticking}
-use Rattle.script.proofs.Playing.{Playing, starts, good, finds-room, exchange-inside, turns, heard-is, exchange-finds-room, exchange-turns, ticks-turn, idle-turn, plain-idle-turn, ends, Watching, watch-starts, event-watched, exchange-watched, modest-then, ticks-watched, idle-watched, plain-idle-watched, reports}
+use Rattle.script.proofs.Playing.{Playing, starts, select-turns, select-watched, good, finds-room, exchange-inside, turns, heard-is, exchange-finds-room, exchange-turns, ticks-turn, idle-turn, plain-idle-turn, ends, Watching, watch-starts, event-watched, exchange-watched, modest-then, ticks-watched, idle-watched, plain-idle-watched, reports}
 use borrow.Author.Needs.{needs}
 use Rattle.script.proofs.play.Statement.{statement}
 use Rattle.script.proofs.play.Tie as tie
@@ -25,10 +25,10 @@ or-false true = refl
 or-false false = refl
 
 abbrev Inv-loop : tie.InvT-loop
-Inv-loop mem₀ script out₀ sectors area allowances core₀ frame₀ load₀ held₀ busy₀ clock₀ watch₀ at₀ pos₀ ticks₀ mem out core frame load held busy clock watch at pos ticks = Playing (setting sectors area) script (whole core₀ frame₀ load₀ held₀) mem₀ out₀ (whole core frame load held) mem out clock at pos ticks × (busy ≡ (running core || watch .on)) × Watching (setting sectors area) allowances script (whole core₀ frame₀ load₀ held₀) mem₀ (watch₀ .report) (whole core frame load held) mem clock at watch
+Inv-loop load₀ held₀ mem₀ script out₀ sectors area wanted allowances core₀ frame₀ busy₀ clock₀ watch₀ at₀ pos₀ ticks₀ load held mem out core frame busy clock watch at pos ticks = Playing (setting sectors area) script (whole core₀ frame₀ load₀ held₀) mem₀ out₀ (whole core frame load held) mem out clock at pos ticks × (busy ≡ (running core || watch .on)) × Watching wanted (setting sectors area) allowances script (whole core₀ frame₀ load₀ held₀) mem₀ (watch₀ .report) (whole core frame load held) mem clock at watch
 
 abbrev μ-loop : tie.MeasureT-loop
-μ-loop mem₀ script out₀ sectors area allowances core₀ frame₀ load₀ held₀ busy₀ clock₀ watch₀ at₀ pos₀ ticks₀ mem out core frame load held busy clock watch at pos ticks = length script - at
+μ-loop load₀ held₀ mem₀ script out₀ sectors area wanted allowances core₀ frame₀ busy₀ clock₀ watch₀ at₀ pos₀ ticks₀ load held mem out core frame busy clock watch at pos ticks = length script - at
 
 is-running-requires : tie.Need-is-running-requires Inv-loop μ-loop
 is-running-requires c κs = search needs
@@ -37,7 +37,7 @@ no-stamp-requires : tie.Need-no-stamp-requires Inv-loop μ-loop
 no-stamp-requires c κs = search needs
 
 loop-holds : tie.Need-loop-holds Inv-loop μ-loop
-loop-holds c = (rw (c .no-stamp .ensures) (starts _ _ _ _ _ (c .before .before .before .before .before .before .before .before .before .before .pre .1)), c .before .is-running .ensures ∙ sym (or-false _), rw (c .no-stamp .ensures) (watch-starts _ _ _ _ _ _))
+loop-holds c = (rw (c .no-stamp .ensures) (starts _ _ _ _ _ (c .before .before .before .before .before .before .pre .1)), c .before .is-running .ensures ∙ sym (or-false _), rw (c .no-stamp .ensures) (watch-starts _ _ _ _ _ _ _))
 
 shared-slice-read-kind : tie.Need-shared-slice-read-kind Inv-loop μ-loop
 shared-slice-read-kind c = search needs
@@ -84,24 +84,33 @@ loop-less-2 c = omega (arith, c .before .before .before .before .before .before 
 loop-again-2 : tie.Need-loop-again-2 Inv-loop μ-loop
 loop-again-2 c = (exchange-turns (c .before .before .before .before .before .before .before .before .before .before .before .before .before .before .loop .inv .0) (c .before .before .before .before .before .before .before .before .before .before .before .before .before .loop-test .taken) (c .before .before .before .before .before .before .before .before .before .before .before .if1 .taken) (c .before .before .before .before .before .before .before .before .before .before .shared-slice-known4 .given (c .before .before .before .before .before .before .before .before .before .before .before .before .before .before .loop .at + 1) .fits) _ _ _ (c .before .before .before .before .before .exchange .ensures) _ _ (c .before .before .before .put2 .ensures) (c .before .before .before .put2 .kept .0), c .before .before .before .before .before .before .before .before .before .before .before .before .before .before .loop .inv .1, exchange-watched (c .before .before .before .before .before .before .before .before .before .before .before .before .before .before .loop .inv .2) (c .before .before .before .before .before .before .before .before .before .before .before .before .before .loop-test .taken) (c .before .before .before .before .before .before .before .before .before .before .before .if1 .taken) _ _ _ (heard-is (c .before .before .before .before .before .before .before .before .before .before .before .before .before .before .loop .inv .0) (c .before .before .before .before .before .before .before .before .before .before .before .before .before .loop-test .taken) (c .before .before .before .before .before .before .before .before .before .before .before .if1 .taken) (c .before .before .before .before .before .before .before .before .before .before .shared-slice-known4 .given (c .before .before .before .before .before .before .before .before .before .before .before .before .before .before .loop .at + 1) .fits) _ _ _ (c .before .before .before .before .before .exchange .ensures)))
 
+add-at-3 : tie.Need-add-at-3 Inv-loop μ-loop
+add-at-3 c = omega (arith, c .before .before .before .loop-test .taken, c .before .before .before .before .loop .inv .0 .short)
+
+loop-less-3 : tie.Need-loop-less-3 Inv-loop μ-loop
+loop-less-3 c = omega (arith, c .before .before .before .loop-test .taken)
+
+loop-again-3 : tie.Need-loop-again-3 Inv-loop μ-loop
+loop-again-3 c = (select-turns (c .before .before .before .before .loop .inv .0) (c .before .before .before .loop-test .taken) (c .if3 .taken), c .before .before .before .before .loop .inv .1, select-watched (c .before .before .before .before .loop .inv .2) (c .before .before .before .loop-test .taken) (c .if3 .taken))
+
 next-at-requires : tie.Need-next-at-requires Inv-loop μ-loop
 next-at-requires c κs = search needs
 
-loop-less-3 : tie.Need-loop-less-3 Inv-loop μ-loop
-loop-less-3 c =
-    let next : c .next-at .result ≡ nextAt (c .before .before .before .before .before .before .before .before .before .before .before .before .before .before .before .before .args .script .now) (c .before .before .before .before .before .loop .at) = c .next-at .ensures ∙ step-inside (c .before .before .before .before .before .before .before .before .before .before .before .before .before .before .before .before .args .script .now) (c .before .before .before .before .before .loop .at) (c .before .before .before .before .loop-test .taken) in
-    omega (arith, next, c .before .before .before .before .loop-test .taken)
+loop-less-4 : tie.Need-loop-less-4 Inv-loop μ-loop
+loop-less-4 c =
+    let next : c .next-at .result ≡ nextAt (c .before .before .before .before .before .before .before .before .before .before .before .before .before .args .script .now) (c .before .before .before .before .before .before .loop .at) = c .next-at .ensures ∙ step-inside (c .before .before .before .before .before .before .before .before .before .before .before .before .before .args .script .now) (c .before .before .before .before .before .before .loop .at) (c .before .before .before .before .before .loop-test .taken) in
+    omega (arith, next, c .before .before .before .before .before .loop-test .taken)
 
-loop-again-3 : tie.Need-loop-again-3 Inv-loop μ-loop
-loop-again-3 c =
-    let next : c .next-at .result ≡ nextAt (c .before .before .before .before .before .before .before .before .before .before .before .before .before .before .before .before .args .script .now) (c .before .before .before .before .before .loop .at) = c .next-at .ensures ∙ step-inside (c .before .before .before .before .before .before .before .before .before .before .before .before .before .before .before .before .args .script .now) (c .before .before .before .before .before .loop .at) (c .before .before .before .before .loop-test .taken) in
-    let kind = getD (c .before .before .before .before .before .before .before .before .before .before .before .before .before .before .before .before .args .script .now) (c .before .before .before .before .before .loop .at) 0 in
-    let both : (not (c .before .before .before .before .before .loop .busy) && eqb kind TICKS) ≡ true = c .before .if3 .taken in
-    let idle = either-false (running (c .before .before .before .before .before .loop .core)) (c .before .before .before .before .before .loop .watch .on) .0 (sym (c .before .before .before .before .before .loop .inv .1) ∙ not-true (c .before .before .before .before .before .loop .busy) (and-left (not (c .before .before .before .before .before .loop .busy)) (eqb kind TICKS) both)) in
-    let plain = ap (λ (b : Bool). b || eqb kind TICK) (and-right (not (c .before .before .before .before .before .loop .busy)) (eqb kind TICKS) both) in (
-      rw next (plain-idle-turn (c .before .before .before .before .before .loop .inv .0) (c .before .before .before .before .loop-test .taken) plain (idle .0)),
-      c .before .before .before .before .before .loop .inv .1,
-      rw next (plain-idle-watched (c .before .before .before .before .before .loop .inv .2) (c .before .before .before .before .loop-test .taken) (good (c .before .before .before .before .before .loop .inv .0) (c .before .before .before .before .loop-test .taken) .ranged) plain (idle .0) (idle .1)),
+loop-again-4 : tie.Need-loop-again-4 Inv-loop μ-loop
+loop-again-4 c =
+    let next : c .next-at .result ≡ nextAt (c .before .before .before .before .before .before .before .before .before .before .before .before .before .args .script .now) (c .before .before .before .before .before .before .loop .at) = c .next-at .ensures ∙ step-inside (c .before .before .before .before .before .before .before .before .before .before .before .before .before .args .script .now) (c .before .before .before .before .before .before .loop .at) (c .before .before .before .before .before .loop-test .taken) in
+    let kind = getD (c .before .before .before .before .before .before .before .before .before .before .before .before .before .args .script .now) (c .before .before .before .before .before .before .loop .at) 0 in
+    let both : (not (c .before .before .before .before .before .before .loop .busy) && eqb kind TICKS) ≡ true = c .before .if4 .taken in
+    let idle = either-false (running (c .before .before .before .before .before .before .loop .core)) (c .before .before .before .before .before .before .loop .watch .on) .0 (sym (c .before .before .before .before .before .before .loop .inv .1) ∙ not-true (c .before .before .before .before .before .before .loop .busy) (and-left (not (c .before .before .before .before .before .before .loop .busy)) (eqb kind TICKS) both)) in
+    let plain = ap (λ (b : Bool). b || eqb kind TICK) (and-right (not (c .before .before .before .before .before .before .loop .busy)) (eqb kind TICKS) both) in (
+      rw next (plain-idle-turn (c .before .before .before .before .before .before .loop .inv .0) (c .before .before .before .before .before .loop-test .taken) plain (idle .0)),
+      c .before .before .before .before .before .before .loop .inv .1,
+      rw next (plain-idle-watched (c .before .before .before .before .before .before .loop .inv .2) (c .before .before .before .before .before .loop-test .taken) (good (c .before .before .before .before .before .before .loop .inv .0) (c .before .before .before .before .before .loop-test .taken) .ranged) plain (idle .0) (idle .1)),
     )
 
 body-at-requires : tie.Need-body-at-requires Inv-loop μ-loop
@@ -125,19 +134,19 @@ clock-after-requires c κs = search needs
 next-at-requires-2 : tie.Need-next-at-requires-2 Inv-loop μ-loop
 next-at-requires-2 c κs = search needs
 
-loop-less-4 : tie.Need-loop-less-4 Inv-loop μ-loop
-loop-less-4 c =
-    let next : c .next-at2 .result ≡ nextAt (c .before .before .before .before .before .before .before .before .before .before .before .before .before .before .before .before .before .before .before .before .before .before .args .script .now) (c .before .before .before .before .before .before .before .before .before .before .before .loop .at) = c .next-at2 .ensures ∙ step-inside (c .before .before .before .before .before .before .before .before .before .before .before .before .before .before .before .before .before .before .before .before .before .before .args .script .now) (c .before .before .before .before .before .before .before .before .before .before .before .loop .at) (c .before .before .before .before .before .before .before .before .before .before .loop-test .taken) in
-    omega (arith, next, c .before .before .before .before .before .before .before .before .before .before .loop-test .taken)
+loop-less-5 : tie.Need-loop-less-5 Inv-loop μ-loop
+loop-less-5 c =
+    let next : c .before .next-at2 .result ≡ nextAt (c .before .before .before .before .before .before .before .before .before .before .before .before .before .before .before .before .before .before .before .args .script .now) (c .before .before .before .before .before .before .before .before .before .before .before .before .loop .at) = c .before .next-at2 .ensures ∙ step-inside (c .before .before .before .before .before .before .before .before .before .before .before .before .before .before .before .before .before .before .before .args .script .now) (c .before .before .before .before .before .before .before .before .before .before .before .before .loop .at) (c .before .before .before .before .before .before .before .before .before .before .before .loop-test .taken) in
+    omega (arith, next, c .before .before .before .before .before .before .before .before .before .before .before .loop-test .taken)
 
-loop-again-4 : tie.Need-loop-again-4 Inv-loop μ-loop
-loop-again-4 c =
-    let next : c .next-at2 .result ≡ nextAt (c .before .before .before .before .before .before .before .before .before .before .before .before .before .before .before .before .before .before .before .before .before .before .args .script .now) (c .before .before .before .before .before .before .before .before .before .before .before .loop .at) = c .next-at2 .ensures ∙ step-inside (c .before .before .before .before .before .before .before .before .before .before .before .before .before .before .before .before .before .before .before .before .before .before .args .script .now) (c .before .before .before .before .before .before .before .before .before .before .before .loop .at) (c .before .before .before .before .before .before .before .before .before .before .loop-test .taken) in
-    let idle = either-false (running (c .before .before .before .before .before .before .before .before .before .before .before .loop .core)) (c .before .before .before .before .before .before .before .before .before .before .before .loop .watch .on) .0 (sym (c .before .before .before .before .before .before .before .before .before .before .before .loop .inv .1) ∙ not-true _ (c .before .if5 .taken)) in
-    let ticking = sym (c .before .before .before .before .before .is-ticking .ensures) ∙ c .before .before .before .before .if4 .taken in (
-      rw next (idle-turn (c .before .before .before .before .before .before .before .before .before .before .before .loop .inv .0) (c .before .before .before .before .before .before .before .before .before .before .loop-test .taken) ticking _ (c .before .before .before .before .before .before .body-at .ensures .0) _ (c .before .before .before .ticks-of .ensures .0) _ (c .before .before .clock-after .ensures) (idle .0)),
-      c .before .before .before .before .before .before .before .before .before .before .before .loop .inv .1,
-      rw next (idle-watched (c .before .before .before .before .before .before .before .before .before .before .before .loop .inv .2) (c .before .before .before .before .before .before .before .before .before .before .loop-test .taken) ticking _ (c .before .before .before .before .before .before .body-at .ensures .0) _ (c .before .before .before .ticks-of .ensures .0) (c .before .before .before .ticks-of .ensures .1) _ (c .before .before .clock-after .ensures) (idle .0) (idle .1)),
+loop-again-5 : tie.Need-loop-again-5 Inv-loop μ-loop
+loop-again-5 c =
+    let next : c .before .next-at2 .result ≡ nextAt (c .before .before .before .before .before .before .before .before .before .before .before .before .before .before .before .before .before .before .before .args .script .now) (c .before .before .before .before .before .before .before .before .before .before .before .before .loop .at) = c .before .next-at2 .ensures ∙ step-inside (c .before .before .before .before .before .before .before .before .before .before .before .before .before .before .before .before .before .before .before .args .script .now) (c .before .before .before .before .before .before .before .before .before .before .before .before .loop .at) (c .before .before .before .before .before .before .before .before .before .before .before .loop-test .taken) in
+    let idle = either-false (running (c .before .before .before .before .before .before .before .before .before .before .before .before .loop .core)) (c .before .before .before .before .before .before .before .before .before .before .before .before .loop .watch .on) .0 (sym (c .before .before .before .before .before .before .before .before .before .before .before .before .loop .inv .1) ∙ not-true _ (c .if6 .taken)) in
+    let ticking = sym (c .before .before .before .before .before .is-ticking .ensures) ∙ c .before .before .before .before .if5 .taken in (
+      rw next (idle-turn (c .before .before .before .before .before .before .before .before .before .before .before .before .loop .inv .0) (c .before .before .before .before .before .before .before .before .before .before .before .loop-test .taken) ticking _ (c .before .before .before .before .before .before .body-at .ensures .0) _ (c .before .before .before .ticks-of .ensures .0) _ (c .before .before .clock-after .ensures) (idle .0)),
+      c .before .before .before .before .before .before .before .before .before .before .before .before .loop .inv .1,
+      rw next (idle-watched (c .before .before .before .before .before .before .before .before .before .before .before .before .loop .inv .2) (c .before .before .before .before .before .before .before .before .before .before .before .loop-test .taken) ticking _ (c .before .before .before .before .before .before .body-at .ensures .0) _ (c .before .before .before .ticks-of .ensures .0) (c .before .before .before .ticks-of .ensures .1) _ (c .before .before .clock-after .ensures) (idle .0) (idle .1)),
     )
 
 ticks-requires : tie.Need-ticks-requires Inv-loop μ-loop
@@ -145,11 +154,11 @@ ticks-requires c κs = search needs
 
 watch-ticks-requires : tie.Need-watch-ticks-requires Inv-loop μ-loop
 watch-ticks-requires c κs =
-    let ticking = sym (c .before .before .before .before .before .before .before .before .before .is-ticking .ensures) ∙ c .before .before .before .before .before .before .before .before .if4 .taken in
-    let modest = modest-then (c .before .before .before .before .before .before .before .before .before .before .before .before .before .before .before .loop .inv .2) (c .before .before .before .before .before .before .before .before .before .before .before .before .before .before .loop-test .taken) ticking _ (c .before .before .before .before .before .before .before .before .before .before .body-at .ensures .0) _ (c .before .before .before .before .before .before .before .ticks-of .ensures .0) (c .before .before .before .before .before .before .before .ticks-of .ensures .1) _ (c .before .before .before .before .before .before .clock-after .ensures) in (
-      c .before .before .before .before .before .before .before .before .before .before .before .before .before .before .before .before .before .before .before .before .before .before .before .before .before .before .pre .0,
-      omega (arith, modest, good (c .before .before .before .before .before .before .before .before .before .before .before .before .before .before .before .loop .inv .0) (c .before .before .before .before .before .before .before .before .before .before .before .before .before .before .loop-test .taken) .inside, c .before .before .before .before .before .before .before .before .before .before .before .before .before .before .before .loop .inv .0 .short),
-      omega (arith, c .before .before .ticks .ensures .working, worked-most (c .before .before .before .before .before .before .before .before .before .before .before .before .before .before .before .before .before .before .before .before .before .before .before .before .before .before .args .sectors) (c .before .before .before .before .before .before .before .ticks-of .result) (c .before .before .before .before .before .before .before .before .before .before .before .before .before .before .before .loop .core)),
+    let ticking = sym (c .before .before .before .before .before .before .before .before .before .before .is-ticking .ensures) ∙ c .before .before .before .before .before .before .before .before .before .if5 .taken in
+    let modest = modest-then (c .before .before .before .before .before .before .before .before .before .before .before .before .before .before .before .before .before .loop .inv .2) (c .before .before .before .before .before .before .before .before .before .before .before .before .before .before .before .before .loop-test .taken) ticking _ (c .before .before .before .before .before .before .before .before .before .before .before .body-at .ensures .0) _ (c .before .before .before .before .before .before .before .before .ticks-of .ensures .0) (c .before .before .before .before .before .before .before .before .ticks-of .ensures .1) _ (c .before .before .before .before .before .before .before .clock-after .ensures) in (
+      c .before .before .before .before .before .before .before .before .before .before .before .before .before .before .before .before .before .before .before .before .before .before .before .before .pre .0,
+      omega (arith, modest, good (c .before .before .before .before .before .before .before .before .before .before .before .before .before .before .before .before .before .loop .inv .0) (c .before .before .before .before .before .before .before .before .before .before .before .before .before .before .before .before .loop-test .taken) .inside, c .before .before .before .before .before .before .before .before .before .before .before .before .before .before .before .before .before .loop .inv .0 .short),
+      omega (arith, c .before .before .ticks .ensures .working, worked-most (c .before .before .before .before .before .before .before .before .before .before .before .before .before .before .before .before .before .before .before .before .before .before .before .before .args .sectors) (c .before .before .before .before .before .before .before .before .ticks-of .result) (c .before .before .before .before .before .before .before .before .before .before .before .before .before .before .before .before .before .loop .core)),
     )
 
 is-running-requires-2 : tie.Need-is-running-requires-2 Inv-loop μ-loop
@@ -161,23 +170,20 @@ cast-ticks c = search needs
 add-ticks : tie.Need-add-ticks Inv-loop μ-loop
 add-ticks c =
     let t : c .before .before .before .before .before .before .before .ticks .result .worked < 4294967296 = search needs in
-    omega (arith, c .before .before .before .before .before .before .before .before .before .before .before .before .before .before .before .before .before .before .before .before .loop .inv .0 .few, c .before .before .before .before .before .before .before .before .before .before .before .before .before .before .before .before .before .before .before .before .loop .inv .0 .inside, c .before .before .before .before .before .before .before .before .before .before .before .before .before .before .before .before .before .before .before .before .loop .inv .0 .short)
+    omega (arith, c .before .before .before .before .before .before .before .before .before .before .before .before .before .before .before .before .before .before .before .before .before .before .loop .inv .0 .few, c .before .before .before .before .before .before .before .before .before .before .before .before .before .before .before .before .before .before .before .before .before .before .loop .inv .0 .inside, c .before .before .before .before .before .before .before .before .before .before .before .before .before .before .before .before .before .before .before .before .before .before .loop .inv .0 .short)
 
-next-at-requires-3 : tie.Need-next-at-requires-3 Inv-loop μ-loop
-next-at-requires-3 c κs = search needs
+loop-less-6 : tie.Need-loop-less-6 Inv-loop μ-loop
+loop-less-6 c =
+    let next : c .before .before .before .before .before .before .before .before .before .before .before .next-at2 .result ≡ nextAt (c .before .before .before .before .before .before .before .before .before .before .before .before .before .before .before .before .before .before .before .before .before .before .before .before .before .before .before .before .before .args .script .now) (c .before .before .before .before .before .before .before .before .before .before .before .before .before .before .before .before .before .before .before .before .before .before .loop .at) = c .before .before .before .before .before .before .before .before .before .before .before .next-at2 .ensures ∙ step-inside (c .before .before .before .before .before .before .before .before .before .before .before .before .before .before .before .before .before .before .before .before .before .before .before .before .before .before .before .before .before .args .script .now) (c .before .before .before .before .before .before .before .before .before .before .before .before .before .before .before .before .before .before .before .before .before .before .loop .at) (c .before .before .before .before .before .before .before .before .before .before .before .before .before .before .before .before .before .before .before .before .before .loop-test .taken) in
+    omega (arith, next, c .before .before .before .before .before .before .before .before .before .before .before .before .before .before .before .before .before .before .before .before .before .loop-test .taken)
 
-loop-less-5 : tie.Need-loop-less-5 Inv-loop μ-loop
-loop-less-5 c =
-    let next : c .next-at3 .result ≡ nextAt (c .before .before .before .before .before .before .before .before .before .before .before .before .before .before .before .before .before .before .before .before .before .before .before .before .before .before .before .before .before .before .before .before .args .script .now) (c .before .before .before .before .before .before .before .before .before .before .before .before .before .before .before .before .before .before .before .before .before .loop .at) = c .next-at3 .ensures ∙ step-inside (c .before .before .before .before .before .before .before .before .before .before .before .before .before .before .before .before .before .before .before .before .before .before .before .before .before .before .before .before .before .before .before .before .args .script .now) (c .before .before .before .before .before .before .before .before .before .before .before .before .before .before .before .before .before .before .before .before .before .loop .at) (c .before .before .before .before .before .before .before .before .before .before .before .before .before .before .before .before .before .before .before .before .loop-test .taken) in
-    omega (arith, next, c .before .before .before .before .before .before .before .before .before .before .before .before .before .before .before .before .before .before .before .before .loop-test .taken)
-
-loop-again-5 : tie.Need-loop-again-5 Inv-loop μ-loop
-loop-again-5 c =
-    let next : c .next-at3 .result ≡ nextAt (c .before .before .before .before .before .before .before .before .before .before .before .before .before .before .before .before .before .before .before .before .before .before .before .before .before .before .before .before .before .before .before .before .args .script .now) (c .before .before .before .before .before .before .before .before .before .before .before .before .before .before .before .before .before .before .before .before .before .loop .at) = c .next-at3 .ensures ∙ step-inside (c .before .before .before .before .before .before .before .before .before .before .before .before .before .before .before .before .before .before .before .before .before .before .before .before .before .before .before .before .before .before .before .before .args .script .now) (c .before .before .before .before .before .before .before .before .before .before .before .before .before .before .before .before .before .before .before .before .before .loop .at) (c .before .before .before .before .before .before .before .before .before .before .before .before .before .before .before .before .before .before .before .before .loop-test .taken) in
-    let ticking = sym (c .before .before .before .before .before .before .before .before .before .before .before .before .before .before .before .is-ticking .ensures) ∙ c .before .before .before .before .before .before .before .before .before .before .before .before .before .before .if4 .taken in (
-      rw next (ticks-turn (c .before .before .before .before .before .before .before .before .before .before .before .before .before .before .before .before .before .before .before .before .before .loop .inv .0) (c .before .before .before .before .before .before .before .before .before .before .before .before .before .before .before .before .before .before .before .before .loop-test .taken) ticking _ (c .before .before .before .before .before .before .before .before .before .before .before .before .before .before .before .before .body-at .ensures .0) _ (c .before .before .before .before .before .before .before .before .before .before .before .before .before .ticks-of .ensures .0) _ (c .before .before .before .before .before .before .before .before .before .before .before .before .clock-after .ensures) _ _ _ _ (c .before .before .before .before .before .before .before .before .ticks .ensures) (search needs) (c .before .before .before .before .before .before .before .before .ticks .kept .1 .1 .0)),
-      ap (λ (b : Bool). b || c .before .before .before .before .before .watch-ticks .result .on) (c .before .before .before .is-running2 .ensures),
-      rw (next, c .before .before .before .before .before .watch-ticks .ensures) (ticks-watched (c .before .before .before .before .before .before .before .before .before .before .before .before .before .before .before .before .before .before .before .before .before .loop .inv .2) (c .before .before .before .before .before .before .before .before .before .before .before .before .before .before .before .before .before .before .before .before .loop-test .taken) ticking _ (c .before .before .before .before .before .before .before .before .before .before .before .before .before .before .before .before .body-at .ensures .0) _ (c .before .before .before .before .before .before .before .before .before .before .before .before .before .ticks-of .ensures .0) (c .before .before .before .before .before .before .before .before .before .before .before .before .before .ticks-of .ensures .1) _ (c .before .before .before .before .before .before .before .before .before .before .before .before .clock-after .ensures) _ _ _ _ (c .before .before .before .before .before .before .before .before .ticks .ensures)),
+loop-again-6 : tie.Need-loop-again-6 Inv-loop μ-loop
+loop-again-6 c =
+    let next : c .before .before .before .before .before .before .before .before .before .before .before .next-at2 .result ≡ nextAt (c .before .before .before .before .before .before .before .before .before .before .before .before .before .before .before .before .before .before .before .before .before .before .before .before .before .before .before .before .before .args .script .now) (c .before .before .before .before .before .before .before .before .before .before .before .before .before .before .before .before .before .before .before .before .before .before .loop .at) = c .before .before .before .before .before .before .before .before .before .before .before .next-at2 .ensures ∙ step-inside (c .before .before .before .before .before .before .before .before .before .before .before .before .before .before .before .before .before .before .before .before .before .before .before .before .before .before .before .before .before .args .script .now) (c .before .before .before .before .before .before .before .before .before .before .before .before .before .before .before .before .before .before .before .before .before .before .loop .at) (c .before .before .before .before .before .before .before .before .before .before .before .before .before .before .before .before .before .before .before .before .before .loop-test .taken) in
+    let ticking = sym (c .before .before .before .before .before .before .before .before .before .before .before .before .before .before .before .is-ticking .ensures) ∙ c .before .before .before .before .before .before .before .before .before .before .before .before .before .before .if5 .taken in (
+      rw next (ticks-turn (c .before .before .before .before .before .before .before .before .before .before .before .before .before .before .before .before .before .before .before .before .before .before .loop .inv .0) (c .before .before .before .before .before .before .before .before .before .before .before .before .before .before .before .before .before .before .before .before .before .loop-test .taken) ticking _ (c .before .before .before .before .before .before .before .before .before .before .before .before .before .before .before .before .body-at .ensures .0) _ (c .before .before .before .before .before .before .before .before .before .before .before .before .before .ticks-of .ensures .0) _ (c .before .before .before .before .before .before .before .before .before .before .before .before .clock-after .ensures) _ _ _ _ (c .before .before .before .before .before .before .before .ticks .ensures) (search needs) (c .before .before .before .before .before .before .before .ticks .kept .1 .1 .0)),
+      ap (λ (b : Bool). b || c .before .before .before .before .watch-ticks .result .on) (c .before .before .is-running2 .ensures),
+      rw (next, c .before .before .before .before .watch-ticks .ensures) (ticks-watched (c .before .before .before .before .before .before .before .before .before .before .before .before .before .before .before .before .before .before .before .before .before .before .loop .inv .2) (c .before .before .before .before .before .before .before .before .before .before .before .before .before .before .before .before .before .before .before .before .before .loop-test .taken) ticking _ (c .before .before .before .before .before .before .before .before .before .before .before .before .before .before .before .before .body-at .ensures .0) _ (c .before .before .before .before .before .before .before .before .before .before .before .before .before .ticks-of .ensures .0) (c .before .before .before .before .before .before .before .before .before .before .before .before .before .ticks-of .ensures .1) _ (c .before .before .before .before .before .before .before .before .before .before .before .before .clock-after .ensures) _ _ _ _ (c .before .before .before .before .before .before .before .ticks .ensures)),
     )
 
 cast-step : tie.Need-cast-step Inv-loop μ-loop
@@ -187,7 +193,7 @@ step-requires : tie.Need-step-requires Inv-loop μ-loop
 step-requires c κs = search needs
 
 put-requires-3 : tie.Need-put-requires-3 Inv-loop μ-loop
-put-requires-3 c κs = finds-room (c .before .before .before .before .before .before .before .before .before .before .before .before .before .before .loop .inv .0) (c .before .before .before .before .before .before .before .before .before .before .before .before .before .loop-test .taken) _ (c .before .before .before .step .ensures ∙ ap (applied _ _ _ _) (c .before .before .before .before .before .before .before .before .before .body-at .ensures .0))
+put-requires-3 c κs = finds-room (c .before .before .before .before .before .before .before .before .before .before .before .before .before .before .before .loop .inv .0) (c .before .before .before .before .before .before .before .before .before .before .before .before .before .before .loop-test .taken) _ (c .before .before .before .step .ensures ∙ ap (applied _ _ _ _) (c .before .before .before .before .before .before .before .before .before .body-at .ensures .0))
 
 watch-event-requires : tie.Need-watch-event-requires Inv-loop μ-loop
 watch-event-requires c κs = search needs
@@ -201,37 +207,34 @@ cast-ticks-2 c = search needs
 add-ticks-2 : tie.Need-add-ticks-2 Inv-loop μ-loop
 add-ticks-2 c =
     let t : c .before .before .before .before .before .before .before .before .before .before .before .before .step .result .ticks < 4294967296 = search needs in
-    omega (arith, c .before .before .before .before .before .before .before .before .before .before .before .before .before .before .before .before .before .before .before .before .before .before .before .loop .inv .0 .few, c .before .before .before .before .before .before .before .before .before .before .before .before .before .before .before .before .before .before .before .before .before .before .before .loop .inv .0 .inside, c .before .before .before .before .before .before .before .before .before .before .before .before .before .before .before .before .before .before .before .before .before .before .before .loop .inv .0 .short)
+    omega (arith, c .before .before .before .before .before .before .before .before .before .before .before .before .before .before .before .before .before .before .before .before .before .before .before .before .loop .inv .0 .few, c .before .before .before .before .before .before .before .before .before .before .before .before .before .before .before .before .before .before .before .before .before .before .before .before .loop .inv .0 .inside, c .before .before .before .before .before .before .before .before .before .before .before .before .before .before .before .before .before .before .before .before .before .before .before .before .loop .inv .0 .short)
 
-next-at-requires-4 : tie.Need-next-at-requires-4 Inv-loop μ-loop
-next-at-requires-4 c κs = search needs
+next-at-requires-3 : tie.Need-next-at-requires-3 Inv-loop μ-loop
+next-at-requires-3 c κs = search needs
 
-loop-less-6 : tie.Need-loop-less-6 Inv-loop μ-loop
-loop-less-6 c =
-    let next : c .next-at4 .result ≡ nextAt (c .before .before .before .before .before .before .before .before .before .before .before .before .before .before .before .before .before .before .before .before .before .before .before .before .before .before .before .before .before .before .before .before .before .before .before .args .script .now) (c .before .before .before .before .before .before .before .before .before .before .before .before .before .before .before .before .before .before .before .before .before .before .before .before .loop .at) = c .next-at4 .ensures ∙ step-inside (c .before .before .before .before .before .before .before .before .before .before .before .before .before .before .before .before .before .before .before .before .before .before .before .before .before .before .before .before .before .before .before .before .before .before .before .args .script .now) (c .before .before .before .before .before .before .before .before .before .before .before .before .before .before .before .before .before .before .before .before .before .before .before .before .loop .at) (c .before .before .before .before .before .before .before .before .before .before .before .before .before .before .before .before .before .before .before .before .before .before .before .loop-test .taken) in
-    omega (arith, next, c .before .before .before .before .before .before .before .before .before .before .before .before .before .before .before .before .before .before .before .before .before .before .before .loop-test .taken)
+loop-less-7 : tie.Need-loop-less-7 Inv-loop μ-loop
+loop-less-7 c =
+    let next : c .next-at3 .result ≡ nextAt (c .before .before .before .before .before .before .before .before .before .before .before .before .before .before .before .before .before .before .before .before .before .before .before .before .before .before .before .before .before .before .before .before .args .script .now) (c .before .before .before .before .before .before .before .before .before .before .before .before .before .before .before .before .before .before .before .before .before .before .before .before .before .loop .at) = c .next-at3 .ensures ∙ step-inside (c .before .before .before .before .before .before .before .before .before .before .before .before .before .before .before .before .before .before .before .before .before .before .before .before .before .before .before .before .before .before .before .before .args .script .now) (c .before .before .before .before .before .before .before .before .before .before .before .before .before .before .before .before .before .before .before .before .before .before .before .before .before .loop .at) (c .before .before .before .before .before .before .before .before .before .before .before .before .before .before .before .before .before .before .before .before .before .before .before .before .loop-test .taken) in
+    omega (arith, next, c .before .before .before .before .before .before .before .before .before .before .before .before .before .before .before .before .before .before .before .before .before .before .before .before .loop-test .taken)
 
-loop-again-6 : tie.Need-loop-again-6 Inv-loop μ-loop
-loop-again-6 c =
-    let next : c .next-at4 .result ≡ nextAt (c .before .before .before .before .before .before .before .before .before .before .before .before .before .before .before .before .before .before .before .before .before .before .before .before .before .before .before .before .before .before .before .before .before .before .before .args .script .now) (c .before .before .before .before .before .before .before .before .before .before .before .before .before .before .before .before .before .before .before .before .before .before .before .before .loop .at) = c .next-at4 .ensures ∙ step-inside (c .before .before .before .before .before .before .before .before .before .before .before .before .before .before .before .before .before .before .before .before .before .before .before .before .before .before .before .before .before .before .before .before .before .before .before .args .script .now) (c .before .before .before .before .before .before .before .before .before .before .before .before .before .before .before .before .before .before .before .before .before .before .before .before .loop .at) (c .before .before .before .before .before .before .before .before .before .before .before .before .before .before .before .before .before .before .before .before .before .before .before .loop-test .taken) in
-    let other = sym (c .before .before .before .before .before .before .before .before .before .before .before .before .before .before .before .before .before .before .is-ticking .ensures) ∙ c .before .before .before .before .before .before .before .before .before .before .before .before .before .before .before .before .before .if4 .left in
+loop-again-7 : tie.Need-loop-again-7 Inv-loop μ-loop
+loop-again-7 c =
+    let next : c .next-at3 .result ≡ nextAt (c .before .before .before .before .before .before .before .before .before .before .before .before .before .before .before .before .before .before .before .before .before .before .before .before .before .before .before .before .before .before .before .before .args .script .now) (c .before .before .before .before .before .before .before .before .before .before .before .before .before .before .before .before .before .before .before .before .before .before .before .before .before .loop .at) = c .next-at3 .ensures ∙ step-inside (c .before .before .before .before .before .before .before .before .before .before .before .before .before .before .before .before .before .before .before .before .before .before .before .before .before .before .before .before .before .before .before .before .args .script .now) (c .before .before .before .before .before .before .before .before .before .before .before .before .before .before .before .before .before .before .before .before .before .before .before .before .before .loop .at) (c .before .before .before .before .before .before .before .before .before .before .before .before .before .before .before .before .before .before .before .before .before .before .before .before .loop-test .taken) in
+    let other = sym (c .before .before .before .before .before .before .before .before .before .before .before .before .before .before .before .before .before .before .is-ticking .ensures) ∙ c .before .before .before .before .before .before .before .before .before .before .before .before .before .before .before .before .before .if5 .left in
     let does = c .before .before .before .before .before .before .before .before .before .before .before .before .before .step .ensures ∙ ap (applied _ _ _ _) (c .before .before .before .before .before .before .before .before .before .before .before .before .before .before .before .before .before .before .before .body-at .ensures .0) in (
-      rw next (turns (c .before .before .before .before .before .before .before .before .before .before .before .before .before .before .before .before .before .before .before .before .before .before .before .before .loop .inv .0) (c .before .before .before .before .before .before .before .before .before .before .before .before .before .before .before .before .before .before .before .before .before .before .before .loop-test .taken) (not-ticking (getD (c .before .before .before .before .before .before .before .before .before .before .before .before .before .before .before .before .before .before .before .before .before .before .before .before .before .before .before .before .before .before .before .before .before .before .before .args .script .now) (c .before .before .before .before .before .before .before .before .before .before .before .before .before .before .before .before .before .before .before .before .before .before .before .before .loop .at) 0) other .not-stamp) _ _ _ does (c .before .before .before .before .before .before .before .before .before .put3 .ensures) (search needs) (c .before .before .before .before .before .before .before .before .before .before .before .before .before .step .kept .1 .1 .1 .1 .0) (c .before .before .before .before .before .before .before .before .before .put3 .kept .0)),
+      rw next (turns (c .before .before .before .before .before .before .before .before .before .before .before .before .before .before .before .before .before .before .before .before .before .before .before .before .before .loop .inv .0) (c .before .before .before .before .before .before .before .before .before .before .before .before .before .before .before .before .before .before .before .before .before .before .before .before .loop-test .taken) (not-ticking (getD (c .before .before .before .before .before .before .before .before .before .before .before .before .before .before .before .before .before .before .before .before .before .before .before .before .before .before .before .before .before .before .before .before .args .script .now) (c .before .before .before .before .before .before .before .before .before .before .before .before .before .before .before .before .before .before .before .before .before .before .before .before .before .loop .at) 0) other .not-stamp) _ _ _ does (c .before .before .before .before .before .before .before .before .before .put3 .ensures) (search needs) (c .before .before .before .before .before .before .before .before .before .before .before .before .before .step .kept .1 .1 .1 .1 .0) (c .before .before .before .before .before .before .before .before .before .put3 .kept .0)),
       ap (λ (b : Bool). b || c .before .before .before .before .before .before .watch-event .result .on) (c .before .before .before .before .is-running3 .ensures),
-      rw (next, c .before .before .before .before .before .before .watch-event .ensures) (event-watched (c .before .before .before .before .before .before .before .before .before .before .before .before .before .before .before .before .before .before .before .before .before .before .before .before .loop .inv .2) (c .before .before .before .before .before .before .before .before .before .before .before .before .before .before .before .before .before .before .before .before .before .before .before .loop-test .taken) other _ _ _ _ _ _ _ does),
+      rw (next, c .before .before .before .before .before .before .watch-event .ensures) (event-watched (c .before .before .before .before .before .before .before .before .before .before .before .before .before .before .before .before .before .before .before .before .before .before .before .before .before .loop .inv .2) (c .before .before .before .before .before .before .before .before .before .before .before .before .before .before .before .before .before .before .before .before .before .before .before .before .loop-test .taken) other _ _ _ _ _ _ _ does),
     )
 
-finished-requires : tie.Need-finished-requires Inv-loop μ-loop
-finished-requires c κs = search needs
-
 same-length : tie.Need-same-length Inv-loop μ-loop
-same-length c = c .before .before .before .loop .inv .0 .memory
+same-length c = c .before .before .loop .inv .0 .memory
 
 same-length-2 : tie.Need-same-length-2 Inv-loop μ-loop
-same-length-2 c = c .before .before .before .loop .inv .0 .output
+same-length-2 c = c .before .before .loop .inv .0 .output
 
 returns : tie.Need-returns Inv-loop μ-loop
-returns c = (rw (c .finished .ensures) (ends (c .before .before .before .loop .inv .0) (c .before .before .loop-test .left)), reports (c .before .before .before .loop .inv .2) (c .before .before .loop-test .left))
+returns c = (ends (c .before .before .loop .inv .0) (c .before .loop-test .left), reports (c .before .before .loop .inv .2) (c .before .loop-test .left))
 
 pub play-spec : {M : Type 1} → statement M
 play-spec =
@@ -257,9 +260,12 @@ play-spec =
     add-at-2
     loop-less-2
     loop-again-2
-    next-at-requires
+    add-at-3
     loop-less-3
     loop-again-3
+    next-at-requires
+    loop-less-4
+    loop-again-4
     body-at-requires
     is-ticking-requires
     cast-ticks-of
@@ -267,16 +273,15 @@ play-spec =
     cast-clock-after
     clock-after-requires
     next-at-requires-2
-    loop-less-4
-    loop-again-4
+    loop-less-5
+    loop-again-5
     ticks-requires
     watch-ticks-requires
     is-running-requires-2
     cast-ticks
     add-ticks
-    next-at-requires-3
-    loop-less-5
-    loop-again-5
+    loop-less-6
+    loop-again-6
     cast-step
     step-requires
     put-requires-3
@@ -284,10 +289,9 @@ play-spec =
     is-running-requires-3
     cast-ticks-2
     add-ticks-2
-    next-at-requires-4
-    loop-less-6
-    loop-again-6
-    finished-requires
+    next-at-requires-3
+    loop-less-7
+    loop-again-7
     same-length
     same-length-2
     returns)

@@ -10,6 +10,7 @@ use Rattle.legal.specs.Legal.{legal}
 use Rattle.clock.specs.Clock.{unset}
 use Rattle.script.specs.Script.{firstBad, events, room, Refusal}
 use Rattle.script.specs.Laws.{refusal-length, refusal-area, refusal-state, refusal-long, refusal-bad, refusal-room, refusal-none}
+use Rattle.chip.specs.declared.Chip.{Chip}
 use borrow.Author.Needs.{needs}
 use Rattle.script.proofs.refuses.Statement.{statement}
 use Rattle.script.proofs.refuses.Tie as tie
@@ -21,68 +22,71 @@ refuse-requires : tie.Need-refuse-requires
 refuse-requires c κs = search needs
 
 returns : tie.Need-returns
-returns c = rw (c .refuse .ensures) (sym (refusal-length _ _ _ _ _ (no-sectors (c .before .before .before .before .args .n) _ (c .before .before .sectors-of .ensures) (c .before .if1 .taken))))
+returns c = λ (chip : Chip) fine. rw (c .refuse .ensures) (sym (refusal-length _ _ _ _ _ (no-sectors (c .before .before .before .before .args .n) _ (c .before .before .sectors-of .ensures) (c .before .if1 .taken))))
 
 refuse-requires-2 : tie.Need-refuse-requires-2
 refuse-requires-2 c κs = search needs
 
 returns-2 : tie.Need-returns-2
 returns-2 c =
+    λ (chip : Chip) fine.
     let p : permitted (c .before .before .before .before .before .args .n) ≡ true = some-sectors (c .before .before .before .before .before .args .n) _ (c .before .before .before .sectors-of .ensures) (c .before .before .if1 .left) in
     rw (c .refuse2 .ensures) (sym (refusal-area _ _ _ _ _ p (c .before .if2 .taken)))
-
-is-legal-requires : tie.Need-is-legal-requires
-is-legal-requires c κs = search needs
 
 refuse-requires-3 : tie.Need-refuse-requires-3
 refuse-requires-3 c κs = search needs
 
 returns-3 : tie.Need-returns-3
 returns-3 c =
-    let p : permitted (c .before .before .before .before .before .before .before .args .n) ≡ true = some-sectors (c .before .before .before .before .before .before .before .args .n) _ (c .before .before .before .before .before .sectors-of .ensures) (c .before .before .before .before .if1 .left) in
-    let l : legal (c .before .before .before .before .before .before .before .args .chip) (c .before .before .before .before .before .before .before .args .n) ≡ false = sym (c .before .before .is-legal .ensures) ∙ not-true _ (c .before .if3 .taken) in
-    rw (c .refuse3 .ensures) (sym (refusal-state _ _ _ _ _ p (c .before .before .before .if2 .left) l))
+    λ (chip : Chip) fine.
+    let p : permitted (c .before .before .before .before .before .before .args .n) ≡ true = some-sectors (c .before .before .before .before .before .before .args .n) _ (c .before .before .before .before .sectors-of .ensures) (c .before .before .before .if1 .left) in
+    let l : legal chip (c .before .before .before .before .before .before .args .n) ≡ false = sym fine ∙ not-true _ (c .before .if3 .taken) in
+    rw (c .refuse3 .ensures) (sym (refusal-state _ _ _ _ _ p (c .before .before .if2 .left) l))
 
 refuse-requires-4 : tie.Need-refuse-requires-4
 refuse-requires-4 c κs = search needs
 
 returns-4 : tie.Need-returns-4
 returns-4 c =
-    let p : permitted (c .before .before .before .before .before .before .before .before .args .n) ≡ true = some-sectors (c .before .before .before .before .before .before .before .before .args .n) _ (c .before .before .before .before .before .before .sectors-of .ensures) (c .before .before .before .before .before .if1 .left) in
-    let l : legal (c .before .before .before .before .before .before .before .before .args .chip) (c .before .before .before .before .before .before .before .before .args .n) ≡ true = sym (c .before .before .before .is-legal .ensures) ∙ not-false _ (c .before .before .if3 .left) in
-    rw (c .refuse4 .ensures) (sym (refusal-long _ _ _ _ _ p (c .before .before .before .before .if2 .left) l (c .before .if4 .taken)))
+    λ (chip : Chip) fine.
+    let p : permitted (c .before .before .before .before .before .before .before .args .n) ≡ true = some-sectors (c .before .before .before .before .before .before .before .args .n) _ (c .before .before .before .before .before .sectors-of .ensures) (c .before .before .before .before .if1 .left) in
+    let l : legal chip (c .before .before .before .before .before .before .before .args .n) ≡ true = sym fine ∙ not-false _ (c .before .before .if3 .left) in
+    rw (c .refuse4 .ensures) (sym (refusal-long _ _ _ _ _ p (c .before .before .before .if2 .left) l (c .before .if4 .taken)))
 
 scan-requires : tie.Need-scan-requires
 scan-requires c κs = search needs
 
 returns-5 : tie.Need-returns-5
 returns-5 c =
-    let p : permitted (c .before .before .before .before .before .before .before .before .before .before .before .args .n) ≡ true = some-sectors (c .before .before .before .before .before .before .before .before .before .before .before .args .n) _ (c .before .before .before .before .before .before .before .before .before .sectors-of .ensures) (c .before .before .before .before .before .before .before .before .if1 .left) in
-    let l : legal (c .before .before .before .before .before .before .before .before .before .before .before .args .chip) (c .before .before .before .before .before .before .before .before .before .before .before .args .n) ≡ true = sym (c .before .before .before .before .before .before .is-legal .ensures) ∙ not-false _ (c .before .before .before .before .before .if3 .left) in
-    let b : firstBad unset (events (c .before .before .before .before .before .before .before .before .before .before .before .args .script .now)) .number ≡ 0 → ⊥ = λ e. c .if5 .taken (ap (λ (r : Refusal). r .number) (c .before .before .before .scan .ensures .bad) ∙ e) in
-    c .before .before .before .scan .ensures .bad ∙ sym (refusal-bad _ _ _ _ _ p (c .before .before .before .before .before .before .before .if2 .left) l (c .before .before .before .before .if4 .left) b)
+    λ (chip : Chip) fine.
+    let p : permitted (c .before .before .before .before .before .before .before .before .before .before .args .n) ≡ true = some-sectors (c .before .before .before .before .before .before .before .before .before .before .args .n) _ (c .before .before .before .before .before .before .before .before .sectors-of .ensures) (c .before .before .before .before .before .before .before .if1 .left) in
+    let l : legal chip (c .before .before .before .before .before .before .before .before .before .before .args .n) ≡ true = sym fine ∙ not-false _ (c .before .before .before .before .before .if3 .left) in
+    let b : firstBad unset (events (c .before .before .before .before .before .before .before .before .before .before .args .script .now)) .number ≡ 0 → ⊥ = λ e. c .if5 .taken (ap (λ (r : Refusal). r .number) (c .before .before .before .scan .ensures .bad) ∙ e) in
+    c .before .before .before .scan .ensures .bad ∙ sym (refusal-bad _ _ _ _ _ p (c .before .before .before .before .before .before .if2 .left) l (c .before .before .before .before .if4 .left) b)
 
 refuse-requires-5 : tie.Need-refuse-requires-5
 refuse-requires-5 c κs = search needs
 
 returns-6 : tie.Need-returns-6
 returns-6 c =
-    let p : permitted (c .before .before .before .before .before .before .before .before .before .before .before .before .before .before .args .n) ≡ true = some-sectors (c .before .before .before .before .before .before .before .before .before .before .before .before .before .before .args .n) _ (c .before .before .before .before .before .before .before .before .before .before .before .before .sectors-of .ensures) (c .before .before .before .before .before .before .before .before .before .before .before .if1 .left) in
-    let l : legal (c .before .before .before .before .before .before .before .before .before .before .before .before .before .before .args .chip) (c .before .before .before .before .before .before .before .before .before .before .before .before .before .before .args .n) ≡ true = sym (c .before .before .before .before .before .before .before .before .before .is-legal .ensures) ∙ not-false _ (c .before .before .before .before .before .before .before .before .if3 .left) in
-    let b : firstBad unset (events (c .before .before .before .before .before .before .before .before .before .before .before .before .before .before .args .script .now)) .number ≡ 0 = sym (ap (λ (r : Refusal). r .number) (c .before .before .before .before .before .before .scan .ensures .bad)) ∙ c .before .before .before .if5 .left in
-    let h : c .before .before .before .before .before .before .before .before .before .before .before .before .before .before .args .space < room (events (c .before .before .before .before .before .before .before .before .before .before .before .before .before .before .args .script .now)) = omega (arith, c .before .if6 .taken, c .before .before .before .before .before .before .scan .ensures .rooms (c .before .before .before .if5 .left)) in
-    rw (c .refuse5 .ensures) (sym (refusal-room _ _ _ _ _ p (c .before .before .before .before .before .before .before .before .before .before .if2 .left) l (c .before .before .before .before .before .before .before .if4 .left) b h))
+    λ (chip : Chip) fine.
+    let p : permitted (c .before .before .before .before .before .before .before .before .before .before .before .before .before .args .n) ≡ true = some-sectors (c .before .before .before .before .before .before .before .before .before .before .before .before .before .args .n) _ (c .before .before .before .before .before .before .before .before .before .before .before .sectors-of .ensures) (c .before .before .before .before .before .before .before .before .before .before .if1 .left) in
+    let l : legal chip (c .before .before .before .before .before .before .before .before .before .before .before .before .before .args .n) ≡ true = sym fine ∙ not-false _ (c .before .before .before .before .before .before .before .before .if3 .left) in
+    let b : firstBad unset (events (c .before .before .before .before .before .before .before .before .before .before .before .before .before .args .script .now)) .number ≡ 0 = sym (ap (λ (r : Refusal). r .number) (c .before .before .before .before .before .before .scan .ensures .bad)) ∙ c .before .before .before .if5 .left in
+    let h : c .before .before .before .before .before .before .before .before .before .before .before .before .before .args .space < room (events (c .before .before .before .before .before .before .before .before .before .before .before .before .before .args .script .now)) = omega (arith, c .before .if6 .taken, c .before .before .before .before .before .before .scan .ensures .rooms (c .before .before .before .if5 .left)) in
+    rw (c .refuse5 .ensures) (sym (refusal-room _ _ _ _ _ p (c .before .before .before .before .before .before .before .before .before .if2 .left) l (c .before .before .before .before .before .before .before .if4 .left) b h))
 
 refuse-requires-6 : tie.Need-refuse-requires-6
 refuse-requires-6 c κs = search needs
 
 returns-7 : tie.Need-returns-7
 returns-7 c =
-    let p : permitted (c .before .before .before .before .before .before .before .before .before .before .before .before .before .before .args .n) ≡ true = some-sectors (c .before .before .before .before .before .before .before .before .before .before .before .before .before .before .args .n) _ (c .before .before .before .before .before .before .before .before .before .before .before .before .sectors-of .ensures) (c .before .before .before .before .before .before .before .before .before .before .before .if1 .left) in
-    let l : legal (c .before .before .before .before .before .before .before .before .before .before .before .before .before .before .args .chip) (c .before .before .before .before .before .before .before .before .before .before .before .before .before .before .args .n) ≡ true = sym (c .before .before .before .before .before .before .before .before .before .is-legal .ensures) ∙ not-false _ (c .before .before .before .before .before .before .before .before .if3 .left) in
-    let b : firstBad unset (events (c .before .before .before .before .before .before .before .before .before .before .before .before .before .before .args .script .now)) .number ≡ 0 = sym (ap (λ (r : Refusal). r .number) (c .before .before .before .before .before .before .scan .ensures .bad)) ∙ c .before .before .before .if5 .left in
-    let h : room (events (c .before .before .before .before .before .before .before .before .before .before .before .before .before .before .args .script .now)) ≤ c .before .before .before .before .before .before .before .before .before .before .before .before .before .before .args .space = omega (arith, c .before .if6 .left, c .before .before .before .before .before .before .scan .ensures .rooms (c .before .before .before .if5 .left)) in
-    rw (c .refuse6 .ensures) (sym (refusal-none _ _ _ _ _ p (c .before .before .before .before .before .before .before .before .before .before .if2 .left) l (c .before .before .before .before .before .before .before .if4 .left) b h))
+    λ (chip : Chip) fine.
+    let p : permitted (c .before .before .before .before .before .before .before .before .before .before .before .before .before .args .n) ≡ true = some-sectors (c .before .before .before .before .before .before .before .before .before .before .before .before .before .args .n) _ (c .before .before .before .before .before .before .before .before .before .before .before .sectors-of .ensures) (c .before .before .before .before .before .before .before .before .before .before .if1 .left) in
+    let l : legal chip (c .before .before .before .before .before .before .before .before .before .before .before .before .before .args .n) ≡ true = sym fine ∙ not-false _ (c .before .before .before .before .before .before .before .before .if3 .left) in
+    let b : firstBad unset (events (c .before .before .before .before .before .before .before .before .before .before .before .before .before .args .script .now)) .number ≡ 0 = sym (ap (λ (r : Refusal). r .number) (c .before .before .before .before .before .before .scan .ensures .bad)) ∙ c .before .before .before .if5 .left in
+    let h : room (events (c .before .before .before .before .before .before .before .before .before .before .before .before .before .args .script .now)) ≤ c .before .before .before .before .before .before .before .before .before .before .before .before .before .args .space = omega (arith, c .before .if6 .left, c .before .before .before .before .before .before .scan .ensures .rooms (c .before .before .before .if5 .left)) in
+    rw (c .refuse6 .ensures) (sym (refusal-none _ _ _ _ _ p (c .before .before .before .before .before .before .before .before .before .if2 .left) l (c .before .before .before .before .before .before .before .if4 .left) b h))
 
 pub refuses-spec : {M : Type 1} → statement M
 refuses-spec =
@@ -93,7 +97,6 @@ refuses-spec =
     returns
     refuse-requires-2
     returns-2
-    is-legal-requires
     refuse-requires-3
     returns-3
     refuse-requires-4

@@ -12,6 +12,9 @@ use borrow.Author.Needs.{needs}
 use Rattle.script.proofs.run.Statement.{statement}
 use Rattle.script.proofs.run.Tie as tie
 
+is-legal-requires : tie.Need-is-legal-requires
+is-legal-requires c κs = search needs
+
 refuses-requires : tie.Need-refuses-requires
 refuses-requires c κs = search needs
 
@@ -20,8 +23,8 @@ turned-away-requires c κs = search needs
 
 returns : tie.Need-returns
 returns c =
-    let no : refusal (c .before .before .before .before .before .before .before .before .args .chip) (length (c .before .before .before .before .before .before .before .before .args .mem .now)) (length (c .before .before .before .before .before .before .before .before .args .area .now)) (c .before .before .before .before .before .before .before .before .args .script .now) (length (c .before .before .before .before .before .before .before .before .args .out .now)) .number ≡ 0 → ⊥ = λ e. c .before .if1 .taken (ap (λ (r : Refusal). r .number) (c .before .before .before .refuses .ensures) ∙ e) in (
-      c .turned-away .ensures ∙ ap (refused (c .before .before .before .before .before .before .before .before .args .chip)) (c .before .before .before .refuses .ensures) ∙ sym (answer-refused _ _ _ _ _ no),
+    let no : refusal (c .before .before .before .before .before .before .before .before .before .args .chip) (length (c .before .before .before .before .before .before .before .before .before .args .mem .now)) (length (c .before .before .before .before .before .before .before .before .before .args .area .now)) (c .before .before .before .before .before .before .before .before .before .args .script .now) (length (c .before .before .before .before .before .before .before .before .before .args .out .now)) .number ≡ 0 → ⊥ = λ e. c .before .if1 .taken (ap (λ (r : Refusal). r .number) (c .before .before .before .refuses .ensures (c .before .before .before .before .before .before .before .before .before .args .chip) (c .before .before .before .before .is-legal .ensures)) ∙ e) in (
+      c .turned-away .ensures ∙ ap (refused (c .before .before .before .before .before .before .before .before .before .args .chip)) (c .before .before .before .refuses .ensures (c .before .before .before .before .before .before .before .before .before .args .chip) (c .before .before .before .before .is-legal .ensures)) ∙ sym (answer-refused _ _ _ _ _ no),
       sym (memory-refused _ _ _ _ _ no),
       sym (output-refused _ _ _ _ _ no),
     )
@@ -35,8 +38,11 @@ no-report-requires c κs = search needs
 play-requires : tie.Need-play-requires
 unfolding allowed
 play-requires c κs =
-    let ok : refusal (c .before .before .before .before .before .before .before .before .before .before .before .args .chip) (length (c .before .before .before .before .before .before .before .before .before .before .before .args .mem .now)) (length (c .before .before .before .before .before .before .before .before .before .before .before .args .area .now)) (c .before .before .before .before .before .before .before .before .before .before .before .args .script .now) (length (c .before .before .before .before .before .before .before .before .before .before .before .args .out .now)) .number ≡ 0 = sym (ap (λ (r : Refusal). r .number) (c .before .before .before .before .before .before .refuses .ensures)) ∙ c .before .before .before .before .if1 .left in
+    let ok : refusal (c .before .before .before .before .before .before .before .before .before .before .before .before .before .before .before .before .args .chip) (length (c .before .before .before .before .before .before .before .before .before .before .before .before .before .before .before .before .args .mem .now)) (length (c .before .before .before .before .before .before .before .before .before .before .before .before .before .before .before .before .args .area .now)) (c .before .before .before .before .before .before .before .before .before .before .before .before .before .before .before .before .args .script .now) (length (c .before .before .before .before .before .before .before .before .before .before .before .before .before .before .before .before .args .out .now)) .number ≡ 0 = sym (ap (λ (r : Refusal). r .number) (c .before .before .before .before .before .before .before .before .before .before .refuses .ensures (c .before .before .before .before .before .before .before .before .before .before .before .before .before .before .before .before .args .chip) (c .before .before .before .before .before .before .before .before .before .before .before .is-legal .ensures))) ∙ c .before .before .before .before .before .before .before .before .if1 .left in
     (refl, accepted _ _ _ _ _ ok .script-playable)
+
+finished-requires : tie.Need-finished-requires
+finished-requires c κs = search needs
 
 same-length : tie.Need-same-length
 same-length c = search needs
@@ -46,23 +52,25 @@ same-length-2 c = search needs
 
 returns-2 : tie.Need-returns-2
 returns-2 c =
-    let ok : refusal (c .before .before .before .before .before .before .before .before .before .before .before .before .before .before .before .before .before .args .chip) (length (c .before .before .before .before .before .before .before .before .before .before .before .before .before .before .before .before .before .args .mem .now)) (length (c .before .before .before .before .before .before .before .before .before .before .before .before .before .before .before .before .before .args .area .now)) (c .before .before .before .before .before .before .before .before .before .before .before .before .before .before .before .before .before .args .script .now) (length (c .before .before .before .before .before .before .before .before .before .before .before .before .before .before .before .before .before .args .out .now)) .number ≡ 0 = sym (ap (λ (r : Refusal). r .number) (c .before .before .before .before .before .before .before .before .before .before .before .before .refuses .ensures)) ∙ c .before .before .before .before .before .before .before .before .before .before .if1 .left in
-    let s : c .before .before .before .before .before .before .before .sectors-of .result ≡ sectorsIn (length (c .before .before .before .before .before .before .before .before .before .before .before .before .before .before .before .before .before .args .mem .now)) = c .before .before .before .before .before .before .before .sectors-of .ensures ∙ cond-yes _ _ _ (accepted _ _ _ _ _ ok .length-permitted) in (
-      c .before .before .before .before .before .play .ensures .0 .answer ∙ ap done (worldAfter-as _ _ _ _ _ s) ∙ sym (answer-done _ _ _ _ _ ok),
+    let ok : refusal (c .before .before .before .before .before .before .before .before .before .before .before .before .before .before .before .before .before .before .before .before .before .before .args .chip) (length (c .before .before .before .before .before .before .before .before .before .before .before .before .before .before .before .before .before .before .before .before .before .before .args .mem .now)) (length (c .before .before .before .before .before .before .before .before .before .before .before .before .before .before .before .before .before .before .before .before .before .before .args .area .now)) (c .before .before .before .before .before .before .before .before .before .before .before .before .before .before .before .before .before .before .before .before .before .before .args .script .now) (length (c .before .before .before .before .before .before .before .before .before .before .before .before .before .before .before .before .before .before .before .before .before .before .args .out .now)) .number ≡ 0 = sym (ap (λ (r : Refusal). r .number) (c .before .before .before .before .before .before .before .before .before .before .before .before .before .before .before .before .refuses .ensures (c .before .before .before .before .before .before .before .before .before .before .before .before .before .before .before .before .before .before .before .before .before .before .args .chip) (c .before .before .before .before .before .before .before .before .before .before .before .before .before .before .before .before .before .is-legal .ensures))) ∙ c .before .before .before .before .before .before .before .before .before .before .before .before .before .before .if1 .left in
+    let s : c .before .before .before .before .before .before .before .sectors-of .result ≡ sectorsIn (length (c .before .before .before .before .before .before .before .before .before .before .before .before .before .before .before .before .before .before .before .before .before .before .args .mem .now)) = c .before .before .before .before .before .before .before .sectors-of .ensures ∙ cond-yes _ _ _ (accepted _ _ _ _ _ ok .length-permitted) in (
+      c .finished .ensures ∙ c .before .before .before .before .before .play .ensures .0 .answer ∙ ap done (worldAfter-as _ _ _ _ _ s) ∙ sym (answer-done _ _ _ _ _ ok),
       c .before .before .before .before .before .play .ensures .0 .memory ∙ ap (λ (w : World). w .memory) (worldAfter-as _ _ _ _ _ s) ∙ sym (memory-done _ _ _ _ _ ok),
-      c .before .before .before .before .before .play .ensures .0 .output ∙ ap (λ (w : World). w .written ++ drop (length (w .written)) (c .before .before .before .before .before .before .before .before .before .before .before .before .before .before .before .before .before .args .out .now)) (worldAfter-as _ _ _ _ _ s) ∙ sym (output-done _ _ _ _ _ ok),
+      c .before .before .before .before .before .play .ensures .0 .output ∙ ap (λ (w : World). w .written ++ drop (length (w .written)) (c .before .before .before .before .before .before .before .before .before .before .before .before .before .before .before .before .before .before .before .before .before .before .args .out .now)) (worldAfter-as _ _ _ _ _ s) ∙ sym (output-done _ _ _ _ _ ok),
     )
 
 pub run-spec : {M : Type 1} → statement M
 run-spec =
     tie.close
     (tie.spec
+    is-legal-requires
     refuses-requires
     turned-away-requires
     returns
     sectors-of-requires
     no-report-requires
     play-requires
+    finished-requires
     same-length
     same-length-2
     returns-2)

@@ -1,5 +1,5 @@
 -- `script::run_with_report` meets its contract. 18 before all else; refused: all as it was, the report too; done: what playing comes to, and the report after its jobs.
-use mathlib.Core.Path.{_≡_, sym, _∙_, ap}
+use mathlib.Core.Path.{_≡_, refl, sym, _∙_, ap}
 use mathlib.Core.List.{_++_}
 use mathlib.Core.Bool.{true, false}
 use lib.ListN.{length, drop}
@@ -35,6 +35,9 @@ returns c =
       sym (report-18 _ _ _ _ _ _ bad _),
     )
 
+is-legal-requires : tie.Need-is-legal-requires
+is-legal-requires c κs = search needs
+
 refuses-requires : tie.Need-refuses-requires
 refuses-requires c κs = search needs
 
@@ -43,9 +46,9 @@ turned-away-requires-2 c κs = search needs
 
 returns-2 : tie.Need-returns-2
 returns-2 c =
-    let good : allowed (c .before .before .before .before .before .before .before .before .before .before .args .allowances) ≡ true = sym (c .before .before .before .before .before .are-allowed .ensures) ∙ not-false _ (c .before .before .before .before .if1 .left) in
-    let no : refusal (c .before .before .before .before .before .before .before .before .before .before .args .chip) (length (c .before .before .before .before .before .before .before .before .before .before .args .mem .now)) (length (c .before .before .before .before .before .before .before .before .before .before .args .area .now)) (c .before .before .before .before .before .before .before .before .before .before .args .script .now) (length (c .before .before .before .before .before .before .before .before .before .before .args .out .now)) .number ≡ 0 → ⊥ = λ e. c .before .if2 .taken (ap (λ (r : Refusal). r .number) (c .before .before .before .refuses .ensures) ∙ e) in (
-      c .turned-away2 .ensures ∙ ap (refused (c .before .before .before .before .before .before .before .before .before .before .args .chip)) (c .before .before .before .refuses .ensures) ∙ sym (answer-with _ _ _ _ _ _ good ∙ answer-refused _ _ _ _ _ no),
+    let good : allowed (c .before .before .before .before .before .before .before .before .before .before .before .args .allowances) ≡ true = sym (c .before .before .before .before .before .before .are-allowed .ensures) ∙ not-false _ (c .before .before .before .before .before .if1 .left) in
+    let no : refusal (c .before .before .before .before .before .before .before .before .before .before .before .args .chip) (length (c .before .before .before .before .before .before .before .before .before .before .before .args .mem .now)) (length (c .before .before .before .before .before .before .before .before .before .before .before .args .area .now)) (c .before .before .before .before .before .before .before .before .before .before .before .args .script .now) (length (c .before .before .before .before .before .before .before .before .before .before .before .args .out .now)) .number ≡ 0 → ⊥ = λ e. c .before .if2 .taken (ap (λ (r : Refusal). r .number) (c .before .before .before .refuses .ensures (c .before .before .before .before .before .before .before .before .before .before .before .args .chip) (c .before .before .before .before .is-legal .ensures)) ∙ e) in (
+      c .turned-away2 .ensures ∙ ap (refused (c .before .before .before .before .before .before .before .before .before .before .before .args .chip)) (c .before .before .before .refuses .ensures (c .before .before .before .before .before .before .before .before .before .before .before .args .chip) (c .before .before .before .before .is-legal .ensures)) ∙ sym (answer-with _ _ _ _ _ _ good ∙ answer-refused _ _ _ _ _ no),
       sym (memory-with _ _ _ _ _ _ good ∙ memory-refused _ _ _ _ _ no),
       sym (output-with _ _ _ _ _ _ good ∙ output-refused _ _ _ _ _ no),
       sym (report-refused _ _ _ _ _ _ good _ no),
@@ -59,8 +62,11 @@ start-from-requires c κs = search needs
 
 play-requires : tie.Need-play-requires
 play-requires c κs =
-    let ok : refusal (c .before .before .before .before .before .before .before .before .before .before .before .before .before .args .chip) (length (c .before .before .before .before .before .before .before .before .before .before .before .before .before .args .mem .now)) (length (c .before .before .before .before .before .before .before .before .before .before .before .before .before .args .area .now)) (c .before .before .before .before .before .before .before .before .before .before .before .before .before .args .script .now) (length (c .before .before .before .before .before .before .before .before .before .before .before .before .before .args .out .now)) .number ≡ 0 = sym (ap (λ (r : Refusal). r .number) (c .before .before .before .before .before .before .refuses .ensures)) ∙ c .before .before .before .before .if2 .left in
-    (sym (c .before .before .before .before .before .before .before .before .are-allowed .ensures) ∙ not-false _ (c .before .before .before .before .before .before .before .if1 .left), accepted _ _ _ _ _ ok .script-playable)
+    let ok : refusal (c .before .before .before .before .before .before .before .before .before .before .before .before .before .before .before .before .before .before .args .chip) (length (c .before .before .before .before .before .before .before .before .before .before .before .before .before .before .before .before .before .before .args .mem .now)) (length (c .before .before .before .before .before .before .before .before .before .before .before .before .before .before .before .before .before .before .args .area .now)) (c .before .before .before .before .before .before .before .before .before .before .before .before .before .before .before .before .before .before .args .script .now) (length (c .before .before .before .before .before .before .before .before .before .before .before .before .before .before .before .before .before .before .args .out .now)) .number ≡ 0 = sym (ap (λ (r : Refusal). r .number) (c .before .before .before .before .before .before .before .before .before .before .refuses .ensures (c .before .before .before .before .before .before .before .before .before .before .before .before .before .before .before .before .before .before .args .chip) (c .before .before .before .before .before .before .before .before .before .before .before .is-legal .ensures))) ∙ c .before .before .before .before .before .before .before .before .if2 .left in
+    (sym (c .before .before .before .before .before .before .before .before .before .before .before .before .before .are-allowed .ensures) ∙ not-false _ (c .before .before .before .before .before .before .before .before .before .before .before .before .if1 .left), accepted _ _ _ _ _ ok .script-playable)
+
+finished-requires : tie.Need-finished-requires
+finished-requires c κs = search needs
 
 same-length : tie.Need-same-length
 same-length c = search needs
@@ -70,13 +76,13 @@ same-length-2 c = search needs
 
 returns-3 : tie.Need-returns-3
 returns-3 c =
-    let good : allowed (c .before .before .before .before .before .before .before .before .before .before .before .before .before .before .before .before .before .before .args .allowances) ≡ true = sym (c .before .before .before .before .before .before .before .before .before .before .before .before .before .are-allowed .ensures) ∙ not-false _ (c .before .before .before .before .before .before .before .before .before .before .before .before .if1 .left) in
-    let ok : refusal (c .before .before .before .before .before .before .before .before .before .before .before .before .before .before .before .before .before .before .args .chip) (length (c .before .before .before .before .before .before .before .before .before .before .before .before .before .before .before .before .before .before .args .mem .now)) (length (c .before .before .before .before .before .before .before .before .before .before .before .before .before .before .before .before .before .before .args .area .now)) (c .before .before .before .before .before .before .before .before .before .before .before .before .before .before .before .before .before .before .args .script .now) (length (c .before .before .before .before .before .before .before .before .before .before .before .before .before .before .before .before .before .before .args .out .now)) .number ≡ 0 = sym (ap (λ (r : Refusal). r .number) (c .before .before .before .before .before .before .before .before .before .before .before .refuses .ensures)) ∙ c .before .before .before .before .before .before .before .before .before .if2 .left in
-    let s : c .before .before .before .before .before .before .sectors-of .result ≡ sectorsIn (length (c .before .before .before .before .before .before .before .before .before .before .before .before .before .before .before .before .before .before .args .mem .now)) = c .before .before .before .before .before .before .sectors-of .ensures ∙ cond-yes _ _ _ (accepted _ _ _ _ _ ok .length-permitted) in (
-      c .before .before .before .before .play .ensures .0 .answer ∙ ap done (worldAfter-as _ _ _ _ _ s) ∙ sym (answer-with _ _ _ _ _ _ good ∙ answer-done _ _ _ _ _ ok),
-      c .before .before .before .before .play .ensures .0 .memory ∙ ap (λ (w : World). w .memory) (worldAfter-as _ _ _ _ _ s) ∙ sym (memory-with _ _ _ _ _ _ good ∙ memory-done _ _ _ _ _ ok),
-      c .before .before .before .before .play .ensures .0 .output ∙ ap (λ (w : World). w .written ++ drop (length (w .written)) (c .before .before .before .before .before .before .before .before .before .before .before .before .before .before .before .before .before .before .args .out .now)) (worldAfter-as _ _ _ _ _ s) ∙ sym (output-with _ _ _ _ _ _ good ∙ output-done _ _ _ _ _ ok),
-      c .before .before .before .before .play .ensures .1 ∙ (λ i. reportAfter (c .before .before .before .before .before .before .before .before .before .before .before .before .before .before .before .before .before .before .args .allowances) (jobsOf (setting (s i) (c .before .before .before .before .before .before .before .before .before .before .before .before .before .before .before .before .before .before .args .area .now)) (c .before .before .before .before .before .before .before .before .before .before .before .before .before .before .before .before .before .before .args .script .now) (c .before .before .before .before .before .before .before .before .before .before .before .before .before .before .before .before .before .before .args .chip) (c .before .before .before .before .before .before .before .before .before .before .before .before .before .before .before .before .before .before .args .mem .now)) (c .before .before .before .before .before .start-from .ensures i)) ∙ sym (report-done _ _ _ _ _ _ good _ ok),
+    let good : allowed (c .before .before .before .before .before .before .before .before .before .before .before .before .before .before .before .before .before .before .before .before .before .before .before .before .before .args .allowances) ≡ true = sym (c .before .before .before .before .before .before .before .before .before .before .before .before .before .before .before .before .before .before .before .before .are-allowed .ensures) ∙ not-false _ (c .before .before .before .before .before .before .before .before .before .before .before .before .before .before .before .before .before .before .before .if1 .left) in
+    let ok : refusal (c .before .before .before .before .before .before .before .before .before .before .before .before .before .before .before .before .before .before .before .before .before .before .before .before .before .args .chip) (length (c .before .before .before .before .before .before .before .before .before .before .before .before .before .before .before .before .before .before .before .before .before .before .before .before .before .args .mem .now)) (length (c .before .before .before .before .before .before .before .before .before .before .before .before .before .before .before .before .before .before .before .before .before .before .before .before .before .args .area .now)) (c .before .before .before .before .before .before .before .before .before .before .before .before .before .before .before .before .before .before .before .before .before .before .before .before .before .args .script .now) (length (c .before .before .before .before .before .before .before .before .before .before .before .before .before .before .before .before .before .before .before .before .before .before .before .before .before .args .out .now)) .number ≡ 0 = sym (ap (λ (r : Refusal). r .number) (c .before .before .before .before .before .before .before .before .before .before .before .before .before .before .before .before .before .refuses .ensures (c .before .before .before .before .before .before .before .before .before .before .before .before .before .before .before .before .before .before .before .before .before .before .before .before .before .args .chip) (c .before .before .before .before .before .before .before .before .before .before .before .before .before .before .before .before .before .before .is-legal .ensures))) ∙ c .before .before .before .before .before .before .before .before .before .before .before .before .before .before .before .if2 .left in
+    let s : c .before .before .before .before .before .before .before .before .sectors-of .result ≡ sectorsIn (length (c .before .before .before .before .before .before .before .before .before .before .before .before .before .before .before .before .before .before .before .before .before .before .before .before .before .args .mem .now)) = c .before .before .before .before .before .before .before .before .sectors-of .ensures ∙ cond-yes _ _ _ (accepted _ _ _ _ _ ok .length-permitted) in (
+      c .finished .ensures ∙ c .before .before .before .before .before .before .play .ensures .0 .answer ∙ ap done (worldAfter-as _ _ _ _ _ s) ∙ sym (answer-with _ _ _ _ _ _ good ∙ answer-done _ _ _ _ _ ok),
+      c .before .before .before .before .before .before .play .ensures .0 .memory ∙ ap (λ (w : World). w .memory) (worldAfter-as _ _ _ _ _ s) ∙ sym (memory-with _ _ _ _ _ _ good ∙ memory-done _ _ _ _ _ ok),
+      c .before .before .before .before .before .before .play .ensures .0 .output ∙ ap (λ (w : World). w .written ++ drop (length (w .written)) (c .before .before .before .before .before .before .before .before .before .before .before .before .before .before .before .before .before .before .before .before .before .before .before .before .before .args .out .now)) (worldAfter-as _ _ _ _ _ s) ∙ sym (output-with _ _ _ _ _ _ good ∙ output-done _ _ _ _ _ ok),
+      c .before .before .before .before .before .before .play .ensures .1 refl ∙ (λ i. reportAfter (c .before .before .before .before .before .before .before .before .before .before .before .before .before .before .before .before .before .before .before .before .before .before .before .before .before .args .allowances) (jobsOf (setting (s i) (c .before .before .before .before .before .before .before .before .before .before .before .before .before .before .before .before .before .before .before .before .before .before .before .before .before .args .area .now)) (c .before .before .before .before .before .before .before .before .before .before .before .before .before .before .before .before .before .before .before .before .before .before .before .before .before .args .script .now) (c .before .before .before .before .before .before .before .before .before .before .before .before .before .before .before .before .before .before .before .before .before .before .before .before .before .args .chip) (c .before .before .before .before .before .before .before .before .before .before .before .before .before .before .before .before .before .before .before .before .before .before .before .before .before .args .mem .now)) (c .before .before .before .before .before .before .before .start-from .ensures i)) ∙ sym (report-done _ _ _ _ _ _ good _ ok),
     )
 
 pub run-with-report-spec : {M : Type 1} → statement M
@@ -87,12 +93,14 @@ run-with-report-spec =
     refuse-requires
     turned-away-requires
     returns
+    is-legal-requires
     refuses-requires
     turned-away-requires-2
     returns-2
     sectors-of-requires
     start-from-requires
     play-requires
+    finished-requires
     same-length
     same-length-2
     returns-3)

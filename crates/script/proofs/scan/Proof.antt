@@ -1,14 +1,10 @@
--- `script::scan` meets its contract. No event passed was bad by the clock that it found, so the first bad one lies ahead; the room counted and the room ahead are the whole. A whole exchange is never bad.
+-- `script::scan` meets its contract. No event passed was bad by the clock that it found, so the first bad one lies ahead; the room counted and the room ahead are the whole. A whole exchange is never bad; ticks and stamps that are good ask for no room.
 use Prim.Native.Nat.{ℕ, _≤_, _<_, _+_, _*_, _-_}
-use mathlib.Core.Bool.{true, _&&_}
 use mathlib.Core.Path.{_≡_, sym, _∙_, ap}
 use native.Mathlib.Nat.{add-zero, add-assoc, zero-add}
 use native.Mathlib.Omega.{arith}
 use lib.Dec.{eqb, ltb}
 use lib.ListN.{length, getD}
-use borrow.Author.Tests.{eqb-true, ltb-true, ne-eqb}
-use Rattle.cells.specs.Choice.{and-left, and-right}
-use Rattle.kinds.specs.Kinds.{EXCHANGE, STAMP, roomOf, mostRoom, kindRow, kindRowIn}
 use Rattle.kinds.specs.Body.{nextAt}
 use Rattle.kinds.specs.Laws.{step-inside}
 use Rattle.clock.specs.declared.Clock.{Clock}
@@ -16,7 +12,11 @@ use Rattle.clock.specs.Clock.{unset}
 use Rattle.script.specs.Script.{events, eventsFrom, eventAt, clockAfter, firstBad, room, refusalOf, faultBy}
 use Rattle.script.specs.Watch.{clockBy}
 use Rattle.script.specs.WatchLaws.{clock-as}
-use Rattle.script.specs.Laws.{firstBad-none, firstBad-here, firstBad-later, clean-event, good-event, clock-stays, exchange-next, exchange-good, exchange-clock, exchange-room, room-none, room-more}
+use Rattle.kinds.specs.Kinds.{TICKS, EXCHANGE, STAMP, roomOf, mostRoom, kindRow, kindRowIn}
+use mathlib.Core.Bool.{true, false, _&&_, false≢true}
+use borrow.Author.Tests.{eq-eqb, eqb-true, ltb-true}
+use Rattle.cells.specs.Choice.{not-so, and-left, and-right}
+use Rattle.script.specs.Laws.{ticks-next, stamp-next, firstBad-none, firstBad-here, firstBad-later, clean-event, good-event, clock-stays, exchange-next, exchange-good, exchange-clock, exchange-room, room-none, room-more}
 use borrow.Author.Needs.{needs}
 use Rattle.script.proofs.scan.Statement.{statement}
 use Rattle.script.proofs.scan.Tie as tie
@@ -68,22 +68,33 @@ loop-again c =
       c .before .before .before .before .loop .inv .3 ∙ ap (λ (r : ℕ). c .before .before .before .before .loop .space + r) (exchange-room s at e (c .before .before .before .loop-test .taken)) ∙ rw (c .room-of .ensures .0) (sym (add-assoc (c .before .before .before .before .loop .space) (roomOf EXCHANGE) _)),
     )
 
-fault-at-requires : tie.Need-fault-at-requires Inv-loop μ-loop
-fault-at-requires c κs = search needs
+is-good-ticks-requires : tie.Need-is-good-ticks-requires Inv-loop μ-loop
+is-good-ticks-requires c κs = search needs
 
-returns : tie.Need-returns Inv-loop μ-loop
-returns c =
-    let is : c .before .fault-at .result ≡ faultBy (c .before .before .before .before .before .loop .clock) (eventAt (c .before .before .before .before .before .before .before .before .args .s .now) (c .before .before .before .before .before .loop .at)) = c .before .fault-at .ensures in
-    record {
-      bad = ap (λ (n : ℕ). refusalOf n (c .before .before .before .before .before .loop .at)) is ∙ sym (c .before .before .before .before .before .loop .inv .2 ∙ firstBad-here _ _ _ (c .before .before .before .before .loop-test .taken) (λ e. c .if2 .taken (is ∙ e)));
-      rooms = λ e. absurd (c .if2 .taken e);
-    }
+add-at-2 : tie.Need-add-at-2 Inv-loop μ-loop
+add-at-2 c = omega (arith, c .before .before .before .before .loop-test .taken, c .before .before .before .before .before .before .before .before .pre)
 
-shared-slice-read-kind : tie.Need-shared-slice-read-kind Inv-loop μ-loop
-shared-slice-read-kind c = search needs
+loop-less-2 : tie.Need-loop-less-2 Inv-loop μ-loop
+loop-less-2 c = omega (arith, c .before .before .before .before .loop-test .taken)
 
-cast-kind : tie.Need-cast-kind Inv-loop μ-loop
-cast-kind c = omega (arith, c .shared-slice-known3 .given (c .before .before .before .before .before .before .loop .at))
+loop-again-2 : tie.Need-loop-again-2 Inv-loop μ-loop
+unfolding kindRow kindRowIn
+loop-again-2 c =
+    let s = c .before .before .before .before .before .before .before .before .args .s .now in
+    let at = c .before .before .before .before .before .loop .at in
+    let good : (eqb (getD s at 0) TICKS && eqb (faultBy (c .before .before .before .before .before .loop .clock) (eventAt s at)) 0) ≡ true = sym (c .before .is-good-ticks .ensures (c .before .before .before .before .before .loop .clock)) ∙ c .if2 .taken in
+    let e : getD s at 0 ≡ TICKS = eqb-true _ _ (and-left (eqb (getD s at 0) TICKS) (eqb (faultBy (c .before .before .before .before .before .loop .clock) (eventAt s at)) 0) good) in
+    let z : faultBy (c .before .before .before .before .before .loop .clock) (eventAt s at) ≡ 0 = eqb-true _ _ (and-right (eqb (getD s at 0) TICKS) (eqb (faultBy (c .before .before .before .before .before .loop .clock) (eventAt s at)) 0) good) in
+    let next : nextAt s at ≡ at + 3 = ticks-next s at e in
+    let same : clockAfter (c .before .before .before .before .before .loop .clock) (eventAt s at) ≡ c .before .before .before .before .before .loop .clock = clock-stays (c .before .before .before .before .before .loop .clock) (eventAt s at) (ap (λ (kind : ℕ). eqb kind STAMP) e) in (
+      omega (arith, next, good-event s at (clean-event (c .before .before .before .before .before .loop .clock) (eventAt s at) z .as-written) .inside),
+      omega (arith, c .before .before .before .before .before .loop .inv .1),
+      c .before .before .before .before .before .loop .inv .2 ∙ firstBad-later (c .before .before .before .before .before .loop .clock) s at (c .before .before .before .before .loop-test .taken) z ∙ (λ i. firstBad (same i) (eventsFrom s (next i))),
+      c .before .before .before .before .before .loop .inv .3 ∙ ap (λ (r : ℕ). c .before .before .before .before .before .loop .space + r) (room-more s at (c .before .before .before .before .loop-test .taken) ∙ (λ i. roomOf (e i) + room (eventsFrom s (next i))) ∙ zero-add _),
+    )
+
+is-good-stamp-requires : tie.Need-is-good-stamp-requires Inv-loop μ-loop
+is-good-stamp-requires c κs = search needs
 
 body-at-requires : tie.Need-body-at-requires Inv-loop μ-loop
 body-at-requires c κs = search needs
@@ -94,47 +105,44 @@ cast-clock-after c = omega (arith, c .body-at .ensures .1)
 clock-after-requires : tie.Need-clock-after-requires Inv-loop μ-loop
 clock-after-requires c κs = search needs
 
-next-at-requires : tie.Need-next-at-requires Inv-loop μ-loop
-next-at-requires c κs = search needs
-
-loop-less-2 : tie.Need-loop-less-2 Inv-loop μ-loop
-loop-less-2 c = omega (arith, c .next-at .ensures, step-inside (c .before .before .before .before .before .before .before .before .before .before .before .before .before .args .s .now) (c .before .before .before .before .before .before .before .before .before .before .loop .at) (c .before .before .before .before .before .before .before .before .before .loop-test .taken))
-
-loop-again-2 : tie.Need-loop-again-2 Inv-loop μ-loop
-unfolding kindRow kindRowIn
-loop-again-2 c =
-    let s = c .before .before .before .before .before .before .before .before .before .before .before .before .before .args .s .now in
-    let at = c .before .before .before .before .before .before .before .before .before .before .loop .at in
-    let z : faultBy (c .before .before .before .before .before .before .before .before .before .before .loop .clock) (eventAt s at) ≡ 0 = sym (c .before .before .before .before .before .before .fault-at .ensures) ∙ c .before .before .before .before .before .if2 .left in
-    let next : c .next-at .result ≡ nextAt s at = c .next-at .ensures ∙ step-inside s at (c .before .before .before .before .before .before .before .before .before .loop-test .taken) in
-    let on : c .before .clock-after .result ≡ clockAfter (c .before .before .before .before .before .before .before .before .before .before .loop .clock) (eventAt s at) = c .before .clock-after .ensures ∙ ap (clockBy (c .before .before .before .before .before .before .before .before .before .before .loop .clock) (getD s at 0)) (c .before .before .body-at .ensures .0) ∙ clock-as (c .before .before .before .before .before .before .before .before .before .before .loop .clock) s at in
-    let silent : roomOf (getD s at 0) ≡ 0 = ap roomOf (c .before .before .before .if3 .taken) in (
-      omega (arith, next, good-event s at (clean-event (c .before .before .before .before .before .before .before .before .before .before .loop .clock) (eventAt s at) z .as-written) .inside),
-      omega (arith, next, c .before .before .before .before .before .before .before .before .before .before .loop .inv .1),
-      c .before .before .before .before .before .before .before .before .before .before .loop .inv .2 ∙ firstBad-later (c .before .before .before .before .before .before .before .before .before .before .loop .clock) s at (c .before .before .before .before .before .before .before .before .before .loop-test .taken) z ∙ (λ i. firstBad (sym on i) (eventsFrom s (sym next i))),
-      c .before .before .before .before .before .before .before .before .before .before .loop .inv .3 ∙ ap (λ (r : ℕ). c .before .before .before .before .before .before .before .before .before .before .loop .space + r) (room-more s at (c .before .before .before .before .before .before .before .before .before .loop-test .taken) ∙ (λ i. silent i + room (eventsFrom s (sym next i))) ∙ zero-add _),
-    )
-
-add-at-2 : tie.Need-add-at-2 Inv-loop μ-loop
-add-at-2 c = omega (arith, c .before .before .before .before .before .before .before .loop-test .taken, c .before .before .before .before .before .before .before .before .before .before .before .pre)
+add-at-3 : tie.Need-add-at-3 Inv-loop μ-loop
+add-at-3 c = omega (arith, c .before .before .before .before .before .before .before .before .loop-test .taken, c .before .before .before .before .before .before .before .before .before .before .before .before .pre)
 
 loop-less-3 : tie.Need-loop-less-3 Inv-loop μ-loop
-loop-less-3 c = omega (arith, c .before .before .before .before .before .before .before .loop-test .taken)
+loop-less-3 c = omega (arith, c .before .before .before .before .before .before .before .before .loop-test .taken)
 
 loop-again-3 : tie.Need-loop-again-3 Inv-loop μ-loop
 unfolding kindRow kindRowIn
 loop-again-3 c =
-    let s = c .before .before .before .before .before .before .before .before .before .before .before .args .s .now in
-    let at = c .before .before .before .before .before .before .before .before .loop .at in
-    let z : faultBy (c .before .before .before .before .before .before .before .before .loop .clock) (eventAt s at) ≡ 0 = sym (c .before .before .before .before .fault-at .ensures) ∙ c .before .before .before .if2 .left in
-    let next : at + 3 ≡ nextAt s at = sym (ap (λ (kind : ℕ). at + 1 + kindRow kind .body) (c .if4 .taken) ∙ add-assoc at 1 2) in
-    let same : clockAfter (c .before .before .before .before .before .before .before .before .loop .clock) (eventAt s at) ≡ c .before .before .before .before .before .before .before .before .loop .clock = clock-stays (c .before .before .before .before .before .before .before .before .loop .clock) (eventAt s at) (ne-eqb (getD s at 0) STAMP (c .before .if3 .left)) in
-    let silent : roomOf (getD s at 0) ≡ 0 = ap roomOf (c .if4 .taken) in (
-      omega (arith, next, good-event s at (clean-event (c .before .before .before .before .before .before .before .before .loop .clock) (eventAt s at) z .as-written) .inside),
-      omega (arith, c .before .before .before .before .before .before .before .before .loop .inv .1),
-      c .before .before .before .before .before .before .before .before .loop .inv .2 ∙ firstBad-later (c .before .before .before .before .before .before .before .before .loop .clock) s at (c .before .before .before .before .before .before .before .loop-test .taken) z ∙ (λ i. firstBad (same i) (eventsFrom s (sym next i))),
-      c .before .before .before .before .before .before .before .before .loop .inv .3 ∙ ap (λ (r : ℕ). c .before .before .before .before .before .before .before .before .loop .space + r) (room-more s at (c .before .before .before .before .before .before .before .loop-test .taken) ∙ (λ i. silent i + room (eventsFrom s (sym next i))) ∙ zero-add _),
+    let s = c .before .before .before .before .before .before .before .before .before .before .before .before .args .s .now in
+    let at = c .before .before .before .before .before .before .before .before .before .loop .at in
+    let good : (eqb (getD s at 0) STAMP && eqb (faultBy (c .before .before .before .before .before .before .before .before .before .loop .clock) (eventAt s at)) 0) ≡ true = sym (c .before .before .before .is-good-stamp .ensures) ∙ c .before .before .if3 .taken in
+    let e : getD s at 0 ≡ STAMP = eqb-true _ _ (and-left (eqb (getD s at 0) STAMP) (eqb (faultBy (c .before .before .before .before .before .before .before .before .before .loop .clock) (eventAt s at)) 0) good) in
+    let z : faultBy (c .before .before .before .before .before .before .before .before .before .loop .clock) (eventAt s at) ≡ 0 = eqb-true _ _ (and-right (eqb (getD s at 0) STAMP) (eqb (faultBy (c .before .before .before .before .before .before .before .before .before .loop .clock) (eventAt s at)) 0) good) in
+    let next : nextAt s at ≡ at + 3 = stamp-next s at e in
+    let on : c .clock-after .result ≡ clockAfter (c .before .before .before .before .before .before .before .before .before .loop .clock) (eventAt s at) = c .clock-after .ensures ∙ (λ i. clockBy (c .before .before .before .before .before .before .before .before .before .loop .clock) (sym e i) (c .before .body-at .ensures .0 i)) ∙ clock-as (c .before .before .before .before .before .before .before .before .before .loop .clock) s at in (
+      omega (arith, next, good-event s at (clean-event (c .before .before .before .before .before .before .before .before .before .loop .clock) (eventAt s at) z .as-written) .inside),
+      omega (arith, c .before .before .before .before .before .before .before .before .before .loop .inv .1),
+      c .before .before .before .before .before .before .before .before .before .loop .inv .2 ∙ firstBad-later (c .before .before .before .before .before .before .before .before .before .loop .clock) s at (c .before .before .before .before .before .before .before .before .loop-test .taken) z ∙ (λ i. firstBad (sym on i) (eventsFrom s (next i))),
+      c .before .before .before .before .before .before .before .before .before .loop .inv .3 ∙ ap (λ (r : ℕ). c .before .before .before .before .before .before .before .before .before .loop .space + r) (room-more s at (c .before .before .before .before .before .before .before .before .loop-test .taken) ∙ (λ i. roomOf (e i) + room (eventsFrom s (next i))) ∙ zero-add _),
     )
+
+fault-at-requires : tie.Need-fault-at-requires Inv-loop μ-loop
+fault-at-requires c κs = search needs
+
+returns : tie.Need-returns Inv-loop μ-loop
+returns c =
+    let is : c .before .fault-at .result ≡ faultBy (c .before .before .before .before .before .before .before .before .before .loop .clock) (eventAt (c .before .before .before .before .before .before .before .before .before .before .before .before .args .s .now) (c .before .before .before .before .before .before .before .before .before .loop .at)) = c .before .fault-at .ensures in
+    record {
+      bad = ap (λ (n : ℕ). refusalOf n (c .before .before .before .before .before .before .before .before .before .loop .at)) is ∙ sym (c .before .before .before .before .before .before .before .before .before .loop .inv .2 ∙ firstBad-here _ _ _ (c .before .before .before .before .before .before .before .before .loop-test .taken) (λ e. c .if4 .taken (is ∙ e)));
+      rooms = λ e. absurd (c .if4 .taken e);
+    }
+
+shared-slice-read-room-of : tie.Need-shared-slice-read-room-of Inv-loop μ-loop
+shared-slice-read-room-of c = search needs
+
+cast-room-of : tie.Need-cast-room-of Inv-loop μ-loop
+cast-room-of c = omega (arith, c .shared-slice-known3 .given (c .before .before .before .before .before .before .before .before .before .before .loop .at))
 
 room-of-requires-2 : tie.Need-room-of-requires-2 Inv-loop μ-loop
 room-of-requires-2 c κs = search needs
@@ -142,23 +150,24 @@ room-of-requires-2 c κs = search needs
 add-space-2 : tie.Need-add-space-2 Inv-loop μ-loop
 add-space-2 c = search needs
 
-next-at-requires-2 : tie.Need-next-at-requires-2 Inv-loop μ-loop
-next-at-requires-2 c κs = search needs
+next-at-requires : tie.Need-next-at-requires Inv-loop μ-loop
+next-at-requires c κs = search needs
 
 loop-less-4 : tie.Need-loop-less-4 Inv-loop μ-loop
-loop-less-4 c = omega (arith, c .next-at2 .ensures, step-inside (c .before .before .before .before .before .before .before .before .before .before .before .before .before .args .s .now) (c .before .before .before .before .before .before .before .before .before .before .loop .at) (c .before .before .before .before .before .before .before .before .before .loop-test .taken))
+loop-less-4 c = omega (arith, c .next-at .ensures, step-inside (c .before .before .before .before .before .before .before .before .before .before .before .before .before .before .before .args .s .now) (c .before .before .before .before .before .before .before .before .before .before .before .before .loop .at) (c .before .before .before .before .before .before .before .before .before .before .before .loop-test .taken))
 
 loop-again-4 : tie.Need-loop-again-4 Inv-loop μ-loop
 loop-again-4 c =
-    let s = c .before .before .before .before .before .before .before .before .before .before .before .before .before .args .s .now in
-    let at = c .before .before .before .before .before .before .before .before .before .before .loop .at in
-    let z : faultBy (c .before .before .before .before .before .before .before .before .before .before .loop .clock) (eventAt s at) ≡ 0 = sym (c .before .before .before .before .before .before .fault-at .ensures) ∙ c .before .before .before .before .before .if2 .left in
-    let next : c .next-at2 .result ≡ nextAt s at = c .next-at2 .ensures ∙ step-inside s at (c .before .before .before .before .before .before .before .before .before .loop-test .taken) in
-    let same : clockAfter (c .before .before .before .before .before .before .before .before .before .before .loop .clock) (eventAt s at) ≡ c .before .before .before .before .before .before .before .before .before .before .loop .clock = clock-stays (c .before .before .before .before .before .before .before .before .before .before .loop .clock) (eventAt s at) (ne-eqb (getD s at 0) STAMP (c .before .before .before .if3 .left)) in (
-      omega (arith, next, good-event s at (clean-event (c .before .before .before .before .before .before .before .before .before .before .loop .clock) (eventAt s at) z .as-written) .inside),
-      omega (arith, next, c .before .room-of2 .ensures .1, c .before .before .before .before .before .before .before .before .before .before .loop .inv .1),
-      c .before .before .before .before .before .before .before .before .before .before .loop .inv .2 ∙ firstBad-later (c .before .before .before .before .before .before .before .before .before .before .loop .clock) s at (c .before .before .before .before .before .before .before .before .before .loop-test .taken) z ∙ (λ i. firstBad (same i) (eventsFrom s (sym next i))),
-      c .before .before .before .before .before .before .before .before .before .before .loop .inv .3 ∙ ap (λ (r : ℕ). c .before .before .before .before .before .before .before .before .before .before .loop .space + r) (room-more s at (c .before .before .before .before .before .before .before .before .before .loop-test .taken)) ∙ rw (next, c .before .room-of2 .ensures .0) (sym (add-assoc _ _ _)),
+    let s = c .before .before .before .before .before .before .before .before .before .before .before .before .before .before .before .args .s .now in
+    let at = c .before .before .before .before .before .before .before .before .before .before .before .before .loop .at in
+    let z : faultBy (c .before .before .before .before .before .before .before .before .before .before .before .before .loop .clock) (eventAt s at) ≡ 0 = sym (c .before .before .before .before .fault-at .ensures) ∙ c .before .before .before .if4 .left in
+    let next : c .next-at .result ≡ nextAt s at = c .next-at .ensures ∙ step-inside s at (c .before .before .before .before .before .before .before .before .before .before .before .loop-test .taken) in
+    let no-stamp : eqb (getD s at 0) STAMP ≡ false = not-so _ (λ stamp. false≢true (sym (c .before .before .before .before .before .if3 .left) ∙ c .before .before .before .before .before .before .is-good-stamp .ensures ∙ (λ i. stamp i && eq-eqb _ _ z i))) in
+    let same : clockAfter (c .before .before .before .before .before .before .before .before .before .before .before .before .loop .clock) (eventAt s at) ≡ c .before .before .before .before .before .before .before .before .before .before .before .before .loop .clock = clock-stays (c .before .before .before .before .before .before .before .before .before .before .before .before .loop .clock) (eventAt s at) no-stamp in (
+      omega (arith, next, good-event s at (clean-event (c .before .before .before .before .before .before .before .before .before .before .before .before .loop .clock) (eventAt s at) z .as-written) .inside),
+      omega (arith, next, c .before .room-of2 .ensures .1, c .before .before .before .before .before .before .before .before .before .before .before .before .loop .inv .1),
+      c .before .before .before .before .before .before .before .before .before .before .before .before .loop .inv .2 ∙ firstBad-later (c .before .before .before .before .before .before .before .before .before .before .before .before .loop .clock) s at (c .before .before .before .before .before .before .before .before .before .before .before .loop-test .taken) z ∙ (λ i. firstBad (same i) (eventsFrom s (sym next i))),
+      c .before .before .before .before .before .before .before .before .before .before .before .before .loop .inv .3 ∙ ap (λ (r : ℕ). c .before .before .before .before .before .before .before .before .before .before .before .before .loop .space + r) (room-more s at (c .before .before .before .before .before .before .before .before .before .before .before .loop-test .taken)) ∙ rw (next, c .before .room-of2 .ensures .0) (sym (add-assoc _ _ _)),
     )
 
 returns-2 : tie.Need-returns-2 Inv-loop μ-loop
@@ -184,22 +193,24 @@ scan-spec =
     add-at
     loop-less
     loop-again
-    fault-at-requires
-    returns
-    shared-slice-read-kind
-    cast-kind
+    is-good-ticks-requires
+    add-at-2
+    loop-less-2
+    loop-again-2
+    is-good-stamp-requires
     body-at-requires
     cast-clock-after
     clock-after-requires
-    next-at-requires
-    loop-less-2
-    loop-again-2
-    add-at-2
+    add-at-3
     loop-less-3
     loop-again-3
+    fault-at-requires
+    returns
+    shared-slice-read-room-of
+    cast-room-of
     room-of-requires-2
     add-space-2
-    next-at-requires-2
+    next-at-requires
     loop-less-4
     loop-again-4
     returns-2)

@@ -26,7 +26,7 @@ add-next c = omega (arith, c .before .before .before .before .before .before .pr
 
 returns-2 : tie.Need-returns-2
 unfolding afterTicks
-returns-2 c = (λ i. watch (not-false (c .before .before .before .before .before .before .args .watch .on) (c .before .before .before .before .if1 .left) i) (c .before .before .before .before .before .before .args .watch .used + c .before .before .before .before .before .before .args .n) (c .before .before .before .before .before .before .args .watch .report)) ∙ sym (cond-no _ _ _ (c .before .before .before .before .if1 .left) ∙ cond-yes _ _ _ (sym (c .before .before .is-job .ensures) ∙ c .before .if2 .taken))
+returns-2 c = (λ i. watch (c .before .before .before .before .before .before .args .watch .wanted) (not-false (c .before .before .before .before .before .before .args .watch .on) (c .before .before .before .before .if1 .left) i) (c .before .before .before .before .before .before .args .watch .used + c .before .before .before .before .before .before .args .n) (c .before .before .before .before .before .before .args .watch .report)) ∙ sym (cond-no _ _ _ (c .before .before .before .before .if1 .left) ∙ cond-yes _ _ _ (sym (c .before .before .is-job .ensures) ∙ c .before .if2 .taken))
 
 allowance-of-requires : tie.Need-allowance-of-requires
 allowance-of-requires c κs = search needs
@@ -42,7 +42,7 @@ count-requires c κs = search needs
 
 returns-3 : tie.Need-returns-3
 unfolding afterTicks
-returns-3 c = ap (watch false 0) (c .count .ensures ∙ (λ i. counted (c .before .before .before .before .before .before .before .before .before .before .before .args .core .job .kind) ((toZ-ofZ {w = w32} (record { sfits = c .before .margin .ok }) ∙ c .before .margin .ensures ∙ (λ j. margin (c .before .before .before .allowance-of .ensures j) (c .before .before .before .before .before .before .before .before .before .before .before .args .watch .used + c .before .before .before .before .before .before .before .before .before .before .before .args .worked))) i) (c .before .before .before .before .before .before .before .before .before .before .before .args .watch .report))) ∙ sym (cond-no _ _ _ (c .before .before .before .before .before .before .before .before .before .if1 .left) ∙ cond-no _ _ _ (sym (c .before .before .before .before .before .before .before .is-job .ensures) ∙ c .before .before .before .before .before .before .if2 .left))
+returns-3 c = ap (watch (c .before .before .before .before .before .before .before .before .before .before .before .args .watch .wanted) false 0) (c .count .ensures ∙ (λ i. counted (c .before .before .before .before .before .before .before .before .before .before .before .args .core .job .kind) ((toZ-ofZ {w = w32} (record { sfits = c .before .margin .ok }) ∙ c .before .margin .ensures ∙ (λ j. margin (c .before .before .before .allowance-of .ensures j) (c .before .before .before .before .before .before .before .before .before .before .before .args .watch .used + c .before .before .before .before .before .before .before .before .before .before .before .args .worked))) i) (c .before .before .before .before .before .before .before .before .before .before .before .args .watch .report))) ∙ sym (cond-no _ _ _ (c .before .before .before .before .before .before .before .before .before .if1 .left) ∙ cond-no _ _ _ (sym (c .before .before .before .before .before .before .before .is-job .ensures) ∙ c .before .before .before .before .before .before .if2 .left))
 
 pub watch-ticks-spec : {M : Type 1} → statement M
 watch-ticks-spec =
