@@ -73,6 +73,8 @@ const SINGLE: usize = 20_000;
 const IDLE: usize = 20_000;
 /// Steps of the cases of single working ticks.
 const WORKED: usize = 8_000;
+/// Scripts of the cases of one frame a script.
+const SHORT: usize = 1_000;
 
 /// The events of a job: write enable, its frame, and its ticks.
 fn job(bytes: Vec<u8>, ticks: u64) -> Vec<Event> {
@@ -123,6 +125,12 @@ fn run(words: &'static str, sectors: usize, events: &[Event], target: Option<f64
     row(words, sectors, steps, target)
 }
 
+/// A case of many short scripts over one sector, each a frame of these bytes.
+fn short(words: &'static str, bytes: &[u8]) -> Row {
+    let (script, length, allowances) = (script_of(&frame_of(bytes.iter().copied())), None, None);
+    row(words, 1, vec![Step::Run { script, spare: 0, length, allowances }; SHORT], None)
+}
+
 /// A case of one erase of so many bytes of the 2 MiB part, held to a plain fill.
 fn erase(words: &'static str, bytes: Vec<u8>, filled: usize) -> Row {
     let events = job(bytes, (filled / 256) as u64);
@@ -164,6 +172,8 @@ fn rows() -> Vec<Row> {
         run("e  20,000 stamps, each 1 idle tick", 1, &stamps, None),
         run("g  8,000 steps, 05h of 1 tick each", 32, &worked, None),
         run("g  8,000 steps, a stamp each", 32, &stamped, None),
+        short("h  1,000 scripts of one frame, 06h", &[0x06]),
+        short("h  1,000 scripts of one frame, 05h", &[0x05, 0]),
         single("f  single events", &mix[..SINGLE], false),
         single("f  single events, lent chip", &mix[..SINGLE], true),
     ]

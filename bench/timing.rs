@@ -163,7 +163,7 @@ pub fn table(engine: &mut Linked, rows: &[Row]) -> Result<(), String> {
         println!("  g, the engine itself, a stamp of 1 working tick to an 05h: {:.2}", stamped / worked);
     }
     println!("  {:<36}{:>12}{:>12}{:>12}", "engine with a report to", "without", "", "at most");
-    for row in rows.iter().filter(|row| row.words.starts_with(['a', 'b', 'c', 'd'])) {
+    for row in rows.iter().filter(|row| row.words.starts_with(['a', 'b', 'c', 'd', 'h'])) {
         report_line(engine, row)?;
     }
     Ok(())
