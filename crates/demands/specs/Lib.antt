@@ -9,4 +9,5 @@ pub mod Commands
 pub mod Jobs
 pub mod Words
 pub mod Programming
+pub mod Lives
 pub mod Reporting

@@ -1,5 +1,5 @@
 -- What a run with a margin report promises, of any reporter over a runner: refusal 18, the plain run's answer, and each line of the report in numbers
--- (RULES, The margin report). Which jobs a run began and ended, and the ticks that each used, is the list `jobsOf`; `Reports` in `meets` says what is true of it.
+-- (RULES, The margin report). Which jobs a run began and ended, and the ticks that each used, is the list `jobsOf`; `Lives` says it again in numbers.
 use Prim.Native.Nat.{ℕ, _+_, _<_, _≤_, min}
 use mathlib.Core.Bool.{cond}
 use mathlib.Core.List.{List, [], _∷_}

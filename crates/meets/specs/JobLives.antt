@@ -15,12 +15,13 @@ use Rattle.chip.specs.declared.JobKind.{JobKind}
 use Rattle.chip.specs.Chip.{running}
 use Rattle.event.specs.Event.{Outcome, exchangeByte, applied}
 use Rattle.event.specs.Laws.{applied-each, says-its-kind}
-use Rattle.script.specs.Script.{Event}
-use Rattle.script.specs.Run.{World, does, onward, runs}
-use Rattle.script.specs.Jobs.{Finished, Followed, nothing, follows, tickMore, isTwo, stands, followedAfter, finished, endedBy, jobs}
+use Rattle.script.specs.Script.{Event, played}
+use Rattle.script.specs.Run.{World, world, does, onward, runs}
+use Rattle.script.specs.Jobs.{tickByTick, Finished, Followed, nothing, follows, tickMore, isTwo, stands, followedAfter, finished, endedBy, jobs}
 use Rattle.script.specs.Laws.{runs-add}
 use Rattle.script.specs.WatchLaws.{line-not-two}
-use Rattle.meets.specs.Reports.{AllJobs, jobs-each, ticksIn}
+use Rattle.demands.specs.Lives.{ticksIn, Undisturbed, Since, Lived, AllJobs, Told, JobsInNumbers}
+use Rattle.meets.specs.Reports.{jobs-each, script-job-ticks, run-tick-by-tick}
 
 -- ---- where a job began
 
@@ -34,11 +35,6 @@ two-deselects T c m kind body =
     (λ is _. is)
     (λ _ two. absurd (false≢true two)) (λ _ two. absurd (false≢true two)) (λ _ two. absurd (false≢true two)) (λ _ two. absurd (false≢true two)) (λ _ two. absurd (false≢true two))
 
--- after each event of a row a job stands, and none of them began it
-unfoldable pub Undisturbed : Setting → List Event → World → Type 0
-Undisturbed T [] w = Unit {0}
-Undisturbed T (e ∷ es) w = (stands (does T e w .chip .core) ≡ true) × (isTwo (does T e w .said) ≡ false) × Undisturbed T es (onward T e w)
-
 -- one event more
 undisturbed-more : (T : Setting) (es : List Event) (e : Event) (w : World) → Undisturbed T es w → stands (does T e (runs T es w) .chip .core) ≡ true → isTwo (does T e (runs T es w) .said) ≡ false
     → Undisturbed T (es ++ (e ∷ [])) w
@@ -51,33 +47,6 @@ ticks-more : (es : List Event) (e : Event) → ticksIn (es ++ (e ∷ [])) ≡ ti
 unfolding ticksIn
 ticks-more [] e = omega arith
 ticks-more (q ∷ es) e = omega (arith, ticks-more es e)
-
--- a row ends in a job's begin and what came since: a deselect at an offset that says verdict 2, and events that leave the job, so many of them ticks
-pub record Since (T : Setting) (past : List Event) (w : World) (begin used : ℕ) : Type 0 where
-  pub before : List Event
-  pub event : Event
-  pub between : List Event
-  pub is-past : past ≡ before ++ (event ∷ between)
-  pub begins-at : event .offset ≡ begin
-  pub a-deselect : event .kind ≡ DESELECT
-  pub says-two : isTwo (does T event (runs T before w) .said) ≡ true
-  pub stands-then : stands (does T event (runs T before w) .chip .core) ≡ true
-  pub undisturbed : Undisturbed T between (onward T event (runs T before w))
-  pub ticks-since : ticksIn between ≡ used
-
--- a job's life in a row: such a begin, all but the last of its ticks since, and that last one, which finds a job of its kind and leaves none
-pub record Lived (T : Setting) (es : List Event) (w : World) (j : Finished) : Type 0 where
-  pub past : List Event
-  pub last : Event
-  pub behind : List Event
-  pub others : ℕ
-  pub in-the-row : es ≡ past ++ (last ∷ behind)
-  pub begun : Since T past w (j .begin) others
-  pub one-more : j .used ≡ others + 1
-  pub ends-at : last .offset ≡ j .end
-  pub a-tick : last .kind ≡ TICK
-  pub of-its-kind : runs T past w .chip .core .job .kind ≡ j .kind
-  pub over : stands (does T last (runs T past w) .chip .core) ≡ false
 
 -- so it is of a job that is followed
 abbrev SinceIf : Setting → List Event → World → Followed → Type 0
@@ -319,16 +288,6 @@ still-followed T [] rest w begin used working suspended u =
 still-followed T (e ∷ es) rest w begin used working suspended u =
     followed-more T e es rest w begin used working suspended (u .0) (u .1) (λ n working′ suspended′. still-followed T es rest (onward T e w) begin n working′ suspended′ (u .2))
 
--- a job that lived in a row is told: the jobs of the row are those of the events before its begin, it, and those of the events behind its end
-pub record Told (T : Setting) (es : List Event) (w : World) (j : Finished) (l : Lived T es w j) : Type 0 where
-  pub working : ℕ
-  pub suspended : ℕ
-  pub in-its-place :
-      jobs T nothing es (w .chip) (w .memory)
-      ≡ jobs T nothing (l .begun .before) (w .chip) (w .memory)
-      ++ (record { kind = j .kind; begin = j .begin; end = j .end; used = j .used; working = working; suspended = suspended }
-      ∷ jobs T nothing (l .behind) (onward T (l .last) (runs T (l .past) w) .chip) (onward T (l .last) (runs T (l .past) w) .memory))
-
 -- Every job that lived in a row, from a deselect with verdict 2 to the tick that ended it, is told, once and in its place.
 pub job-told : (T : Setting) (es : List Event) (w : World) (j : Finished) (l : Lived T es w j) → Told T es w j l
 unfolding runs
@@ -380,3 +339,16 @@ none-told T es w none = go (jobs T nothing es (w .chip) (w .memory)) (job-begins
     go : (js : List Finished) → AllJobs (Lived T es w) js → js ≡ []
     go [] all = refl
     go (j ∷ js) all = absurd (none j (all .0))
+
+-- ---- the list of jobs in numbers
+
+-- So it is of a script: what `Reporting` takes as a word is said in numbers.
+pub jobs-in-numbers : JobsInNumbers
+jobs-in-numbers =
+    record {
+      same-run = λ T s c m. run-tick-by-tick T (played s) (world c m [] 0);
+      each-lived = λ T s c m. job-begins T (tickByTick (played s)) (world c m [] 0);
+      each-told = λ T s c m. job-told T (tickByTick (played s)) (world c m [] 0);
+      none-told = λ T s c m. none-told T (tickByTick (played s)) (world c m [] 0);
+      each-accounted = script-job-ticks;
+    }

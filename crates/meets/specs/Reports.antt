@@ -54,17 +54,13 @@ use Rattle.script.specs.Watch.{mostUsed}
 use Rattle.script.specs.Laws.{no-fault, clean-later, clean-event, Good, good-event, timed-none, timed-more, runs-add}
 use Rattle.script.specs.WatchLaws.{line-not-two, usedBy}
 use Rattle.script.specs.ReportLaws.{report-done, report-add, report-tidy}
+use Rattle.demands.specs.Lives.{ticksIn, AllJobs, Accounted}
 use Rattle.meets.specs.Verdicts.{settled-acts}
 use Rattle.meets.specs.Cut.{length-runs, legal-runs}
 
 -- ---- every job of a list
 
--- what every job of a list has
-unfoldable pub AllJobs : (Finished → Type 0) → List Finished → Type 0
-AllJobs P [] = Unit {0}
-AllJobs P (j ∷ js) = P j × AllJobs P js
-
--- the jobs of two lists have it together
+-- what every job of one list and every job of another has, the jobs of both have
 all-append : (P : Finished → Type 0) (js ks : List Finished) → AllJobs P js → AllJobs P ks → AllJobs P (js ++ ks)
 unfolding AllJobs
 all-append P [] ks a b = b
@@ -192,11 +188,6 @@ unfoldable pub Singly : List Event → Type 0
 Singly [] = Unit {0}
 Singly (e ∷ es) = (eqb (e .kind) TICKS ≡ false) × Singly es
 
--- a job's ticks, on a part of S sectors: those that found it running are its steps, and every other one found it suspended
-pub record Accounted (S : ℕ) (j : Finished) : Type 0 where
-  pub all-steps : j .working ≡ total (j .kind) S
-  pub all-ticks : j .used ≡ j .working + j .suspended
-
 -- the same of a job that is followed and stands: its steps so far
 abbrev Counts : Followed → Core → Type 0
 Counts nothing k = Unit {0}
@@ -301,11 +292,6 @@ pub script-job-ticks : (T : Setting) (s : List ℕ) (c : Chip) (m : List ℕ) �
 script-job-ticks T s c m part fine = job-ticks T (tickByTick (played s)) c m (tick-by-tick-singly (played s)) part fine
 
 -- ---- how many ticks a job can use
-
--- how many single ticks a row has
-unfoldable pub ticksIn : List Event → ℕ
-ticksIn [] = 0
-ticksIn (e ∷ es) = cond (eqb (e .kind) TICK) 1 0 + ticksIn es
 
 -- No job of a row uses more ticks than the row has.
 pub used-most : (T : Setting) (es : List Event) (c : Chip) (m : List ℕ) (most : ℕ) → ticksIn es ≤ most → AllJobs (λ (j : Finished). j .used ≤ most) (jobs T nothing es c m)
