@@ -7,7 +7,7 @@ pub mod Moments
 pub mod Scripts
 pub mod Commands
 pub mod Jobs
+pub mod Lives
 pub mod Words
 pub mod Programming
-pub mod Lives
 pub mod Reporting

@@ -1,5 +1,5 @@
--- The word that `Reporting` takes from the definitions, said again of any row of events: which jobs are told, where each began and ended, and the ticks that it used.
--- Here a wrong list of jobs is noticed (RULES, The margin report).
+-- The jobs that a margin report counts, in numbers, of the definitions themselves: which jobs are told, where each began and ended, and the ticks that it used.
+-- `Reporting` uses this word; here a wrong list of jobs is noticed (RULES, The margin report).
 use Prim.Native.Nat.{ℕ, _+_}
 use mathlib.Core.Bool.{true, false, cond}
 use mathlib.Core.List.{List, [], _∷_, _++_}
@@ -86,7 +86,7 @@ abbrev pub LivedIn : Setting → List ℕ → Chip → List ℕ → Finished →
 LivedIn T s c m j = Lived T (row s) (world c m [] 0) j
 
 -- Which jobs a script tells, and what each used (RULES, The margin report).
-pub record JobsInNumbers : Type 0 where
+pub record ToldJobsInNumbers : Type 0 where
   -- tick by tick the script's run is the same run
   pub same-run : (T : Setting) (s : List ℕ) (c : Chip) (m : List ℕ) → runs T (row s) (world c m [] 0) ≡ runs T (played s) (world c m [] 0)
   -- every job that is told lived in the script: one that stood at the start, that goes on at the end, or that was dropped is not told

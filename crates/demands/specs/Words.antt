@@ -19,6 +19,7 @@ use Rattle.demands.specs.States.{LegalState, FreshState}
 use Rattle.demands.specs.Scripts.{KindsInNumbers, EventsInNumbers, StampsInNumbers}
 use Rattle.demands.specs.Commands.{TableInNumbers}
 use Rattle.demands.specs.Jobs.{JobsInNumbers}
+use Rattle.demands.specs.Lives.{ToldJobsInNumbers}
 use Rattle.demands.specs.Demand2.{among, Rows, firstProtected, lastProtected, StatusByte}
 
 -- which cells of a part of S sectors level L protects (RULES, Protection)
@@ -72,5 +73,7 @@ pub record Words : Type 0 where
   pub status : (k : Core) → k .level ≤ 7 → StatusByte k (statusByte k)
   -- a job's steps and image, on a part of S sectors
   pub jobs : (S : ℕ) → JobsInNumbers S
+  -- the jobs of a script that a margin report counts
+  pub told-jobs : ToldJobsInNumbers
   -- and the rest
   pub small : SmallWords

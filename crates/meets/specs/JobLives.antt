@@ -20,7 +20,7 @@ use Rattle.script.specs.Run.{World, world, does, onward, runs}
 use Rattle.script.specs.Jobs.{tickByTick, Finished, Followed, nothing, follows, tickMore, isTwo, stands, followedAfter, finished, endedBy, jobs}
 use Rattle.script.specs.Laws.{runs-add}
 use Rattle.script.specs.WatchLaws.{line-not-two}
-use Rattle.demands.specs.Lives.{ticksIn, Undisturbed, Since, Lived, AllJobs, Told, JobsInNumbers}
+use Rattle.demands.specs.Lives.{ticksIn, Undisturbed, Since, Lived, AllJobs, Told, ToldJobsInNumbers}
 use Rattle.meets.specs.Reports.{jobs-each, script-job-ticks, run-tick-by-tick}
 
 -- ---- where a job began
@@ -342,9 +342,9 @@ none-told T es w none = go (jobs T nothing es (w .chip) (w .memory)) (job-begins
 
 -- ---- the list of jobs in numbers
 
--- So it is of a script: what `Reporting` takes as a word is said in numbers.
-pub jobs-in-numbers : JobsInNumbers
-jobs-in-numbers =
+-- So it is of a script: the list that `Reporting` takes as a word.
+pub told-jobs-in-numbers : ToldJobsInNumbers
+told-jobs-in-numbers =
     record {
       same-run = λ T s c m. run-tick-by-tick T (played s) (world c m [] 0);
       each-lived = λ T s c m. job-begins T (tickByTick (played s)) (world c m [] 0);

@@ -19,6 +19,7 @@ use Rattle.meets.specs.LegalStates.{length-among, legal-when, fresh-stat
 use Rattle.meets.specs.ScriptWords.{kinds-in-numbers, events-in-numbers, stamps-in-numbers}
 use Rattle.meets.specs.TableWords.{table-in-numbers}
 use Rattle.meets.specs.JobWords.{jobs-in-numbers}
+use Rattle.meets.specs.JobLives.{told-jobs-in-numbers}
 use Rattle.meets.specs.Meets2Reads.{status-bits}
 use Rattle.meets.specs.Meets1.{meets-1, meets-1-run}
 use Rattle.meets.specs.Meets2.{meets-2}
@@ -53,6 +54,7 @@ words =
       protection = protection-in-numbers;
       status = status-bits;
       jobs = jobs-in-numbers;
+      told-jobs = told-jobs-in-numbers;
       small = small;
     }
 
