@@ -232,9 +232,9 @@ fn finished(
     load: [u8; 256],
     held: [u8; 256],
     written: usize,
-    ticks: u64,
+    worked: u64,
 ) -> Ran
-    ensures { λ r. ⌜ r ≡ finished (whole core frame load held) written ticks ⌝ }
+    ensures { λ r. ⌜ r ≡ finished (whole core frame load held) written worked ⌝ }
 {
     Ran {
         chip: Chip {
@@ -246,7 +246,7 @@ fn finished(
         refusal: 0,
         offset: 0,
         written: written,
-        ticks: ticks,
+        ticks: worked,
     }
 }
 
