@@ -4,6 +4,7 @@ pub mod Demand1
 pub mod Demand2
 pub mod Demand3
 pub mod Moments
+pub mod Suspension
 pub mod Scripts
 pub mod Commands
 pub mod Jobs

@@ -3,4 +3,5 @@ pub mod Alone
 pub mod Laws
 pub mod Legality
 pub mod Keeps
+pub mod Said
 pub mod Leftovers

@@ -14,6 +14,7 @@ use Rattle.chip.specs.declared.Frame.{Frame}
 use Rattle.chip.specs.declared.Job.{Job}
 use Rattle.chip.specs.Job.{isJob, hasCells, total, noJob}
 use Rattle.chip.specs.Chip.{emptyFrame, blankLoad, suspendable}
+use Rattle.chip.specs.Laws.{cells-job}
 use Rattle.legal.specs.Legal.{placed, legalJob, jobEnabled, suspendedHasCells, waitingRuns, deepRests, legalCore, judgementKnown, readPlaces, legalFrame, isEmpty, isBlank, begun, tidy, legal}
 
 -- ---- the core
@@ -61,6 +62,10 @@ core-legal S k l =
     (means-shown (k .suspended) (hasCells (k .job .kind)) (l .suspended-cells)))
     (means-shown (k .waiting) (suspendable k) (l .waiting-runs)))
     (means-shown (k .deep) _ (λ e. and-both (not (isJob (k .job .kind))) (not (k .armed)) (ap not (l .deep-idle e)) (ap not (l .deep-unarmed e))))
+
+-- whoever is suspended has a job, and so has WEN
+pub suspended-enabled : (S : ℕ) (k : Core) → LegalCore S k → k .suspended ≡ true → k .wen ≡ true
+suspended-enabled S k l suspended = l .job-enabled (cells-job (k .job .kind) (l .suspended-cells suspended))
 
 -- with no job a core is legal, if its level is, it is neither suspended nor waits to be, and asleep it is not armed
 pub idle-legal : (S : ℕ) (k : Core) → k .job ≡ noJob → k .level ≤ 7 → k .suspended ≡ false → k .waiting ≡ false → (k .deep ≡ true → k .armed ≡ false) → LegalCore S k

@@ -1,18 +1,14 @@
 -- How long what is printed can be: a record's word and its line, the lines of a run, and the whole text, for which there is room.
 use Prim.Native.Nat.{ℕ, zero, suc, _+_, _*_, _<_, _≤_}
-use mathlib.Core.Bool.{Bool, true, cond}
+use mathlib.Core.Bool.{true, cond}
 use mathlib.Core.List.{List, [], _∷_, _++_}
 use mathlib.Core.Path.{_≡_, refl, sym, ap, _∙_}
 use native.Mathlib.Omega.{arith}
-use lib.Dec.{eqb, ltb, leb}
+use lib.Dec.{eqb, leb}
 use lib.ListN.{length, replicate, length-append, length-replicate}
 use borrow.Author.Tests.{leb-false}
 use Rattle.cells.specs.Choice.{cond-either}
 use Rattle.part.specs.Part.{permitted, sector, sectorsIn, Setting, settingOf}
-use Rattle.part.specs.declared.Protected.{Protected}
-use Rattle.part.specs.declared.Protected.the-variants.{NoSector, Sectors}
-use Rattle.part.specs.Protection.{protectedSectors}
-use Rattle.part.specs.Laws.{ends-small}
 use Rattle.kinds.specs.Kinds.{yields}
 use Rattle.kinds.specs.Body.{nextAt}
 use Rattle.chip.specs.declared.Chip.{Chip}
@@ -20,13 +16,7 @@ use Rattle.chip.specs.declared.Record.{Record}
 use Rattle.chip.specs.declared.Record.the-variants.{Nothing, Floating, Driven, Verdict, InTheWay}
 use Rattle.chip.specs.Chip.{fresh}
 use Rattle.legal.specs.Legal.{legal, legalJob, legalCore, legalFrame, isEmpty, isBlank}
-use Rattle.legal.specs.Legality.{LegalChip, chip-facts}
-use Rattle.frame.specs.Frame.{Exchange, exchanged}
-use Rattle.frame.specs.Legality.{taken-each, exchanged-each}
-use Rattle.verdict.specs.Verdict.{verdict, inTheWay, recordOf}
-use Rattle.verdict.specs.Laws.{verdict-most}
-use Rattle.event.specs.Event.{Outcome, deselect, applied}
-use Rattle.event.specs.Laws.{applied-each}
+use Rattle.event.specs.Said.{Small, said-small}
 use Rattle.event.specs.Legality.{legal-applied}
 use Rattle.event.specs.Keeps.{length-applied}
 use Rattle.script.specs.declared.Ran.{Ran}
@@ -40,15 +30,7 @@ use Rattle.listing.specs.Report.{longestScript, outputRoom, textRoom, li
 
 -- ---- a record's line
 
--- a record with numbers as small as those of a legal state: a verdict of the list, and sectors of the largest part
-abbrev Small : Record → Type 0
-Small Nothing = Unit {0}
-Small Floating = Unit {0}
-Small (Driven b) = Unit {0}
-Small (Verdict v) = v ≤ 12
-Small (InTheWay first last) = (first ≤ 31) × (last ≤ 31)
-
--- its word is at most `V9 31 31`
+-- the word of a record as a legal state says it is at most `V9 31 31`
 word-most : (said : Record) → Small said → length (wordOf said) ≤ 8
 word-most Nothing small = omega arith
 word-most Floating small = omega arith
@@ -61,42 +43,6 @@ word-most (InTheWay first last) (f, l) =
 line-most : (offset : ℕ) (said : Record) → offset < longestScript → Small said → length (lineOf offset said) ≤ longestLine
 unfolding lineOf
 line-most offset said early small = simp length-append (omega (arith, spelled-below 20 4 offset (omega arith) (omega arith), word-most said small))
-
--- ---- what a legal state says
-
-module _ (T : Setting) (c : Chip) (m : List ℕ) (same : T .sectors ≡ sectorsIn (length m)) (l : legal c (length m) ≡ true) where
-  abbrev facts : LegalChip c (length m)
-  facts = chip-facts c (length m) l
-
-  abbrev SmallSaid : Outcome → Type 0
-  SmallSaid o = Small (o .said)
-
-  -- the ends of the protected sectors lie on the part
-  ends-said : (range : Protected) → protectedSectors (c .core .level) (c .core .tb) (T .sectors) ≡ range → Small (inTheWay range)
-  ends-said NoSector e = omega arith
-  ends-said (Sectors first last) e =
-      ends-small (c .core .level) (c .core .tb) (length m) first last (facts .length-permitted) (ap (protectedSectors (c .core .level) (c .core .tb)) (sym same) ∙ e)
-
-  deselect-small : (loose : Bool) → SmallSaid (deselect T c m loose)
-  unfolding recordOf
-  deselect-small loose =
-      cond-either SmallSaid (c .frame .selected) _ _
-      (λ _. cond-either Small (eqb v 9) _ _ (λ _. ends-said _ refl) (λ _. verdict-most (T .sectors) (c .core) (c .frame) loose (facts .frame-part .judgement-known)))
-      (λ _. omega arith)
-    where
-      v : ℕ
-      v = verdict (T .sectors) (c .core) (c .frame) loose
-
-  exchange-small : (b : ℕ) → Small (exchanged T (c .core) (c .frame) (c .load) m b .said)
-  exchange-small b =
-      exchanged-each T (c .core) (c .frame) (c .load) m b (λ (e : Exchange). Small (e .said)) (λ _. tt) (λ _ _. tt) (λ _. tt)
-      (λ _. taken-each T (c .core) (c .frame) (c .load) m b (λ (e : Exchange). Small (e .said)) (λ _. tt) (λ _. tt) (λ _. tt) (λ _. tt) tt (λ _. tt) (λ _. tt))
-
-  -- whatever the event, what it says is small
-  said-small : (kind body : ℕ) → SmallSaid (applied T c m kind body)
-  said-small kind body =
-      applied-each T c m kind body SmallSaid
-      (λ _. tt) (λ _. exchange-small _) (λ _. deselect-small (ltb 0 body)) (λ _. tt) (λ _. tt) (λ _. tt) (λ _. tt) (λ _. tt)
 
 -- ---- the lines of a run
 

@@ -42,3 +42,4 @@ pub mod JobWords
 pub mod Reports
 pub mod JobLives
 pub mod ReportMeets
+pub mod Suspension

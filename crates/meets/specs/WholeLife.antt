@@ -50,10 +50,10 @@ pub record LifeRun (r : RunReply) (w₀ w₁ : World) : Type 0 where
   pub ticks-are : r .ticks ≡ w₀ .ticks + stepsOf (jobIn w₁ .kind) w₀
 
 -- a good event leaves a legal chip
-abbrev LegalityKept : Model → Type 0
+abbrev pub LegalityKept : Model → Type 0
 LegalityKept M = (area : List ℕ) (e : Event) (w : World) → Fit (w .chip) (w .memory) area → Good e → Fit (onwardBy M area e w .chip) (onwardBy M area e w .memory) area
 
-legality-kept : (M : Model) → Demand1 M → LegalityKept M
+pub legality-kept : (M : Model) → Demand1 M → LegalityKept M
 legality-kept M D area e w fit good =
     D .stays-legal (w .chip) (w .memory) area (e .kind) (e .body)
     (D .numbers (w .chip) (w .memory) area (e .kind) (e .body) .none .1 (chip-facts (w .chip) (length (w .memory)) (fit .state-legal) .length-permitted, fit .area-short, fit .state-legal, good .0, good .1)) .0
@@ -68,7 +68,7 @@ good-split (e ∷ es) fs g = let rest = good-split es fs (g .1) in ((g .0, rest 
 
 module _ (M : Model) (kept : LegalityKept M) (D : Demand3 M) (area : List ℕ) where
   -- legality is kept, and the working ticks are counted, over a row of events
-  row-kept : (es : List Event) (w : World) → Fit (w .chip) (w .memory) area → AllGood es
+  pub row-kept : (es : List Event) (w : World) → Fit (w .chip) (w .memory) area → AllGood es
       → Fit (runsBy M area es w .chip) (runsBy M area es w .memory) area × (runsBy M area es w .ticks ≡ w .ticks + workedBy M area es w)
   unfolding runsBy workedBy AllGood
   row-kept [] w fit good = (fit, sym (add-zero (w .ticks)))

@@ -7,7 +7,7 @@ use native.Mathlib.Omega.{arith}
 use native.Mathlib.Decide.{ℕ-discrete}
 use lib.Dec.{eqb}
 use lib.ListN.{length, getD}
-use borrow.Author.Tests.{eq-eqb, ne-eqb, eqb-true}
+use borrow.Author.Tests.{eq-eqb, ne-eqb, eqb-true, not-true, not-false}
 use Rattle.cells.specs.Choice.{cond-yes, cond-no, cond-either, and-left, and-right, and-both, not-so}
 use Rattle.part.specs.Part.{sector}
 use Rattle.part.specs.declared.Protected.{Protected}
@@ -52,77 +52,62 @@ module _ (S : ℕ) (k : Core) (f : Frame) (loose : Bool) (known : judgementKnown
   abbrev start : ℕ
   start = jobAsked S f .start
 
-  -- a verdict of 1 or 2 comes from the end of the list
-  listed-command : (v : ℕ) → (judgementKnown v ≡ true → ⊥) → (v ≡ 4 → ⊥) → verdict S k f loose ≡ v
-      → (judge k (f .opcode) ≡ 0) × (commandVerdict S k f ≡ v)
-  unfolding verdict listed
-  listed-command v not-judged not-four =
-      go (eqb (f .count) 0) (eqb (f .judgement) 0) (eqb (judge k (f .opcode)) 0) (isRead (f .opcode)) (loose || not (fitsRule (rowOf (f .opcode) .rule) (f .count))) refl
+  -- what holds of each number of the list, where its test is the first that applies, holds of the verdict
+  verdict-each : (P : ℕ → Type 0)
+      → ((v : ℕ) → judgementKnown v ≡ true → P v)
+      → P 4
+      → P 11
+      → (ActsAtOnce k f → P 1)
+      → ((hasCells kind && k .suspended && not (k .wen)) ≡ true → P 12)
+      → (k .wen ≡ false → P 8)
+      → P 10
+      → (targetProtected S k kind start ≡ true → P 9)
+      → (Begins S k f → P 2)
+      → P (verdict S k f loose)
+  unfolding verdict listed commandVerdict jobVerdict
+  verdict-each P judged p₄ p₁₁ p₁ p₁₂ p₈ p₁₀ p₉ p₂ =
+      cond-either P (eqb (f .count) 0) _ _ (λ _. judged 0 refl)
+      (λ _. cond-either P (not (eqb (f .judgement) 0)) _ _ (λ _. judged (f .judgement) known)
+      (λ _. cond-either P (not (eqb (judge k (f .opcode)) 0)) _ _ (λ _. judged (judge k (f .opcode)) (judge-known k (f .opcode)))
+      (λ none. cond-either P (isRead (f .opcode)) _ _ (λ _. judged 0 refl)
+      (λ _. cond-either P (loose || not (fitsRule (rowOf (f .opcode) .rule) (f .count))) _ _ (λ _. p₄)
+      (λ _. cond-either P (pointless k (f .opcode)) _ _ (λ _. p₁₁)
+      (λ acts. cond-either P (isJob kind) _ _
+      (λ job. cond-either P (hasCells kind && k .suspended && not (k .wen)) _ _ p₁₂
+      (λ _. cond-either P (not (k .wen)) _ _ (λ off. p₈ (not-true (k .wen) off))
+      (λ on. cond-either P (not (hasCells kind) && k .srwp && not (k .wp)) _ _ (λ _. p₁₀)
+      (λ _. cond-either P (targetProtected S k kind start) _ _ p₉
+      (λ free. p₂ (record { judged-none = unjudged none; begins-job = job; enabled = not-false (k .wen) on; target-free = free }))))))
+      (λ none-begun. p₁ (record { judged-none = unjudged none; begins-none = none-begun; acts = acts }))))))))
     where
-      zero-known : v ≡ 0 → ⊥
-      zero-known e = not-judged (ap judgementKnown e)
+      unjudged : not (eqb (judge k (f .opcode)) 0) ≡ false → judge k (f .opcode) ≡ 0
+      unjudged none = eqb-true _ _ (not-false _ none)
 
-      go : (c j g r b : Bool) → eqb (judge k (f .opcode)) 0 ≡ g
-          → cond c 0 (cond (not j) (f .judgement) (cond (not g) (judge k (f .opcode)) (cond r 0 (cond b 4 (commandVerdict S k f))))) ≡ v
-          → (judge k (f .opcode) ≡ 0) × (commandVerdict S k f ≡ v)
-      go true j g r b p h = absurd (zero-known (sym h))
-      go false false g r b p h = absurd (not-judged (ap judgementKnown (sym h) ∙ known))
-      go false true false r b p h = absurd (not-judged (ap judgementKnown (sym h) ∙ judge-known k (f .opcode)))
-      go false true true true b p h = absurd (zero-known (sym h))
-      go false true true false true p h = absurd (not-four (sym h))
-      go false true true false false p h = (eqb-true _ _ p, h)
+  -- 1, 2, 8 and 9 are no judgements
+  not-judged : (v u : ℕ) → judgementKnown u ≡ false → judgementKnown v ≡ true → v ≡ u → ⊥
+  not-judged v u other known e = false≢true (sym other ∙ ap judgementKnown (sym e) ∙ known)
 
   pub verdict-two : verdict S k f loose ≡ 2 → Begins S k f
-  unfolding commandVerdict jobVerdict
-  verdict-two h =
-      let c = listed-command 2 false≢true (λ e. omega arith) h in
-      go (c .0) (pointless k (f .opcode)) (isJob kind) (hasCells kind && k .suspended && not (k .wen)) (k .wen) (not (hasCells kind) && k .srwp && not (k .wp)) (targetProtected S k kind start) refl refl refl (c .1)
-    where
-      go : judge k (f .opcode) ≡ 0 → (p j a w t q : Bool) → isJob kind ≡ j → k .wen ≡ w → targetProtected S k kind start ≡ q
-          → _≡_ {A = ℕ} (cond p 11 (cond j (cond a 12 (cond (not w) 8 (cond t 10 (cond q 9 2)))) 1)) 2
-          → Begins S k f
-      go z false true false true false false je we qe e = record { judged-none = z; begins-job = je; enabled = we; target-free = qe }
-      go z false true false true false true je we qe e = absurd (omega arith)
-      go z false true false true true q je we qe e = absurd (omega arith)
-      go z false true false false t q je we qe e = absurd (omega arith)
-      go z false true true w t q je we qe e = absurd (omega arith)
-      go z false false a w t q je we qe e = absurd (omega arith)
-      go z true j a w t q je we qe e = absurd (omega arith)
+  verdict-two =
+      verdict-each (λ v. v ≡ 2 → Begins S k f) (λ v known e. absurd (not-judged v 2 refl known e)) (λ e. absurd (omega arith)) (λ e. absurd (omega arith)) (λ _ e. absurd (omega arith))
+      (λ _ e. absurd (omega arith)) (λ _ e. absurd (omega arith)) (λ e. absurd (omega arith)) (λ _ e. absurd (omega arith)) (λ begins _. begins)
 
   pub verdict-one : verdict S k f loose ≡ 1 → ActsAtOnce k f
-  unfolding commandVerdict jobVerdict
-  verdict-one h =
-      let c = listed-command 1 false≢true (λ e. omega arith) h in
-      go (c .0) (pointless k (f .opcode)) (isJob kind) (hasCells kind && k .suspended && not (k .wen)) (k .wen) (not (hasCells kind) && k .srwp && not (k .wp)) (targetProtected S k kind start) refl refl (c .1)
-    where
-      go : judge k (f .opcode) ≡ 0 → (p j a w t q : Bool) → pointless k (f .opcode) ≡ p → isJob kind ≡ j
-          → _≡_ {A = ℕ} (cond p 11 (cond j (cond a 12 (cond (not w) 8 (cond t 10 (cond q 9 2)))) 1)) 1
-          → ActsAtOnce k f
-      go z false false a w t q pe je e = record { judged-none = z; begins-none = je; acts = pe }
-      go z false true true w t q pe je e = absurd (omega arith)
-      go z false true false false t q pe je e = absurd (omega arith)
-      go z false true false true true q pe je e = absurd (omega arith)
-      go z false true false true false true pe je e = absurd (omega arith)
-      go z false true false true false false pe je e = absurd (omega arith)
-      go z true j a w t q pe je e = absurd (omega arith)
+  verdict-one =
+      verdict-each (λ v. v ≡ 1 → ActsAtOnce k f) (λ v known e. absurd (not-judged v 1 refl known e)) (λ e. absurd (omega arith)) (λ e. absurd (omega arith)) (λ acts _. acts)
+      (λ _ e. absurd (omega arith)) (λ _ e. absurd (omega arith)) (λ e. absurd (omega arith)) (λ _ e. absurd (omega arith)) (λ _ e. absurd (omega arith))
+
+  -- verdict 8 finds WEN at 0
+  pub verdict-eight : verdict S k f loose ≡ 8 → k .wen ≡ false
+  verdict-eight =
+      verdict-each (λ v. v ≡ 8 → k .wen ≡ false) (λ v known e. absurd (not-judged v 8 refl known e)) (λ e. absurd (omega arith)) (λ e. absurd (omega arith)) (λ _ e. absurd (omega arith))
+      (λ _ e. absurd (omega arith)) (λ off _. off) (λ e. absurd (omega arith)) (λ _ e. absurd (omega arith)) (λ _ e. absurd (omega arith))
 
   -- verdict 9 finds the target protected
   verdict-nine : verdict S k f loose ≡ 9 → targetProtected S k kind start ≡ true
-  unfolding commandVerdict jobVerdict
-  verdict-nine h =
-      let c = listed-command 9 false≢true (λ e. omega arith) h in
-      go (pointless k (f .opcode)) (isJob kind) (hasCells kind && k .suspended && not (k .wen)) (k .wen) (not (hasCells kind) && k .srwp && not (k .wp)) (targetProtected S k kind start) refl (c .1)
-    where
-      go : (p j a w t q : Bool) → targetProtected S k kind start ≡ q
-          → _≡_ {A = ℕ} (cond p 11 (cond j (cond a 12 (cond (not w) 8 (cond t 10 (cond q 9 2)))) 1)) 9
-          → targetProtected S k kind start ≡ true
-      go false true false true false true qe e = qe
-      go false true false true false false qe e = absurd (omega arith)
-      go false true false true true q qe e = absurd (omega arith)
-      go false true false false t q qe e = absurd (omega arith)
-      go false true true w t q qe e = absurd (omega arith)
-      go false false a w t q qe e = absurd (omega arith)
-      go true j a w t q qe e = absurd (omega arith)
+  verdict-nine =
+      verdict-each (λ v. v ≡ 9 → targetProtected S k kind start ≡ true) (λ v known e. absurd (not-judged v 9 refl known e)) (λ e. absurd (omega arith)) (λ e. absurd (omega arith)) (λ _ e. absurd (omega arith))
+      (λ _ e. absurd (omega arith)) (λ _ e. absurd (omega arith)) (λ e. absurd (omega arith)) (λ kept-off _. kept-off) (λ _ e. absurd (omega arith))
 
   -- so there are protected sectors to tell of
   pub nine-finds : verdict S k f loose ≡ 9 → protectedCount (k .level) S ≡ 0 → ⊥
@@ -142,30 +127,24 @@ module _ (S : ℕ) (k : Core) (f : Frame) (loose : Bool) (known : judgementKnown
       free SectorErase = at (start / sector)
       free ChipErase = ap protectsAny nothing
 
-  -- the list ends at 12
-  pub verdict-most : verdict S k f loose ≤ 12
-  unfolding verdict listed commandVerdict jobVerdict
-  verdict-most =
-      either (eqb (f .count) 0) (omega arith)
-      (either (not (eqb (f .judgement) 0)) (judged (f .judgement) known)
-      (either (not (eqb (judge k (f .opcode)) 0)) (judged (judge k (f .opcode)) (judge-known k (f .opcode)))
-      (either (isRead (f .opcode)) (omega arith)
-      (either (loose || not (fitsRule (rowOf (f .opcode) .rule) (f .count))) (omega arith)
-      (either (pointless k (f .opcode)) (omega arith)
-      (either (isJob kind)
-      (either (hasCells kind && k .suspended && not (k .wen)) (omega arith)
-      (either (not (k .wen)) (omega arith)
-      (either (not (hasCells kind) && k .srwp && not (k .wp)) (omega arith) (either (targetProtected S k kind start) (omega arith) (omega arith)))))
-      (omega arith)))))))
+  -- where suspended means WEN, as it does on a legal state, the list ends at 11
+  pub verdict-most : (k .suspended ≡ true → k .wen ≡ true) → verdict S k f loose ≤ 11
+  verdict-most enabled =
+      verdict-each (λ v. v ≤ 11) judged (omega arith) (omega arith) (λ _. omega arith)
+      (λ lacks. absurd (lacking (k .suspended) (k .wen) enabled (hasCells kind) lacks))
+      (λ _. omega arith) (omega arith) (λ _. omega arith) (λ _. omega arith)
     where
-      either : (b : Bool) {x y : ℕ} → x ≤ 12 → y ≤ 12 → cond b x y ≤ 12
-      either true p q = p
-      either false p q = q
+      lacking : (s w : Bool) → (s ≡ true → w ≡ true) → (a : Bool) → (a && s && not w) ≡ true → ⊥
+      lacking true true h true e = false≢true e
+      lacking true true h false e = false≢true e
+      lacking true false h a e = false≢true (h refl)
+      lacking false w h true e = false≢true e
+      lacking false w h false e = false≢true e
 
-      judged : (v : ℕ) → judgementKnown v ≡ true → v ≤ 12
+      judged : (v : ℕ) → judgementKnown v ≡ true → v ≤ 11
       judged v = go (ℕ-discrete v 0) (ℕ-discrete v 3) (ℕ-discrete v 5) (ℕ-discrete v 6) (ℕ-discrete v 7)
         where
-          go : Dec (v ≡ 0) → Dec (v ≡ 3) → Dec (v ≡ 5) → Dec (v ≡ 6) → Dec (v ≡ 7) → judgementKnown v ≡ true → v ≤ 12
+          go : Dec (v ≡ 0) → Dec (v ≡ 3) → Dec (v ≡ 5) → Dec (v ≡ 6) → Dec (v ≡ 7) → judgementKnown v ≡ true → v ≤ 11
           go (yes e) a b c d h = omega arith
           go (no z) (yes e) b c d h = omega arith
           go (no z) (no a) (yes e) c d h = omega arith
