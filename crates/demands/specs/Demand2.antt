@@ -82,7 +82,6 @@ rulesList n k f bits =
     ∷ test 11 (eqb (f .opcode) 0xB0 && k .waiting)
     ∷ test 11 (eqb (f .opcode) 0x30 && not (k .suspended))
     ∷ test 11 (eqb (f .opcode) 0x99 && not (k .armed))
-    ∷ test 12 (changesCells (f .opcode) && k .suspended && not (k .wen))
     ∷ test 8 (beginsJob (f .opcode) && not (k .wen))
     ∷ test 10 (eqb (f .opcode) 0x01 && k .srwp && not (k .wp))
     ∷ test 9 (inOneSector (f .opcode) && isProtected (k .level) (k .tb) (sectorsIn n) (f .address % n / 65536))

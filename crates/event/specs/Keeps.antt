@@ -1,4 +1,4 @@
--- What an event leaves alone: the memory's length, the cells and the count of working ticks at every kind but ticks, and all but arming at verdicts 3 to 12.
+-- What an event leaves alone: the memory's length, the cells and the count of working ticks at every kind but ticks, and all but arming at verdicts 3 to 11.
 use Prim.Native.Nat.{ℕ}
 use mathlib.Core.Bool.{Bool}
 use mathlib.Core.List.{List}
@@ -55,7 +55,7 @@ cells-stay T c m kind body not-tick not-ticks = still T c m kind body not-tick n
 pub works-none : (T : Setting) (c : Chip) (m : List ℕ) (kind body : ℕ) → (kind ≡ TICK → ⊥) → (kind ≡ TICKS → ⊥) → applied T c m kind body .ticks ≡ 0
 works-none T c m kind body not-tick not-ticks = still T c m kind body not-tick not-ticks .1
 
--- Verdicts 3 to 12 change no job and no status bit, and WEN stays; so do all verdicts but 1 and 2.
+-- Verdicts 3 to 11 change no job and no status bit, and WEN stays; so do all verdicts but 1 and 2.
 pub record Untouched (k k′ : Core) : Type 0 where
   pub job-stays : k′ .job ≡ k .job
   pub status-stays : statusByte k′ ≡ statusByte k

@@ -16,7 +16,7 @@ use Rattle.chip.specs.declared.Chip.{Chip}
 use Rattle.chip.specs.declared.Record.{Record}
 use Rattle.chip.specs.declared.Record.the-variants.{Nothing, Floating, Driven, Verdict, InTheWay}
 use Rattle.legal.specs.Legal.{legal}
-use Rattle.legal.specs.Legality.{LegalChip, chip-facts, suspended-enabled}
+use Rattle.legal.specs.Legality.{LegalChip, chip-facts}
 use Rattle.frame.specs.Frame.{Exchange, exchanged}
 use Rattle.frame.specs.Legality.{taken-each, exchanged-each}
 use Rattle.verdict.specs.Verdict.{verdict, inTheWay, recordOf}
@@ -49,9 +49,7 @@ module _ (T : Setting) (c : Chip) (m : List ℕ) (same : T .sectors ≡ sectorsI
   unfolding recordOf
   deselect-small loose =
       cond-either SmallSaid (c .frame .selected) _ _
-      (λ _.
-      cond-either Small (eqb v 9) _ _ (λ _. ends-said _ refl)
-      (λ _. verdict-most (T .sectors) (c .core) (c .frame) loose (facts .frame-part .judgement-known) (suspended-enabled (sectorsIn (length m)) (c .core) (facts .core-part))))
+      (λ _. cond-either Small (eqb v 9) _ _ (λ _. ends-said _ refl) (λ _. verdict-most (T .sectors) (c .core) (c .frame) loose (facts .frame-part .judgement-known)))
       (λ _. omega arith)
     where
       v : ℕ

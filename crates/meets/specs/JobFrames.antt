@@ -158,8 +158,7 @@ module _ (S : ℕ) (k : Core) (f : Frame) (opcode A rule n : ℕ) (kind : JobKin
   job-begins : k .wen ≡ true → (not (hasCells kind) && k .srwp && not (k .wp)) ≡ false → targetProtected S k kind (startOf S kind A) ≡ false → jobVerdict S k job ≡ 2
   unfolding jobVerdict
   job-begins enabled unlocked free =
-      cond-no (hasCells kind && k .suspended && not (k .wen)) _ _ (ap (λ (w : Bool). hasCells kind && k .suspended && not w) enabled ∙ never (hasCells kind && k .suspended))
-      ∙ cond-no (not (k .wen)) _ _ (ap not enabled)
+      cond-no (not (k .wen)) _ _ (ap not enabled)
       ∙ cond-no (not (hasCells kind) && k .srwp && not (k .wp)) _ _ unlocked
       ∙ cond-no (targetProtected S k kind (startOf S kind A)) _ _ free
 

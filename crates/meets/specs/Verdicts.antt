@@ -22,7 +22,7 @@ use Rattle.frame.specs.Frame.{judge}
 use Rattle.verdict.specs.Verdict.{jobOf, startOf, jobVerdict, commandVerdict, listed, verdict, recordOf}
 use Rattle.verdict.specs.Effect.{acted, settled}
 use Rattle.verdict.specs.Laws.{record-plain, record-nine}
-use Rattle.demands.specs.Demand2.{among, inOneSector, ofTheChip, changesCells, beginsJob, verdictOf, saysVerdict}
+use Rattle.demands.specs.Demand2.{among, inOneSector, ofTheChip, beginsJob, verdictOf, saysVerdict}
 
 -- ---- the commands that begin a job
 
@@ -47,7 +47,7 @@ job-each P p₁ p₂ p₃ p₄ p₅ p₆ p₇ p₈ other opcode =
     go (no a) (no b) (no c) (no d) (no f) (no g) (no h) (yes e) = at e p₈
     go (no a) (no b) (no c) (no d) (no f) (no g) (no h) (no i) = other opcode (ne-eqb _ _ a) (ne-eqb _ _ b) (ne-eqb _ _ c) (ne-eqb _ _ d) (ne-eqb _ _ f) (ne-eqb _ _ g) (ne-eqb _ _ h) (ne-eqb _ _ i)
 
--- ---- from test 12 on
+-- ---- from test 8 on
 
 module _ (n : ℕ) (p : permitted n ≡ true) (k : Core) (address : ℕ) where
   -- the definitions' job verdict, and the end of the list, for an opcode
@@ -58,16 +58,15 @@ module _ (n : ℕ) (p : permitted n ≡ true) (k : Core) (address : ℕ) where
 
   abbrev inList : ℕ → ℕ
   inList opcode =
-      cond (changesCells opcode && k .suspended && not (k .wen)) 12
-      (cond (beginsJob opcode && not (k .wen)) 8
+      cond (beginsJob opcode && not (k .wen)) 8
       (cond (eqb opcode 0x01 && k .srwp && not (k .wp)) 10
       (cond (inOneSector opcode && isProtected (k .level) (k .tb) (sectorsIn n) (address % n / 65536)) 9
       (cond (ofTheChip opcode && not (eqb (k .level) 0)) 9
-      (cond (beginsJob opcode) 2 1)))))
+      (cond (beginsJob opcode) 2 1))))
 
   -- the verdict of a job in one sector, that sector being x
   abbrev ofSector : ℕ → ℕ
-  ofSector x = cond (k .suspended && not (k .wen)) 12 (cond (not (k .wen)) 8 (cond (isProtected (k .level) (k .tb) (sectorsIn n) x) 9 2))
+  ofSector x = cond (not (k .wen)) 8 (cond (isProtected (k .level) (k .tb) (sectorsIn n) x) 9 2)
 
   -- a job's place lies in the sector of its address
   same-sector : (size : ℕ) → roundedDown size (address % lengthOf (sectorsIn n)) / sector ≡ address % lengthOf (sectorsIn n) / sector
@@ -76,7 +75,7 @@ module _ (n : ℕ) (p : permitted n ≡ true) (k : Core) (address : ℕ) where
 
   -- a chip erase is kept off by every level but 0
   abbrev ofChip : Bool → ℕ
-  ofChip kept-off = cond (k .suspended && not (k .wen)) 12 (cond (not (k .wen)) 8 (cond kept-off 9 2))
+  ofChip kept-off = cond (not (k .wen)) 8 (cond kept-off 9 2)
 
   by-level : ofChip (protectsAny (protectedSectors (k .level) (k .tb) (sectorsIn n))) ≡ ofChip (not (eqb (k .level) 0))
   by-level = ap ofChip (any-by-level (k .level) (k .tb) (sectorsIn n) (permitted-some n p))

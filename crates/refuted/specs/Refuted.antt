@@ -30,12 +30,13 @@ use Rattle.clock.specs.Clock.{unset, movedOn, wentBack}
 use Rattle.script.specs.Script.{Event, faultAt, eventAt, walk, eventsFrom, events, clockAfter, clockOver, given, timed, faultBy, Refusal, refusalOf, firstBad, room}
 use Rattle.script.specs.Run.{World, world}
 use Rattle.script.specs.Run as Run
-use Rattle.demands.specs.Model.{Model, ours, event, sends, address, AllGood, Fit, runsBy, workedBy}
-use Rattle.demands.specs.Demand1.{Demand1, RunReply, ourRun, AllSound, roomNeeded, Heard, BackAt, Demand1Run}
+use Rattle.demands.specs.Model.{Model, ours, event, sends, address, Good, AllGood, Fit, onwardBy, runsBy, workedBy}
+use Rattle.demands.specs.Demand1.{Demand1, RunReply, Runner, ourRun, AllSound, roomNeeded, Heard, BackAt, Demand1Run}
 use Rattle.demands.specs.Moments.{Demand2Gives, Demand2Does, Demand2Begins, Demand2LeavesWen, Demand2Reads, Demand2Loads, Demand2Stops, Demand2Status, Demand3Starts, Demand3At, Demand3End, Demand3Counts, Demand3Keeps, Demand3Reports}
 use Rattle.demands.specs.Demand2.{Ending, Quiet, Ready, AllInside, bytesOf, AllBytes, SaysStatus}
 use Rattle.demands.specs.Demand3.{Spares, AllSpare, one-tick, Spared}
-use Rattle.refuted.specs.Wrong.{ignoresAll, refusesEvents, refusesCommands, readsBlank, ticksIdle, wholeJobAtOnce, inventsTicks, laysFromPageStart, laysFromAddress, storesBytes, nineTenCostWen, spoiltLoads, answersLate, keepsNine, swapsEnds, endsLate, tellsTarget, chipEraseTellsAll, deselects, twoADeselect, suspendsAtOnce, waitUncounted, waitsTwo, showsSusEarly, suspendsTwice, markSurvivesReset, markSurvivesEnd, boundaryIsLoose, takesEight, cutsTheBody, knows08h, bodied, bodyUncounted, answering, firstBadBy, timedBy, clocked, firstStampTicks, clockDiesWithPower, takesHalfWay, neverRollsOver, knows09hAlone, firstReads, firstLoads, secondLoads, secondWen, thirdErases, thirdSuspends}
+use Rattle.demands.specs.Suspension.{Reached, KeepsWen, EndsAtEleven, no-twelve}
+use Rattle.refuted.specs.Wrong.{ignoresAll, refusesEvents, refusesCommands, readsBlank, ticksIdle, wholeJobAtOnce, inventsTicks, laysFromPageStart, laysFromAddress, storesBytes, nineTenCostWen, spoiltLoads, answersLate, keepsNine, swapsEnds, endsLate, tellsTarget, chipEraseTellsAll, deselects, twoADeselect, suspendsAtOnce, waitUncounted, waitsTwo, showsSusEarly, suspendsTwice, markSurvivesReset, markSurvivesEnd, disablesInSuspension, suspendingCostsWen, turnsAway, writesTwelve, boundaryIsLoose, takesEight, cutsTheBody, knows08h, bodied, bodyUncounted, answering, firstBadBy, timedBy, clocked, firstStampTicks, clockDiesWithPower, takesHalfWay, neverRollsOver, knows09hAlone, firstReads, firstLoads, secondLoads, secondWen, thirdErases, thirdSuspends}
 
 -- ---- the moments
 
@@ -353,6 +354,48 @@ the-wait =
   where
     sus-shown : SaysStatus (waiting 1) (0x81 ∷ 67 ∷ []) → ⊥
     sus-shown s = absurd (omega (arith, second-byte (s .driven), s .bits .sus))
+
+-- ---- WEN lost in suspension, and a verdict 12
+
+-- that erase suspended, one step done; its chips at the deselect of a 04h frame, which was turned away at its opcode byte, and of a 20h frame
+abbrev suspended : Core
+suspended = withSuspended true (erasing 1)
+
+abbrev disabling : Chip
+disabling = within suspended (record { selected = true; opcode = 0x04; address = 0; place = 0; slot = 0; count = 1; judgement = 7 })
+
+abbrev erasing-again : Chip
+erasing-again = within suspended (sent 0x20 0 4)
+
+pub record TheEnable : Type 0 where
+  -- after the 04h frame, and after the tick of a wait, SUS is 1 and WEN is 0: `wen-is-on`
+  pub disables-in-suspension : KeepsWen disablesInSuspension → ⊥
+  pub suspending-costs-wen : KeepsWen suspendingCostsWen → ⊥
+  -- the 20h frame is told 8: `never-eight`
+  pub turns-away-by-eight : KeepsWen (turnsAway 8) → ⊥
+  -- it is told 12: `says`, whatever the runner; and a run writes it: `runs`, whatever the model
+  pub turns-away-by-twelve : (R : Runner) → EndsAtEleven (turnsAway 12) R → ⊥
+  pub writes-twelve : (M : Model) → EndsAtEleven M writesTwelve → ⊥
+
+-- What suspension keeps, and where the list ends, refute them.
+pub the-enable : TheEnable
+unfolding answerOf memoryOf saidOf happens refusal bodyUsed legal legalCore legalJob legalFrame isEmpty isBlank permitted knownKind knownInScript kindRow kindRowIn applied judge rowOf rowIn isProgram verdict recordOf listed isRead commandVerdict jobVerdict jobOf fitsRule settled acted heldAfter protectedSectors protectedCount ticksCore tickCore tickLoad ticksLoad tickMemory ticksMemory worked sweep image imageFrom runsBy AllGood timed Run.answerOf Run.outputOf Run.refusal Run.worldAfter Run.runs firstBad room eventsFrom walk faultAt
+the-enable =
+    record {
+      disables-in-suspension = λ d. false≢true (d .wen-is-on [] _ (led disablesInSuspension disabling (event 0x03 0) refl (refl, refl) refl));
+      suspending-costs-wen = λ d. false≢true (d .wen-is-on [] _ (led suspendingCostsWen (unselected (waiting 1)) (event 0x04 0) refl (refl, refl) refl));
+      turns-away-by-eight = λ d. d .never-eight [] (world erasing-again (cells 0) [] 0) 0 standing (omega arith) refl;
+      turns-away-by-twelve = λ R d. no-twelve [] (d .says erasing-again (cells 0) [] 0x03 0);
+      writes-twelve = λ M d. no-twelve [] (d .runs erasing-again (cells 0) [] (0x03 ∷ 0x00 ∷ []) (0 ∷ 0 ∷ 0 ∷ []));
+    }
+  where
+    -- one event from a legal chip to a suspended one
+    led : (M : Model) (c : Chip) (e : Event) → legal c 65536 ≡ true → Good e → onwardBy M [] e (world c (cells 0) [] 0) .chip .core .suspended ≡ true
+        → Reached M [] (onwardBy M [] e (world c (cells 0) [] 0))
+    led M c e l good is = record { chip = c; memory = cells 0; events = e ∷ []; fit = fitting c 0 l; good = (good, tt); leads = refl; suspended = is }
+
+    standing : Reached (turnsAway 8) [] (world erasing-again (cells 0) [] 0)
+    standing = record { chip = erasing-again; memory = cells 0; events = []; fit = fitting erasing-again 0 refl; good = tt; leads = refl; suspended = refl }
 
 -- ---- wrong deselects
 

@@ -3,7 +3,7 @@ use Prim.Native.Nat.{ℕ, zero, suc, _+_, _*_, _/_, _%_, _-_, min}
 use mathlib.Core.Bool.{Bool, true, false, cond, not, _&&_, _||_}
 use mathlib.Core.List.{List, [], _∷_, _++_}
 use lib.Dec.{eqb, ltb, leb}
-use lib.ListN.{length, getD, take, drop, replicate}
+use lib.ListN.{length, getD, set, take, drop, replicate}
 use Rattle.cells.specs.Cells.{Rule, sweep, later}
 use Rattle.part.specs.Part.{permitted, settingOf, sectorsIn}
 use Rattle.part.specs.Area.{longestArea}
@@ -23,7 +23,7 @@ use Rattle.script.specs.declared.Ran.{Ran}
 use Rattle.script.specs.Script.{Event, events, isStamp, clockAfter, ticksGiven, Refusal, refusalOf, room}
 use Rattle.script.specs.Run.{World, world, runs, refused, done, answerOf, memoryOf, outputOf}
 use Rattle.demands.specs.Model.{Reply, Model, reply, ours}
-use Rattle.demands.specs.Demand1.{Runner, ran, ourRun}
+use Rattle.demands.specs.Demand1.{Runner, RunReply, ran, ourRun}
 
 -- ---- how a model is changed
 
@@ -287,6 +287,42 @@ abbrev pub markSurvivesEnd : Model
 markSurvivesEnd =
     except (λ c kind says. onWait c kind)
     (λ c m area kind body. let r : Reply = ours c m area kind body in cond (isJob (r .chip .core .job .kind)) r (marked r))
+
+-- ---- WEN lost in suspension, and a verdict 12
+
+-- a write disable is done in suspension
+abbrev pub disablesInSuspension : Model
+disablesInSuspension =
+    except (λ c kind says. ends 7 c says && eqb (c .frame .opcode) 0x04)
+    (λ c m area kind body. let r : Reply = ours c m area kind body in saying (0x82 ∷ 1 ∷ []) (leaving (withCore (withWen false (r .chip .core)) (r .chip)) r))
+
+-- the tick that suspends a job costs WEN
+abbrev pub suspendingCostsWen : Model
+suspendingCostsWen =
+    except (λ c kind says. onWait c kind)
+    (λ c m area kind body.
+    let r : Reply = ours c m area kind body in
+    cond (r .chip .core .suspended) (leaving (withCore (withWen false (r .chip .core)) (r .chip)) r) r)
+
+-- a program or an erase in suspension is told this in place of 2, and does not begin
+abbrev pub turnsAway : ℕ → Model
+turnsAway v =
+    except (λ c kind says. ends 2 c says && c .core .suspended)
+    (λ c m area kind body. let r : Reply = ours c m area kind body in saying (0x82 ∷ v ∷ []) (leaving (withHeld (c .held) (withCore (withArmed false (c .core)) (r .chip))) r))
+
+-- a run from suspension whose first record is a verdict writes 12 for it
+abbrev pub writesTwelve : Runner
+writesTwelve c m area s out =
+    let r : RunReply = ourRun c m area s out in
+    record {
+      chip = r .chip;
+      memory = r .memory;
+      output = cond (c .core .suspended && leb 2 (r .written) && eqb (getD (r .output) 0 0) 0x82) (set (r .output) 1 12) (r .output);
+      refusal = r .refusal;
+      offset = r .offset;
+      written = r .written;
+      ticks = r .ticks;
+    }
 
 -- ---- wrong deselects
 

@@ -57,15 +57,14 @@ module _ (S : ℕ) (k : Core) (f : Frame) (loose : Bool) (known : judgementKnown
       → ((v : ℕ) → judgementKnown v ≡ true → P v)
       → P 4
       → P 11
-      → (ActsAtOnce k f → P 1)
-      → ((hasCells kind && k .suspended && not (k .wen)) ≡ true → P 12)
       → (k .wen ≡ false → P 8)
       → P 10
       → (targetProtected S k kind start ≡ true → P 9)
       → (Begins S k f → P 2)
+      → (ActsAtOnce k f → P 1)
       → P (verdict S k f loose)
   unfolding verdict listed commandVerdict jobVerdict
-  verdict-each P judged p₄ p₁₁ p₁ p₁₂ p₈ p₁₀ p₉ p₂ =
+  verdict-each P judged p₄ p₁₁ p₈ p₁₀ p₉ p₂ p₁ =
       cond-either P (eqb (f .count) 0) _ _ (λ _. judged 0 refl)
       (λ _. cond-either P (not (eqb (f .judgement) 0)) _ _ (λ _. judged (f .judgement) known)
       (λ _. cond-either P (not (eqb (judge k (f .opcode)) 0)) _ _ (λ _. judged (judge k (f .opcode)) (judge-known k (f .opcode)))
@@ -73,11 +72,10 @@ module _ (S : ℕ) (k : Core) (f : Frame) (loose : Bool) (known : judgementKnown
       (λ _. cond-either P (loose || not (fitsRule (rowOf (f .opcode) .rule) (f .count))) _ _ (λ _. p₄)
       (λ _. cond-either P (pointless k (f .opcode)) _ _ (λ _. p₁₁)
       (λ acts. cond-either P (isJob kind) _ _
-      (λ job. cond-either P (hasCells kind && k .suspended && not (k .wen)) _ _ p₁₂
-      (λ _. cond-either P (not (k .wen)) _ _ (λ off. p₈ (not-true (k .wen) off))
+      (λ job. cond-either P (not (k .wen)) _ _ (λ off. p₈ (not-true (k .wen) off))
       (λ on. cond-either P (not (hasCells kind) && k .srwp && not (k .wp)) _ _ (λ _. p₁₀)
       (λ _. cond-either P (targetProtected S k kind start) _ _ p₉
-      (λ free. p₂ (record { judged-none = unjudged none; begins-job = job; enabled = not-false (k .wen) on; target-free = free }))))))
+      (λ free. p₂ (record { judged-none = unjudged none; begins-job = job; enabled = not-false (k .wen) on; target-free = free })))))
       (λ none-begun. p₁ (record { judged-none = unjudged none; begins-none = none-begun; acts = acts }))))))))
     where
       unjudged : not (eqb (judge k (f .opcode)) 0) ≡ false → judge k (f .opcode) ≡ 0
@@ -89,25 +87,25 @@ module _ (S : ℕ) (k : Core) (f : Frame) (loose : Bool) (known : judgementKnown
 
   pub verdict-two : verdict S k f loose ≡ 2 → Begins S k f
   verdict-two =
-      verdict-each (λ v. v ≡ 2 → Begins S k f) (λ v known e. absurd (not-judged v 2 refl known e)) (λ e. absurd (omega arith)) (λ e. absurd (omega arith)) (λ _ e. absurd (omega arith))
-      (λ _ e. absurd (omega arith)) (λ _ e. absurd (omega arith)) (λ e. absurd (omega arith)) (λ _ e. absurd (omega arith)) (λ begins _. begins)
+      verdict-each (λ v. v ≡ 2 → Begins S k f) (λ v known e. absurd (not-judged v 2 refl known e)) (λ e. absurd (omega arith)) (λ e. absurd (omega arith))
+      (λ _ e. absurd (omega arith)) (λ e. absurd (omega arith)) (λ _ e. absurd (omega arith)) (λ begins _. begins) (λ _ e. absurd (omega arith))
 
   pub verdict-one : verdict S k f loose ≡ 1 → ActsAtOnce k f
   verdict-one =
-      verdict-each (λ v. v ≡ 1 → ActsAtOnce k f) (λ v known e. absurd (not-judged v 1 refl known e)) (λ e. absurd (omega arith)) (λ e. absurd (omega arith)) (λ acts _. acts)
-      (λ _ e. absurd (omega arith)) (λ _ e. absurd (omega arith)) (λ e. absurd (omega arith)) (λ _ e. absurd (omega arith)) (λ _ e. absurd (omega arith))
+      verdict-each (λ v. v ≡ 1 → ActsAtOnce k f) (λ v known e. absurd (not-judged v 1 refl known e)) (λ e. absurd (omega arith)) (λ e. absurd (omega arith))
+      (λ _ e. absurd (omega arith)) (λ e. absurd (omega arith)) (λ _ e. absurd (omega arith)) (λ _ e. absurd (omega arith)) (λ acts _. acts)
 
   -- verdict 8 finds WEN at 0
   pub verdict-eight : verdict S k f loose ≡ 8 → k .wen ≡ false
   verdict-eight =
-      verdict-each (λ v. v ≡ 8 → k .wen ≡ false) (λ v known e. absurd (not-judged v 8 refl known e)) (λ e. absurd (omega arith)) (λ e. absurd (omega arith)) (λ _ e. absurd (omega arith))
-      (λ _ e. absurd (omega arith)) (λ off _. off) (λ e. absurd (omega arith)) (λ _ e. absurd (omega arith)) (λ _ e. absurd (omega arith))
+      verdict-each (λ v. v ≡ 8 → k .wen ≡ false) (λ v known e. absurd (not-judged v 8 refl known e)) (λ e. absurd (omega arith)) (λ e. absurd (omega arith))
+      (λ off _. off) (λ e. absurd (omega arith)) (λ _ e. absurd (omega arith)) (λ _ e. absurd (omega arith)) (λ _ e. absurd (omega arith))
 
   -- verdict 9 finds the target protected
   verdict-nine : verdict S k f loose ≡ 9 → targetProtected S k kind start ≡ true
   verdict-nine =
-      verdict-each (λ v. v ≡ 9 → targetProtected S k kind start ≡ true) (λ v known e. absurd (not-judged v 9 refl known e)) (λ e. absurd (omega arith)) (λ e. absurd (omega arith)) (λ _ e. absurd (omega arith))
-      (λ _ e. absurd (omega arith)) (λ _ e. absurd (omega arith)) (λ e. absurd (omega arith)) (λ kept-off _. kept-off) (λ _ e. absurd (omega arith))
+      verdict-each (λ v. v ≡ 9 → targetProtected S k kind start ≡ true) (λ v known e. absurd (not-judged v 9 refl known e)) (λ e. absurd (omega arith)) (λ e. absurd (omega arith))
+      (λ _ e. absurd (omega arith)) (λ e. absurd (omega arith)) (λ kept-off _. kept-off) (λ _ e. absurd (omega arith)) (λ _ e. absurd (omega arith))
 
   -- so there are protected sectors to tell of
   pub nine-finds : verdict S k f loose ≡ 9 → protectedCount (k .level) S ≡ 0 → ⊥
@@ -127,20 +125,11 @@ module _ (S : ℕ) (k : Core) (f : Frame) (loose : Bool) (known : judgementKnown
       free SectorErase = at (start / sector)
       free ChipErase = ap protectsAny nothing
 
-  -- where suspended means WEN, as it does on a legal state, the list ends at 11
-  pub verdict-most : (k .suspended ≡ true → k .wen ≡ true) → verdict S k f loose ≤ 11
-  verdict-most enabled =
-      verdict-each (λ v. v ≤ 11) judged (omega arith) (omega arith) (λ _. omega arith)
-      (λ lacks. absurd (lacking (k .suspended) (k .wen) enabled (hasCells kind) lacks))
-      (λ _. omega arith) (omega arith) (λ _. omega arith) (λ _. omega arith)
+  -- the list ends at 11
+  pub verdict-most : verdict S k f loose ≤ 11
+  verdict-most =
+      verdict-each (λ v. v ≤ 11) judged (omega arith) (omega arith) (λ _. omega arith) (omega arith) (λ _. omega arith) (λ _. omega arith) (λ _. omega arith)
     where
-      lacking : (s w : Bool) → (s ≡ true → w ≡ true) → (a : Bool) → (a && s && not w) ≡ true → ⊥
-      lacking true true h true e = false≢true e
-      lacking true true h false e = false≢true e
-      lacking true false h a e = false≢true (h refl)
-      lacking false w h true e = false≢true e
-      lacking false w h false e = false≢true e
-
       judged : (v : ℕ) → judgementKnown v ≡ true → v ≤ 11
       judged v = go (ℕ-discrete v 0) (ℕ-discrete v 3) (ℕ-discrete v 5) (ℕ-discrete v 6) (ℕ-discrete v 7)
         where

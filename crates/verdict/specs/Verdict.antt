@@ -62,13 +62,12 @@ abbrev pub pointless : Core → ℕ → Bool
 pointless k opcode =
     eqb opcode suspend && not (suspendable k && not (k .waiting)) || eqb opcode resume && not (k .suspended) || eqb opcode reset && not (k .armed)
 
--- 12 and 8: WEN is missing, in suspension and out of it; 10: the status is locked; 9: the target is protected; 2: the job begins
+-- 8: WEN is missing, which in suspension it never is (`suspended-enabled`); 10: the status is locked; 9: the target is protected; 2: the job begins
 unfoldable pub jobVerdict : ℕ → Core → Job → ℕ
 jobVerdict S k j =
-    cond (hasCells (j .kind) && k .suspended && not (k .wen)) 12
-    (cond (not (k .wen)) 8
+    cond (not (k .wen)) 8
     (cond (not (hasCells (j .kind)) && k .srwp && not (k .wp)) 10
-    (cond (targetProtected S k (j .kind) (j .start)) 9 2)))
+    (cond (targetProtected S k (j .kind) (j .start)) 9 2))
 
 -- 11; a job's verdict; 1 for what is done at once
 unfoldable pub commandVerdict : ℕ → Core → Frame → ℕ

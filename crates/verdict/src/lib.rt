@@ -111,14 +111,11 @@ fn is_pointless(core: Core, opcode: u8) -> bool
 fn job_verdict(sectors: u8, core: Core, job: Job) -> u8
     ensures { λ r. ⌜ r ≡ jobVerdict sectors core job ⌝ }
 {
-    let kind = job.kind;
-    let cells = chip::has_cells(kind);
-    if cells & core.suspended & !core.wen {
-        return 12;
-    }
     if !core.wen {
         return 8;
     }
+    let kind = job.kind;
+    let cells = chip::has_cells(kind);
     if !cells & core.srwp & !core.wp {
         return 10;
     }
