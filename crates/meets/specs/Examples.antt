@@ -327,6 +327,24 @@ suspend-takes-a-tick m = (
   then-core statusByte (TICKS ∷ 0 ∷ 15 ∷ (frame (0xB0 ∷ []) ++ (TICK ∷ []))) _ refl (λ load held m written ticks. refl) m,
 )
 
+-- ---- in suspension WEN is 1 (RULES, Verdicts)
+
+-- a begun program that is suspended, and then a frame of these bytes
+abbrev inSuspension : List ℕ → List ℕ
+inSuspension bs = frame (0xB0 ∷ []) ++ (TICK ∷ frame bs)
+
+-- A write disable leaves it suspended with WEN 1. An erase begins there; so does a program, and both run in its place.
+pub wen-stays-on : (m : List ℕ)
+    → (statusAfter (programs ++ inSuspension (0x04 ∷ [])) m ≡ 0x42)
+    × (statusAfter (programs ++ inSuspension (0x20 ∷ 0 ∷ 0 ∷ 0 ∷ [])) m ≡ 0x03)
+    × (statusAfter (programs ++ inSuspension (0x02 ∷ 0 ∷ 0 ∷ 0 ∷ 0x5A ∷ [])) m ≡ 0x03)
+unfolding runs timed eventsFrom walk faultAt knownKind knownInScript kindRow kindRowIn applied exchanged taken judge fresh rowOf rowIn isProgram verdict recordOf listed isRead commandVerdict jobVerdict jobOf fitsRule settled acted heldAfter instantly protectedSectors protectedCount statusByte ticksCore tickCore
+wen-stays-on m = (
+  then-core statusByte (inSuspension (0x04 ∷ [])) _ refl (λ load held m written ticks. refl) m,
+  then-core statusByte (inSuspension (0x20 ∷ 0 ∷ 0 ∷ 0 ∷ [])) _ refl (λ load held m written ticks. refl) m,
+  then-core statusByte (inSuspension (0x02 ∷ 0 ∷ 0 ∷ 0 ∷ 0x5A ∷ [])) _ refl (λ load held m written ticks. refl) m,
+)
+
 -- ---- stamps as ticks (RULES, Stamps)
 
 -- Two stamps 16 apart see a program through, with the roll-over between them; after 15 of the ticks it still runs.

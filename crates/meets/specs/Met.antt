@@ -13,20 +13,23 @@ use Rattle.chip.specs.declared.Core.{Core}
 use Rattle.chip.specs.declared.Frame.{Frame}
 use Rattle.chip.specs.declared.JobKind.{JobKind}
 use Rattle.chip.specs.declared.JobKind.the-variants.{WriteStatus, Program, SmallErase, SectorErase, ChipErase}
-use Rattle.chip.specs.Fields.{withWen, withSuspended, withWaiting, withDeep, withArmed, withJob, withSelected, withOpcode, withPlace, withCount}
+use Rattle.chip.specs.Fields.{withWen, withSuspended, withWaiting, withLevel, withDeep, withArmed, withJob, withSelected, withOpcode, withPlace, withCount}
 use Rattle.chip.specs.Chip.{whole, emptyFrame, blankLoad, resting, fresh}
 use Rattle.legal.specs.Legal.{legalJob, legalCore, legalFrame, isEmpty, isBlank, legal}
 use Rattle.kinds.specs.Kinds.{SELECT, EXCHANGE, DESELECT, TICK, TICKS, WP, POWER, STAMP, knownInScript, kindRowIn, knownKind, kindRow}
 use Rattle.clock.specs.Clock.{unset, movedOn, wentBack}
+use Rattle.job.specs.Tick.{tickCore, ticksCore, tickLoad, ticksLoad, tickMemory, ticksMemory, worked}
 use Rattle.frame.specs.Frame.{judge, taken, exchanged}
-use Rattle.verdict.specs.Verdict.{jobOf, commandVerdict, listed, verdict, recordOf}
+use Rattle.verdict.specs.Verdict.{jobOf, jobVerdict, commandVerdict, listed, verdict, recordOf}
 use Rattle.verdict.specs.Effect.{instantly, acted, settled, heldAfter}
 use Rattle.event.specs.Event.{applied}
-use Rattle.event.specs.Alone.{refusal}
+use Rattle.event.specs.Alone.{bodyUsed, refusal, happens, answerOf, memoryOf, saidOf}
 use Rattle.script.specs.Run.{world, runs}
 use Rattle.script.specs.Run as Run
 use Rattle.script.specs.Laws.{NoStamp}
 use Rattle.script.specs.Script.{Event, faultAt, eventAt, walk, eventsFrom, events, timed, played, refusalOf, firstBad, room}
+use Rattle.demands.specs.Model.{ours, event, sends, AllGood, runsBy}
+use Rattle.demands.specs.Suspension.{Reached}
 use Rattle.demands.specs.Demand2.{Rows, stopOf, verdictOf, Quiet, Ready, FreeAt}
 
 -- a frame of that opcode with so many bytes, selected and not judged
@@ -251,17 +254,26 @@ Begun =
     ∷ Gives 2 with-wen 0xC7 1
     ∷ [])
 
--- a suspended job can be reset, and while a program is suspended an erase can begin (RULES, Verdicts)
+-- a suspended job can be reset; in suspension programs and erases begin, or are told 9 where all is protected, and a write disable is turned away (RULES, Verdicts)
 abbrev Suspended : Type 0
-Suspended = Rows (Gives 1 (armed (held-up Program)) 0x99 1 ∷ Gives 2 (held-up Program) 0x20 4 ∷ [])
+Suspended =
+    Rows
+    (Gives 1 (armed (held-up Program)) 0x99 1
+    ∷ Gives 2 (held-up Program) 0x20 4
+    ∷ Gives 2 (held-up SmallErase) 0x02 5
+    ∷ Gives 2 (held-up SectorErase) 0x60 1
+    ∷ Gives 9 (withLevel 7 (held-up ChipErase)) 0xD8 4
+    ∷ Gives 7 (held-up Program) 0x04 1
+    ∷ [])
 
--- in the wait a second suspend finds nothing, a resume and a read of cells are turned away, and a reset is done; a suspend whose frame the tick came into finds the
--- job suspended, or over (RULES, Verdicts)
+-- in the wait a second suspend finds nothing, a resume, a write disable and a read of cells are turned away, and a reset is done; a suspend whose frame the tick came into
+-- finds the job suspended, or over (RULES, Verdicts)
 abbrev Waiting : Type 0
 Waiting =
     Rows
     (Gives 11 (waiting SmallErase) 0xB0 1
     ∷ Gives 6 (waiting SmallErase) 0x30 1
+    ∷ Gives 6 (waiting SmallErase) 0x04 1
     ∷ Gives 6 (waiting SmallErase) 0x03 5
     ∷ Gives 1 (armed (waiting Program)) 0x99 1
     ∷ Gives 7 (held-up SmallErase) 0xB0 1
@@ -273,22 +285,58 @@ unfolding rowOf rowIn fitsRule protectedSectors protectedCount legal legalCore l
 verdicts-met = (
   ((refl, refl), ((refl, refl), ((refl, refl), ((refl, refl), ((refl, refl), ((refl, refl), ((refl, refl), ((refl, refl), tt)))))))),
   ((refl, refl), ((refl, refl), ((refl, refl), ((refl, refl), ((refl, refl), ((refl, refl), ((refl, refl), ((refl, refl), tt)))))))),
-  ((refl, refl), ((refl, refl), tt)),
   ((refl, refl), ((refl, refl), ((refl, refl), ((refl, refl), ((refl, refl), ((refl, refl), tt)))))),
+  ((refl, refl), ((refl, refl), ((refl, refl), ((refl, refl), ((refl, refl), ((refl, refl), ((refl, refl), tt))))))),
 )
 
--- which states may wait: those with a program or an erase that runs, and no other (RULES, Legal states)
-abbrev MayWait : Core → Bool → Type 0
-MayWait k may = legal (whole k emptyFrame blankLoad blankLoad) 65536 ≡ may
+-- whether this core may stand, with no frame open (RULES, Legal states)
+abbrev Stands : Core → Bool → Type 0
+Stands k may = legal (whole k emptyFrame blankLoad blankLoad) 65536 ≡ may
 
+-- which states may wait: those with a program or an erase that runs, and no other
 pub waits-met : Rows
-    (MayWait (waiting Program) true
-    ∷ MayWait (waiting SmallErase) true
-    ∷ MayWait (waiting SectorErase) true
-    ∷ MayWait (waiting ChipErase) true
-    ∷ MayWait (waiting (WriteStatus 0)) false
-    ∷ MayWait (withSuspended true (waiting Program)) false
-    ∷ MayWait (withWaiting true with-wen) false
+    (Stands (waiting Program) true
+    ∷ Stands (waiting SmallErase) true
+    ∷ Stands (waiting SectorErase) true
+    ∷ Stands (waiting ChipErase) true
+    ∷ Stands (waiting (WriteStatus 0)) false
+    ∷ Stands (withSuspended true (waiting Program)) false
+    ∷ Stands (withWaiting true with-wen) false
     ∷ [])
 unfolding legal legalCore legalJob legalFrame isEmpty isBlank permitted
 waits-met = (refl, (refl, (refl, (refl, (refl, (refl, (refl, tt)))))))
+
+-- ---- WEN in suspension
+
+-- no suspended state may stand without WEN
+pub lacking-met : Rows
+    (Stands (withWen false (held-up Program)) false
+    ∷ Stands (withWen false (held-up SmallErase)) false
+    ∷ Stands (withWen false (held-up SectorErase)) false
+    ∷ Stands (withWen false (held-up ChipErase)) false
+    ∷ [])
+unfolding legal legalCore legalJob legalFrame isEmpty isBlank permitted
+lacking-met = (refl, (refl, (refl, (refl, tt))))
+
+-- `Reached`, which `keeps-wen` is about: a small sector erase is suspended in the tick after B0h, on a fresh chip that has seen 06h, 20h and B0h
+abbrev a-frame : List ℕ → List Event
+a-frame bs = event 0x01 0 ∷ (sends bs ++ (event 0x03 0 ∷ []))
+
+abbrev suspending : List Event
+suspending = a-frame (0x06 ∷ []) ++ (a-frame (0x20 ∷ 0 ∷ 0 ∷ 0 ∷ []) ++ (a-frame (0xB0 ∷ []) ++ (event 0x04 0 ∷ [])))
+
+abbrev zeros : List ℕ
+zeros = replicate 65536 0
+
+pub reached-met : Reached ours [] (runsBy ours [] suspending (world (fresh 0x00) zeros [] 0))
+unfolding answerOf memoryOf saidOf happens refusal bodyUsed runsBy AllGood legal legalCore legalJob legalFrame isEmpty isBlank permitted fresh knownKind kindRow kindRowIn applied exchanged taken judge rowOf rowIn isProgram verdict recordOf listed isRead commandVerdict jobVerdict jobOf fitsRule settled acted heldAfter instantly protectedSectors protectedCount ticksCore tickCore tickLoad ticksLoad tickMemory ticksMemory worked
+reached-met =
+    record {
+      chip = fresh 0x00;
+      memory = zeros;
+      events = suspending;
+      fit = record { state-legal = refl; area-short = omega arith };
+      good = ((refl, refl), ((refl, refl), ((refl, refl), ((refl, refl), ((refl, refl), ((refl, refl), ((refl, refl), ((refl, refl), ((refl, refl), ((refl, refl), ((refl, refl), ((refl, refl), ((refl, refl), tt)))))))))))));
+      leads = refl;
+      suspended = refl;
+    }
