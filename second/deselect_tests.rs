@@ -2,8 +2,8 @@
 
 use super::model::{body_length, event, run, verdict};
 use super::model::{Chip, EventAnswer, JobKind, Record, RunAnswer};
-use super::{bytes_of, program, random_chip, refused, room_of, run_in_room, used_bench};
-use super::{verdict_of, Bench, Dice, OPCODES, SAMPLE};
+use super::{alone, bytes_of, program, random_chip, refused, room_of, run_in_room};
+use super::{used_bench, verdict_of, Bench, Dice, OPCODES, SAMPLE};
 
 /// Every body that a deselect may have.
 const BODIES: std::ops::RangeInclusive<u64> = 0..=7;
@@ -125,17 +125,6 @@ fn opens() -> Vec<Open> {
 fn benches() -> Vec<Bench> {
     let closed = unselected().into_iter().map(|(bench, _)| bench);
     closed.chain(opens().into_iter().map(|open| open.bench)).collect()
-}
-
-/// Applies one event alone and checks that a refusal yields nothing and changes nothing.
-fn alone(bench: &mut Bench, kind: u64, body: u64) -> EventAnswer {
-    let before = bench.clone();
-    let answer = event(&mut bench.chip, &mut bench.memory, &bench.area, kind, body);
-    if answer.refusal != 0 {
-        assert_eq!((answer.record, answer.ticks), (Record::None, 0));
-        assert!(bench.chip == before.chip && bench.memory == before.memory);
-    }
-    answer
 }
 
 /// The state that a frame without effect leaves: unselected, and disarmed if a whole byte went in.
@@ -610,7 +599,7 @@ const FITTING: [(u8, u8); 8] =
 
 #[test]
 fn loose_bits_change_the_verdict_only_past_the_reads() {
-    let mut seen = [0; 13];
+    let mut seen = [0; 12];
     let mut check = |chip: &Chip, memory: &mut [u8]| {
         let clean = verdict(chip, memory.len(), false);
         let loose = if matches!(clean, 0 | 3 | 5 | 6 | 7) { clean } else { 4 };
@@ -635,8 +624,7 @@ fn loose_bits_change_the_verdict_only_past_the_reads() {
             check(&with_frame(&chip, opcode, byte_count), memory);
         }
     });
-    // Verdict 12 is not among them: no legal state gives it.
-    assert!(seen[..12].iter().all(|times| *times > 100), "{seen:?}");
+    assert!(seen.iter().all(|times| *times > 100), "{seen:?}");
 }
 
 #[test]

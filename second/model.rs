@@ -557,12 +557,12 @@ fn length_fits(frame: &Frame) -> bool {
     }
 }
 
-/// The verdict on a frame of the right length that would begin a job.
+/// The verdict on a frame of the right length that would begin a job. A suspended job keeps WEN at
+/// 1, so verdict 8 is for an idle chip alone; number 12, once the verdict for WEN 0 in suspension,
+/// is unused.
 fn judge_job(chip: &Chip, job: &Job, memory_length: usize) -> u8 {
     let write_status = matches!(job.kind, JobKind::WriteStatus(_));
-    if !chip.wen && chip.suspended && !write_status {
-        12
-    } else if !chip.wen {
+    if !chip.wen {
         8
     } else if write_status && chip.srwp && !chip.wp_high {
         10

@@ -19,13 +19,16 @@ mod stamp_tests;
 #[path = "wait_tests.rs"]
 mod wait_tests;
 
+#[path = "wen_tests.rs"]
+mod wen_tests;
+
 #[path = "writer.rs"]
 mod writer;
 
 #[path = "writer_tests.rs"]
 mod writer_tests;
 
-use model::{event, run, Chip, Frame, Job, JobKind, Record, RunAnswer};
+use model::{event, run, Chip, EventAnswer, Frame, Job, JobKind, Record, RunAnswer};
 use sfdp::{find, table, Found, CONTENT};
 
 /// The numbers of sectors that a part may have.
@@ -136,11 +139,12 @@ impl Bench {
     }
 }
 
-/// The verdict of a deselect's record, verdict 9 being the one that has a case of its own.
+/// The verdict of a deselect's record: 0 to 11, of which 9 has a case of its own. Number 12 is
+/// unused, and a record that has it is a failure like any other that no deselect gives.
 fn verdict_of(record: Record) -> u8 {
     match record {
         Record::Protected { .. } => 9,
-        Record::Verdict(verdict) if verdict != 9 => verdict,
+        Record::Verdict(verdict @ (0..=8 | 10 | 11)) => verdict,
         other => panic!("{other:?}"),
     }
 }
@@ -394,6 +398,17 @@ fn refused(bench: &mut Bench, script: &[u8], output_length: usize) -> (u8, usize
     assert!(bench.chip == before.chip && bench.memory == before.memory);
     assert!(output.iter().all(|byte| *byte == 0xEE));
     (answer.refusal, answer.offset)
+}
+
+/// Applies one event alone and checks that a refusal yields nothing and changes nothing.
+fn alone(bench: &mut Bench, kind: u64, body: u64) -> EventAnswer {
+    let before = bench.clone();
+    let answer = event(&mut bench.chip, &mut bench.memory, &bench.area, kind, body);
+    if answer.refusal != 0 {
+        assert_eq!((answer.record, answer.ticks), (Record::None, 0));
+        assert!(bench.chip == before.chip && bench.memory == before.memory);
+    }
+    answer
 }
 
 #[test]
@@ -843,20 +858,6 @@ fn verdict_11_nothing_to_act_on() {
     bench.send(&[0xB0]);
     bench.ticks(1);
     assert_eq!(bench.end(), 11);
-}
-
-#[test]
-fn verdict_12_only_outside_the_legal_states() {
-    let mut bench = Bench::new(1, 0);
-    bench.frame(&[0x06]);
-    bench.frame(&[0x60]);
-    bench.suspend();
-    bench.send(&[0x20, 0, 0, 0]);
-    let length = bench.memory.len();
-    assert_eq!(model::verdict(&bench.chip, length, false), 2);
-    bench.chip.wen = false;
-    assert_eq!(model::verdict(&bench.chip, length, false), 12);
-    assert_eq!(event(&mut bench.chip, &mut bench.memory, &bench.area, 3, 0).refusal, 2);
 }
 
 #[test]
