@@ -12,11 +12,12 @@ use Rattle.part.specs.Part.{permitted, sector, sectorsIn, Setting, settingOf}
 use Rattle.kinds.specs.Kinds.{yields}
 use Rattle.kinds.specs.Body.{nextAt}
 use Rattle.chip.specs.declared.Chip.{Chip}
+use Rattle.chip.specs.declared.Core.{Core}
 use Rattle.chip.specs.declared.Record.{Record}
 use Rattle.chip.specs.declared.Record.the-variants.{Nothing, Floating, Driven, Verdict, InTheWay}
 use Rattle.chip.specs.Chip.{fresh}
 use Rattle.legal.specs.Legal.{legal, legalJob, legalCore, legalFrame, isEmpty, isBlank}
-use Rattle.event.specs.Said.{Small, said-small}
+use Rattle.event.specs.Said.{Told, said-told}
 use Rattle.event.specs.Legality.{legal-applied}
 use Rattle.event.specs.Keeps.{length-applied}
 use Rattle.script.specs.declared.Ran.{Ran}
@@ -30,19 +31,19 @@ use Rattle.listing.specs.Report.{longestScript, outputRoom, textRoom, li
 
 -- ---- a record's line
 
--- the word of a record as a legal state says it is at most `V9 31 31`
-word-most : (said : Record) → Small said → length (wordOf said) ≤ 8
-word-most Nothing small = omega arith
-word-most Floating small = omega arith
-word-most (Driven b) small = omega arith
-word-most (Verdict v) small = omega (arith, spelled-below 20 2 v (omega arith) (omega arith))
-word-most (InTheWay first last) (f, l) =
+-- the word of a record that a legal state says is at most `V9 31 31`
+word-most : (k : Core) (said : Record) → Told k said → length (wordOf said) ≤ 8
+word-most k Nothing told = omega arith
+word-most k Floating told = omega arith
+word-most k (Driven b) told = omega arith
+word-most k (Verdict v) (most, lacks) = omega (arith, spelled-below 20 2 v (omega arith) (omega arith))
+word-most k (InTheWay first last) (f, l) =
     simp length-append (omega (arith, spelled-below 20 2 first (omega arith) (omega arith), spelled-below 20 2 last (omega arith) (omega arith)))
 
 -- and its line, where it is in the longest script, at most the longest line
-line-most : (offset : ℕ) (said : Record) → offset < longestScript → Small said → length (lineOf offset said) ≤ longestLine
+line-most : (offset : ℕ) (k : Core) (said : Record) → offset < longestScript → Told k said → length (lineOf offset said) ≤ longestLine
 unfolding lineOf
-line-most offset said early small = simp length-append (omega (arith, spelled-below 20 4 offset (omega arith) (omega arith), word-most said small))
+line-most offset k said early told = simp length-append (omega (arith, spelled-below 20 4 offset (omega arith) (omega arith), word-most k said told))
 
 -- ---- the lines of a run
 
@@ -58,7 +59,7 @@ event-most T e es w most early same l rest =
     let line : List ℕ = cond (yields (e .kind)) (lineOf (e .offset) (does T e w .said)) [] in
     let short-line : length line ≤ longestLine =
     cond-either (λ (t : List ℕ). length t ≤ longestLine) (yields (e .kind)) _ _
-    (λ _. line-most (e .offset) (does T e w .said) early (said-small T (w .chip) (w .memory) same l (e .kind) (e .body))) (λ _. omega arith) in
+    (λ _. line-most (e .offset) (w .chip .core) (does T e w .said) early (said-told T (w .chip) (w .memory) same l (e .kind) (e .body))) (λ _. omega arith) in
     omega (arith, length-append line (linesOf T es (onward T e w)), short-line, later)
 
 -- what a run applies for an event is no event, or one at its offset
