@@ -14,6 +14,8 @@ mod clock;
 #[allow(dead_code)]
 #[path = "../compare/commands.rs"]
 mod commands;
+#[path = "../compare/enable.rs"]
+mod enable;
 #[path = "../compare/event.rs"]
 mod event;
 #[allow(dead_code)]

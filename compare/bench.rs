@@ -2,6 +2,7 @@
 
 use crate::case::{room, Case, Content, Start, Step, Use, LENGTHS};
 use crate::clock::seen_events;
+use crate::enable::{self, Moment};
 use crate::event::{events_of, room_needed, Event};
 use crate::expected::Expected;
 use crate::image::{edited_image, image_difference, Image};
@@ -32,6 +33,8 @@ pub struct Bench<'a> {
     output: Vec<u8>,
     /// The records that are due for the last step, where verdict 9 is reckoned here.
     due: Vec<u8>,
+    /// The moments of those records.
+    moments: Vec<Moment>,
     /// The report that the case carries from script to script.
     pub report: Report,
     /// The jobs that the last run began and ended, as they are reckoned here.
@@ -135,13 +138,14 @@ impl<'a> Bench<'a> {
         let (memory, output, due) = (vec![0; MEMORY_AREA], vec![0; OUTPUT_AREA], Vec::new());
         let (sfdp, area_length) = (vec![0; SFDP_AREA], 0);
         let (scratch, differs) = (vec![0; MEMORY_AREA], true);
-        let (report, jobs) = (margins::EMPTY, Vec::new());
+        let (report, jobs, moments) = (margins::EMPTY, Vec::new(), Vec::new());
         Bench {
             expected,
             length,
             memory,
             output,
             due,
+            moments,
             report,
             jobs,
             sfdp,
@@ -206,10 +210,14 @@ impl<'a> Bench<'a> {
         self.compare_legal()
     }
 
-    /// Compares what the two sides say about the legality of their chips.
+    /// Compares what the two sides say about the legality of their chips; neither may take a job
+    /// with WEN 0 as legal.
     pub fn compare_legal(&mut self) -> Result<(), String> {
         let (wanted, found) =
             (self.expected.chip.legal(self.length), self.other.legal(self.length)?);
+        let (model, other) = (self.expected.image(), self.other.image());
+        as_error(enable::legal_difference("the model's ", wanted, &model))?;
+        as_error(enable::legal_difference("", found, &other))?;
         if wanted != found {
             return Err(format!("legal: {found} in place of {wanted}"));
         }
@@ -255,7 +263,9 @@ impl<'a> Bench<'a> {
         let (before, loan) = (self.other.image(), self.loan(length));
         let wanted = self.model_event(length, event);
         let found = self.other.event(loan, event, lent)?;
-        self.compare_sectors(wanted.record.written(), found.record.written())?;
+        let (model, other) = (wanted.record.written(), found.record.written());
+        self.find_what_cannot_be((wanted.refusal, model), (found.refusal, other))?;
+        self.compare_sectors(model, other)?;
         self.compare_step(&before, length, 0, wanted, found)
     }
 
@@ -311,8 +321,22 @@ impl<'a> Bench<'a> {
         as_error(room_difference("the model's answer", &wanted, script, room))?;
         as_error(room_difference("answer", &found, script, room))?;
         let output = self.other.output()[..end.min(found.written as usize)].to_vec();
-        self.compare_sectors(self.written(&wanted), &output)?;
+        let model = self.written(&wanted);
+        self.find_what_cannot_be((wanted.refusal, model), (found.refusal, &output))?;
+        self.compare_sectors(model, &output)?;
         self.compare_step(before, loan.memory, end, wanted, found)
+    }
+
+    /// Finds what cannot be in the records of each side, and in its chip if it did not refuse, so
+    /// that what both agree on is found too.
+    pub fn find_what_cannot_be(
+        &self,
+        (wanted, model): (u8, &[u8]),
+        (found, other): (u8, &[u8]),
+    ) -> Result<(), String> {
+        let (moments, chip) = (&self.moments, self.expected.image());
+        as_error(enable::difference("the model's ", wanted, model, moments, &chip))?;
+        as_error(enable::difference("", found, other, moments, &self.other.image()))
     }
 
     /// Holds the records of both sides to those that are due, as far as they tell verdict 9.
@@ -432,7 +456,9 @@ impl<'a> Bench<'a> {
         let area = &self.sfdp[GUARD..GUARD + self.area_length];
         let memory = &mut self.memory[..length];
         self.due.clear();
-        let (_, answer) = self.expected.event_with_due(memory, area, event, &mut self.due);
+        self.moments.clear();
+        let (before, answer) = self.expected.event_with_due(memory, area, event, &mut self.due);
+        self.moments.extend(Moment::of(&before, answer.record));
         Answer::to_event(answer.refusal, record_bytes(answer.record), answer.ticks)
     }
 
@@ -471,12 +497,14 @@ impl<'a> Bench<'a> {
     fn follow(&mut self, length: usize, script: &[u8], chip: &Chip, answer: RunAnswer) -> Answer {
         let area = &self.sfdp[GUARD..GUARD + self.area_length];
         self.due.clear();
+        self.moments.clear();
         self.jobs.clear();
         if answer.refusal == 0 {
             let (memory, mut watch) = (&mut self.scratch[..length], Watch::default());
             for event in seen_events(&events_of(script).0) {
                 let (before, done) =
                     self.expected.event_with_due(memory, area, event, &mut self.due);
+                self.moments.extend(Moment::of(&before, done.record));
                 self.jobs.extend(watch.follow(&before, event, done.record, length));
             }
             assert!(self.expected.chip == *chip, "the model's run is not its events one by one");

@@ -1,5 +1,8 @@
 // The opcodes, each with the verdicts that a frame of it can get.
 
+/// The verdicts that there are. 12 was one in earlier versions; the number stays unused.
+pub const VERDICTS: [u8; 12] = [0, 1, 2, 3, 4, 5, 6, 7, 8, 9, 10, 11];
+
 /// A row of the table of verdicts: an opcode, or none for the rows after the opcodes.
 pub struct Command {
     pub opcode: Option<u8>,

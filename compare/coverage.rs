@@ -5,8 +5,9 @@ use crate::areas::LONGEST_TAKEN;
 use crate::case::{room, Case, Start, Step, LENGTHS};
 use crate::class::Class;
 use crate::clock::{seen_events, Clock};
-use crate::commands::{COMMANDS, EMPTY, UNKNOWN, UNSELECTED};
+use crate::commands::{COMMANDS, EMPTY, UNKNOWN, UNSELECTED, VERDICTS};
 use crate::deselect_coverage::DeselectCoverage;
+use crate::enable_coverage::EnableCoverage;
 use crate::event::{events_of, kind, Event, LONGEST};
 use crate::expected::{Expected, NOTHING};
 use crate::image::{Edit, FLAGS};
@@ -23,7 +24,7 @@ use crate::tally::{print_cells, print_head, print_line, Tally};
 use crate::wait_coverage::WaitCoverage;
 
 /// Why a verdict cannot occur in the rows that do not list it.
-const REASONS: [&str; 13] = [
+const REASONS: [&str; VERDICTS.len()] = [
     "of the opcodes only the five reads end so; ABh is none of them",
     "a read is 0 before, and what begins a job is 2",
     "only programs, erases and write status begin a job",
@@ -36,7 +37,6 @@ const REASONS: [&str; 13] = [
     "only programs and erases have a target",
     "only write status looks at SRWP and WP",
     "only suspend, resume and reset can be without a point",
-    "a suspended job means WEN 1 in every legal state",
 ];
 
 /// The refusals, columns of their table.
@@ -114,10 +114,11 @@ const SITUATIONS: [&str; 32] = [
 
 /// All that has occurred.
 pub struct Coverage {
-    verdicts: [[u64; 13]; COMMANDS.len()],
+    verdicts: [[u64; VERDICTS.len()]; COMMANDS.len()],
     refusals: [[u64; REFUSALS.len()]; ENTRIES.len()],
     fates: JobTable,
     waits: WaitCoverage,
+    enable: EnableCoverage,
     situations: Tally,
     areas: AreaCoverage,
     deselects: DeselectCoverage,
@@ -142,10 +143,11 @@ impl Coverage {
     /// Nothing yet.
     pub fn new() -> Coverage {
         Coverage {
-            verdicts: [[0; 13]; COMMANDS.len()],
+            verdicts: [[0; VERDICTS.len()]; COMMANDS.len()],
             refusals: [[0; REFUSALS.len()]; ENTRIES.len()],
             fates: JobTable::new(&FATES),
             waits: WaitCoverage::new(),
+            enable: EnableCoverage::new(),
             situations: Tally::new(&SITUATIONS),
             areas: AreaCoverage::new(),
             deselects: DeselectCoverage::new(),
@@ -274,6 +276,9 @@ impl Coverage {
         if let (Some(flag), 2) = (self.bad_flag, refusal) {
             self.flags[flag][entry] += 1;
         }
+        if refusal == 2 {
+            self.note_without_wen(&before.chip, step, entry, length);
+        }
         if self.frame_lent && self.frame_bytes == 0 {
             self.areas.note_lent_frame(&before.chip, refusal, length);
         }
@@ -292,6 +297,22 @@ impl Coverage {
             };
             self.reports.note_refused(allowances, refusal, otherwise);
         }
+    }
+
+    /// Takes note of a step that is refused by 2, if its chip is suspended and WEN 0 alone is wrong
+    /// with it.
+    fn note_without_wen(&mut self, chip: &Chip, step: &Step, entry: usize, length: usize) {
+        let enabled = Chip { wen: true, ..chip.clone() };
+        if chip.wen || !chip.suspended || !enabled.legal(length) {
+            return;
+        }
+        let first = match step {
+            Step::Event { event, .. } => Some(*event),
+            Step::Run { script, .. } => events_of(script).0.first().copied(),
+            _ => None,
+        };
+        let begins = self.clean_verdict(&enabled, length) == Some(2);
+        self.enable.note_refused(chip, first, entry, begins);
     }
 
     /// The number that an event or a plain run would be refused by with an area, 0 for none.
@@ -382,6 +403,7 @@ impl Coverage {
         self.note_leftovers(&before, event, answer.record, after);
         let (before, after) = (&before.chip, &after.chip);
         self.note_job(before, event, answer.record, after, length);
+        self.enable.note_event(before, event, answer.record, after, self.frame_lent);
         self.reports.follow(source, before, event, answer.record, length);
         if source != kind::STAMP {
             self.stamps.note_other(event, answer.record == Record::Verdict(2));
@@ -577,13 +599,14 @@ impl Coverage {
         faults += self.programmings.report();
         faults += self.report_fates();
         faults += self.waits.report();
+        faults += self.enable.report();
         faults + self.report_situations()
     }
 
     /// Prints opcodes by verdicts.
     fn report_verdicts(&self) -> usize {
         println!("frames by verdict (- cannot occur)");
-        print_head(&[0, 1, 2, 3, 4, 5, 6, 7, 8, 9, 10, 11, 12]);
+        print_head(&VERDICTS);
         let mut faults = 0;
         for (command, counts) in COMMANDS.iter().zip(&self.verdicts) {
             let opcode = command.opcode.map_or("  ".to_string(), |opcode| format!("{opcode:02X}"));

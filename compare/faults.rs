@@ -4,6 +4,7 @@ use crate::areas::LONGEST_TAKEN;
 use crate::bench::ROOM_DIFFERENCE;
 use crate::case::LENGTHS;
 use crate::clock::seen_events;
+use crate::enable;
 use crate::event::{events_of, kind, room_needed, Event, LONGEST};
 use crate::expected::Expected;
 use crate::image::{flags_of, with_flags, Image};
@@ -18,8 +19,8 @@ use crate::side::{
 use crate::writer::{self, Written};
 use crate::wrong_report::{self, Happened, Watch};
 use crate::{
-    text, wrong_deselect, wrong_reader, wrong_room, wrong_sectors, wrong_stamp, wrong_wait,
-    wrong_writer,
+    text, wrong_deselect, wrong_enable, wrong_reader, wrong_room, wrong_sectors, wrong_stamp,
+    wrong_wait, wrong_writer,
 };
 
 /// The faults that have no file of their own, in words; the first five are errors that look right.
@@ -56,10 +57,12 @@ const FAULTS: [&str; 30] = [
     "the part's own area has zeros for its third header",
 ];
 
-/// The number of the first fault of the wait, of deselects, of verdict 9's records, of the room, of
-/// the reader, of stamps, of reports, and of the script writer, and the number of the text form's.
+/// The number of the first fault of the wait, of WEN beside a job, of deselects, of verdict 9's
+/// records, of the room, of the reader, of stamps, of reports, and of the script writer, and the
+/// number of the text form's.
 const WAIT: usize = FAULTS.len();
-const DESELECTS: usize = WAIT + wrong_wait::FAULTS.len();
+const ENABLE: usize = WAIT + wrong_wait::FAULTS.len();
+const DESELECTS: usize = ENABLE + wrong_enable::FAULTS.len();
 const SECTORS: usize = DESELECTS + wrong_deselect::FAULTS.len();
 const ROOM: usize = SECTORS + wrong_sectors::FAULTS.len();
 const READER: usize = ROOM + wrong_room::FAULTS.len();
@@ -72,6 +75,7 @@ const TEXT: usize = WRITER + wrong_writer::TEXT;
 pub fn all_faults() -> impl Iterator<Item = &'static str> {
     let files = [
         &wrong_wait::FAULTS[..],
+        &wrong_enable::FAULTS,
         &wrong_deselect::FAULTS,
         &wrong_sectors::FAULTS,
         &wrong_room::FAULTS,
@@ -87,6 +91,7 @@ pub fn all_faults() -> impl Iterator<Item = &'static str> {
 /// it, a difference from the model alone is not enough.
 pub fn words_begin(fault: usize) -> &'static str {
     match fault {
+        ENABLE..DESELECTS if wrong_enable::is_reckoned(fault - ENABLE) => enable::DIFFERENCE,
         SECTORS..ROOM if wrong_sectors::is_reckoned(fault - SECTORS) => protection::DIFFERENCE,
         ROOM..READER if wrong_room::is_reckoned(fault - ROOM) => ROOM_DIFFERENCE,
         REPORTS..WRITER if wrong_report::is_reckoned(fault - REPORTS) => margins::DIFFERENCE,
@@ -188,8 +193,12 @@ impl WrongCopy {
         }
         let (memory, area) = (&mut self.memory[..loan.memory], &self.sfdp[GUARD..][..area_length]);
         let EventAnswer { refusal, mut record, ticks } = match self.fault {
-            Some(fault @ WAIT..DESELECTS) => {
+            Some(fault @ WAIT..ENABLE) => {
                 wrong_wait::event(fault - WAIT, &mut self.expected, memory, area, (kind, body))
+            }
+            Some(fault @ ENABLE..DESELECTS) => {
+                let (in_run, expected) = (self.run_began.is_some(), &mut self.expected);
+                wrong_enable::event(fault - ENABLE, in_run, expected, memory, area, (kind, body))
             }
             Some(fault @ DESELECTS..SECTORS) => {
                 let (fault, expected) = (fault - DESELECTS, &mut self.expected);
@@ -439,8 +448,14 @@ impl Side for WrongCopy {
         if self.has(15) && image.flags.contains(&2) {
             self.expected.chip = lenient_chip(chip, image);
         }
-        if let Some(fault @ WAIT..DESELECTS) = self.fault {
-            wrong_wait::overlook(fault - WAIT, &mut self.expected.chip);
+        match self.fault {
+            Some(fault @ WAIT..ENABLE) => {
+                wrong_wait::overlook(fault - WAIT, &mut self.expected.chip);
+            }
+            Some(fault @ ENABLE..DESELECTS) => {
+                wrong_enable::overlook(fault - ENABLE, &mut self.expected.chip);
+            }
+            _ => {}
         }
         self.image = *image;
         Ok(())

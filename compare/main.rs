@@ -19,6 +19,8 @@ mod clock;
 mod commands;
 mod coverage;
 mod deselect_coverage;
+mod enable;
+mod enable_coverage;
 mod event;
 mod expected;
 mod faults;
@@ -31,6 +33,7 @@ mod margins;
 mod plan;
 mod plan_areas;
 mod plan_deselects;
+mod plan_enable;
 mod plan_programming;
 mod plan_protection;
 mod plan_reports;
@@ -57,6 +60,7 @@ mod wait_coverage;
 mod wait_scenes;
 mod words;
 mod wrong_deselect;
+mod wrong_enable;
 mod wrong_reader;
 mod wrong_report;
 mod wrong_room;
@@ -66,7 +70,7 @@ mod wrong_wait;
 mod wrong_writer;
 
 use bench::Bench;
-use case::{Case, Content, Start};
+use case::{Case, Content, Start, LENGTHS};
 use event::kind; // text.rs looks for it here
 use image::Edit;
 use model::Chip;
@@ -123,21 +127,33 @@ fn is_found(difference: Option<String>, begin: &str) -> bool {
     found
 }
 
+/// A case without steps that lends a chip.
+fn case_of(chip: Chip, length: usize) -> Case {
+    let start = Start::Lent(Box::new(chip), Edit::None);
+    Case { length, start, content: Content::Blank, area: Vec::new(), steps: Vec::new() }
+}
+
 /// What the check of the promise says of a wrong script that is run on a true copy with WEN 1.
 fn broken_promise(asked: &Programming, script: &[u8]) -> Option<String> {
-    let start = Start::Lent(Box::new(Chip { wen: true, ..Chip::fresh(0) }), Edit::None);
-    let (length, content, area, steps) = (asked.memory, Content::Blank, Vec::new(), Vec::new());
     let mut copy = faults::WrongCopy::new(None);
     let mut bench = Bench::new(&mut copy);
-    let started = bench.start(&Case { length, start, content, area, steps });
+    let started = bench.start(&case_of(Chip { wen: true, ..Chip::fresh(0) }, asked.memory));
     started.and_then(|()| bench.keep_promise(asked, script)).err()
 }
 
+/// What is found where the model and a true copy of it have one chip and say one row of records.
+fn found_in_agreement(chip: Chip, row: &[u8]) -> Option<String> {
+    let mut copy = faults::WrongCopy::new(None);
+    let mut bench = Bench::new(&mut copy);
+    let started = bench.start(&case_of(chip, LENGTHS[0]));
+    started.and_then(|()| bench.find_what_cannot_be((0, row), (0, row))).err()
+}
+
 /// Tests the harness: a true copy of the model must pass, each wrong copy must be found out, and so
-/// must each wrong script that is run on a true one.
+/// must each wrong script that is run on a true one, and what both sides agree on and cannot be.
 fn self_test(seed: u64) -> bool {
     println!("a true copy");
-    let good = compare(&mut faults::WrongCopy::new(None), seed, SELF_TEST, false).is_ok();
+    let mut good = compare(&mut faults::WrongCopy::new(None), seed, SELF_TEST, false).is_ok();
     let (mut planted, mut found) = (0, 0);
     for (number, words) in faults::all_faults().enumerate() {
         println!("\nfault {number}: {words}");
@@ -152,6 +168,16 @@ fn self_test(seed: u64) -> bool {
         println!("{}", difference.as_deref().unwrap_or("the promise is kept"));
         planted += 1;
         found += usize::from(is_found(difference, promise::DIFFERENCE));
+    }
+    let in_the_model = format!("{}: the model's", enable::DIFFERENCE);
+    for (words, chip, row, wrong) in wrong_enable::agreements() {
+        let name = if wrong { format!("fault {planted}") } else { "no fault".to_string() };
+        println!("\n{name}: both sides agree on {words}");
+        let difference = found_in_agreement(chip, row);
+        println!("{}", difference.as_deref().unwrap_or("nothing is found"));
+        good &= wrong || difference.is_none();
+        planted += usize::from(wrong);
+        found += usize::from(wrong && is_found(difference, &in_the_model));
     }
     println!("\n{found} of {planted} planted faults found");
     good && found == planted

@@ -12,9 +12,12 @@ use crate::session::{Outcome, Session};
 use crate::states;
 
 impl Session<'_> {
-    /// Does what is planned; what takes long comes last, so that most faults are found early.
+    /// Does what is planned; what takes long comes last, so that most faults are found early. WEN
+    /// beside a job comes before all random frames, so that a chip that cannot be is seen after the
+    /// very event that made it so.
     pub fn planned(&mut self) -> Outcome {
         self.fresh_states()?;
+        self.enable()?;
         self.deselects()?;
         self.stamps()?;
         self.reports()?;

@@ -126,7 +126,7 @@ const REFUSED: [(&[u8], u8, u64); 31] = [
 ];
 
 /// The two forms of a run: plain, and with a report.
-const FORMS: [Option<Allowances>; 2] = [None, Some([300; 5])];
+pub const FORMS: [Option<Allowances>; 2] = [None, Some([300; 5])];
 
 impl Session<'_> {
     /// Stamps in runs, those that went back, and those alone.

@@ -12,21 +12,21 @@ use crate::session::{Entry, Outcome, Session, EVERY_ENTRY};
 use crate::text;
 
 /// A line of the text form, and the records of its events but for the bytes that float.
-type Line = (&'static str, &'static [u8]);
+pub type Line = (&'static str, &'static [u8]);
 
 /// The records of a frame that is done, of one that begins a job, and of those turned away.
-const DONE: &[u8] = &[0x82, 1];
-const BEGUN: &[u8] = &[0x82, 2];
-const SPOILED: &[u8] = &[0x82, 4];
-const NOT_WHILE_RUNNING: &[u8] = &[0x82, 6];
-const NOT_IN_SUSPENSION: &[u8] = &[0x82, 7];
-const POINTLESS: &[u8] = &[0x82, 11];
+pub const DONE: &[u8] = &[0x82, 1];
+pub const BEGUN: &[u8] = &[0x82, 2];
+pub const SPOILED: &[u8] = &[0x82, 4];
+pub const NOT_WHILE_RUNNING: &[u8] = &[0x82, 6];
+pub const NOT_IN_SUSPENSION: &[u8] = &[0x82, 7];
+pub const POINTLESS: &[u8] = &[0x82, 11];
 /// The records of a status read of one byte: RDY and WEN, SUS and WEN, and none of them.
-const RUNNING: &[u8] = &[0x81, 0x03, 0x82, 0];
-const SUSPENDED: &[u8] = &[0x81, 0x42, 0x82, 0];
-const IDLE: &[u8] = &[0x81, 0x00, 0x82, 0];
+pub const RUNNING: &[u8] = &[0x81, 0x03, 0x82, 0];
+pub const SUSPENDED: &[u8] = &[0x81, 0x42, 0x82, 0];
+pub const IDLE: &[u8] = &[0x81, 0x00, 0x82, 0];
 /// No record but of bytes that float.
-const NOTHING: &[u8] = &[];
+pub const NOTHING: &[u8] = &[];
 
 /// What is written out, each row on a fresh one-sector part, with the number of working ticks.
 const WRITTEN_OUT: [(&[Line], u64); 10] = [
@@ -246,7 +246,9 @@ impl Session<'_> {
     pub fn waits(&mut self) -> Outcome {
         for (lines, ticks) in WRITTEN_OUT {
             for entry in EVERY_ENTRY {
+                self.open_fresh(LENGTHS[0], 0)?;
                 self.written_lines(lines, ticks, entry)?;
+                self.close()?;
             }
         }
         self.frames_over_waits()?;
@@ -256,16 +258,14 @@ impl Session<'_> {
         Ok(())
     }
 
-    /// Lines that are written out, at an entry point.
-    fn written_lines(&mut self, lines: &[Line], ticks: u64, entry: Entry) -> Outcome {
-        self.open_fresh(LENGTHS[0], 0)?;
+    /// Lines that are written out, at an entry point, on the part as it is.
+    pub fn written_lines(&mut self, lines: &[Line], ticks: u64, entry: Entry) -> Outcome {
         let texts: Vec<&str> = lines.iter().map(|(line, _)| *line).collect();
         let script = text::script_of_text(&texts.join("\n")).expect("lines of the text form");
         let said = self.said_at(entry, &events_of(&script).0)?;
         let row: Vec<u8> = lines.iter().flat_map(|(_, records)| *records).copied().collect();
         self.hold_to(&without_floating(&said.records), &row)?;
-        self.hold_to(&said.ticks.to_be_bytes(), &ticks.to_be_bytes())?;
-        self.close()
+        self.hold_to(&said.ticks.to_be_bytes(), &ticks.to_be_bytes())
     }
 
     /// Frames of every opcode, and of bytes that are none, that begin in a wait and end in it, in

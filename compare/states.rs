@@ -194,6 +194,21 @@ pub fn with_frame(rng: &mut Rng, length: usize, opcode: u8, count: u8) -> Chip {
     chip
 }
 
+/// A state with a suspended job of a class and an open frame of an opcode that its end begins a job
+/// by, legal but for WEN 0.
+pub fn suspended_without_wen(rng: &mut Rng, length: usize, class: Class, opcode: u8) -> Chip {
+    let mut chip = legal_unselected(rng, length, Some(class));
+    (chip.suspended, chip.waiting, chip.level, chip.wen) = (true, false, 0, false);
+    open_frame(rng, &mut chip, opcode, length);
+    chip.frame.judgement = None;
+    chip.frame.byte_count = match Class::begun_by(opcode) {
+        Some(Class::Program) => rng.pick(&[5, 6]),
+        Some(Class::Chip) => 1,
+        _ => 4,
+    };
+    chip
+}
+
 /// A state with a job, legal but for what a change does to it.
 fn spoilt_job(
     rng: &mut Rng,
