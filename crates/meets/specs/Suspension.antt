@@ -60,7 +60,7 @@ module _ (M : Model) (p : Meets M) where
 
   -- ---- WEN
 
-  -- in suspension 8 is not told
+  -- in suspension 8 is not told, whatever the event
   not-eight : (c : Chip) (m area : List ℕ) (kind body : ℕ) → c .core .suspended ≡ true
       → getD (M c m area kind body .says) 0 0 ≡ 0x82 → getD (M c m area kind body .says) 1 0 ≡ 8 → ⊥
   not-eight c m area kind body suspended = said-each c m area kind body (λ says. getD says 0 0 ≡ 0x82 → getD says 1 0 ≡ 8 → ⊥) (λ first second. absurd (omega arith)) at
@@ -72,8 +72,9 @@ module _ (M : Model) (p : Meets M) where
       at l (Verdict v) (most, lacks) first second = false≢true (sym (lacks second) ∙ suspended-enabled (sectorsIn (length m)) (c .core) (chip-facts c (length m) l .core-part) suspended)
       at l (InTheWay f t) told first second = absurd (omega arith)
 
+  -- so the test that the old list had never holds
   idle : (c : Chip) (m area : List ℕ) (kind body : ℕ) → tellingTwelve M c m area kind body ≡ M c m area kind body
-  idle c m area kind body = cond-no test _ _ (not-so test (λ holds. let t = and-four (c .core .suspended) (changesCells (c .frame .opcode)) first second holds in not-eight c m area kind body (t .0) (eqb-true _ _ (t .2)) (eqb-true _ _ (t .3))))
+  idle c m area kind body = cond-no test _ _ (not-so test (λ holds. let t = and-four (c .core .suspended) (changesCells (c .frame .opcode)) first second holds in fell (t .0) (t .2) (t .3)))
     where
       first : Bool
       first = eqb (getD (M c m area kind body .says) 0 0) 0x82
@@ -83,6 +84,9 @@ module _ (M : Model) (p : Meets M) where
 
       test : Bool
       test = c .core .suspended && changesCells (c .frame .opcode) && first && second
+
+      fell : c .core .suspended ≡ true → first ≡ true → second ≡ true → ⊥
+      fell suspended a b = not-eight c m area kind body suspended (eqb-true _ _ a) (eqb-true _ _ b)
 
   module _ (area : List ℕ) (w : World) (r : Reached M area w) where
     -- the chip that was led to is legal
