@@ -28,8 +28,9 @@ use Rattle.script.specs.Run.{world, runs}
 use Rattle.script.specs.Run as Run
 use Rattle.script.specs.Laws.{NoStamp}
 use Rattle.script.specs.Script.{Event, faultAt, eventAt, walk, eventsFrom, events, timed, played, refusalOf, firstBad, room}
-use Rattle.demands.specs.Model.{ours, event, sends, AllGood, runsBy}
+use Rattle.demands.specs.Model.{ours, event, AllGood, runsBy}
 use Rattle.demands.specs.Suspension.{Reached}
+use Rattle.meets.specs.ProgramPiece.{frameEvents}
 use Rattle.demands.specs.Demand2.{Rows, stopOf, verdictOf, Quiet, Ready, FreeAt}
 
 -- a frame of that opcode with so many bytes, selected and not judged
@@ -319,11 +320,8 @@ unfolding legal legalCore legalJob legalFrame isEmpty isBlank permitted
 lacking-met = (refl, (refl, (refl, (refl, tt))))
 
 -- `Reached`, which `keeps-wen` is about: a small sector erase is suspended in the tick after B0h, on a fresh chip that has seen 06h, 20h and B0h
-abbrev a-frame : List ℕ → List Event
-a-frame bs = event 0x01 0 ∷ (sends bs ++ (event 0x03 0 ∷ []))
-
 abbrev suspending : List Event
-suspending = a-frame (0x06 ∷ []) ++ (a-frame (0x20 ∷ 0 ∷ 0 ∷ 0 ∷ []) ++ (a-frame (0xB0 ∷ []) ++ (event 0x04 0 ∷ [])))
+suspending = frameEvents (0x06 ∷ []) ++ (frameEvents (0x20 ∷ 0 ∷ 0 ∷ 0 ∷ []) ++ (frameEvents (0xB0 ∷ []) ++ (event 0x04 0 ∷ [])))
 
 abbrev zeros : List ℕ
 zeros = replicate 65536 0
