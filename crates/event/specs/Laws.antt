@@ -27,9 +27,13 @@ use Rattle.chip.specs.Record.{recordBytes}
 use Rattle.chip.specs.Laws.{recordBytes-most}
 use Rattle.frame.specs.Frame.{Exchange, exchanged}
 use Rattle.frame.specs.Legality.{taken-each, exchanged-each}
+use Rattle.commands.specs.Table.{isRead}
+use Rattle.frame.specs.Frame.{judge}
+use Rattle.chip.specs.Chip.{emptyFrame, blankLoad}
 use Rattle.verdict.specs.Verdict.{verdict, inTheWay, recordOf}
+use Rattle.verdict.specs.Laws.{verdict-read, settled-read, held-stays, record-plain}
 use Rattle.event.specs.declared.Answer.{Answer}
-use Rattle.event.specs.Event.{Outcome, asItWas, select, exchangeByte, deselect, closes, tick, setWp, cutPower, applied, sortOf}
+use Rattle.event.specs.Event.{Outcome, outcome, asItWas, select, exchangeByte, deselect, closes, tick, setWp, cutPower, applied, sortOf}
 use Rattle.event.specs.Alone.{bodyUsed, refusal, refused, done, happens, answerOf, memoryOf, saidOf}
 
 -- ---- a deselect
@@ -41,6 +45,15 @@ deselect-unselected T c m loose h = cond-no (c .frame .selected) _ _ h
 pub deselect-selected : (T : Setting) (c : Chip) (m : List ℕ) (loose : Bool) → c .frame .selected ≡ true
     → deselect T c m loose ≡ closes T c m (verdict (T .sectors) (c .core) (c .frame) loose)
 deselect-selected T c m loose h = cond-yes (c .frame .selected) _ _ h
+
+-- the deselect of a read that is allowed where it stands, with no reset armed: verdict 0, and the empty frame
+pub deselect-read : (T : Setting) (c : Chip) (m : List ℕ) (loose : Bool) → c .frame .selected ≡ true → c .frame .judgement ≡ 0 → judge (c .core) (c .frame .opcode) ≡ 0 → isRead (c .frame .opcode) ≡ true
+    → c .core .armed ≡ false → deselect T c m loose ≡ outcome (c .core) emptyFrame blankLoad (c .held) m (Verdict 0) 0
+deselect-read T c m loose selected unjudged allowed read unarmed =
+    deselect-selected T c m loose selected
+    ∙ ap (closes T c m) (verdict-read (T .sectors) (c .core) (c .frame) loose unjudged allowed read)
+    ∙ (λ i. outcome (settled-read (T .sectors) (c .core) (c .frame) unarmed i) emptyFrame blankLoad (held-stays (c .frame) 0 (c .load) (c .held) (λ e. omega arith) (λ e _. omega arith) i) m
+    (record-plain (T .sectors) (c .core) 0 (λ e. omega arith) i) 0)
 
 -- ---- one event, by its kind
 
@@ -69,6 +82,11 @@ applied-each T c m kind body P p₁ p₂ p₃ p₄ p₅ p₆ p₇ p₈ =
 pub applied-select : (T : Setting) (c : Chip) (m : List ℕ) (kind body : ℕ) → kind ≡ SELECT → applied T c m kind body ≡ select c m
 unfolding applied
 applied-select T c m kind body e = ap (λ (q : ℕ). applied T c m q body) e
+
+-- a deselect, as an event
+pub applied-deselect : (T : Setting) (c : Chip) (m : List ℕ) (kind body : ℕ) → kind ≡ DESELECT → applied T c m kind body ≡ deselect T c m (ltb 0 body)
+unfolding applied
+applied-deselect T c m kind body e = ap (λ (q : ℕ). applied T c m q body) e
 
 -- the exchange of a byte, as an event
 pub applied-exchange : (T : Setting) (c : Chip) (m : List ℕ) (kind b : ℕ) → kind ≡ EXCHANGE → b < 256 → applied T c m kind b ≡ exchangeByte T c m b

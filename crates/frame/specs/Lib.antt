@@ -3,3 +3,4 @@ pub mod Laws
 pub mod Legality
 pub mod Stream
 pub mod StreamLaws
+pub mod RowLaws

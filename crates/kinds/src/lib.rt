@@ -1,8 +1,11 @@
 // The kinds of events: their names, their bodies, what they can say; and where in a script a body stands.
 ghost use mathlib.Core.Path.{_≡_};
-ghost use Prim.Native.Nat.{_≤_};
+ghost use Prim.Native.Nat.{_+_, _<_, _≤_, min};
+ghost use lib.Dec.{leb};
+ghost use lib.ListN.{length};
 ghost use Rattle.kinds.specs.Kinds.{knownKind, knownInScript, bodyLength, inRange, yields, roomOf, mostRoom};
 ghost use Rattle.kinds.specs.Body.{bodyAt, stepTo};
+ghost use Rattle.kinds.specs.Row.{exchangesFrom};
 
 // The kinds are constants of this type; it holds nothing.
 pub struct Kind {}
@@ -121,4 +124,71 @@ pub fn next_at(s: &[u8], at: usize) -> usize
         return at;
     }
     at + 1 + body_length(s[at] as u64)
+}
+
+// How many whole exchanges stand in a row from an offset on, but no more than `most`: looked at one by one.
+fn few_from(s: &[u8], at: usize, most: usize) -> usize
+    requires { ⌜ at ≤ length (now s) ⌝ }
+    ensures { λ r. ⌜ r ≡ min most (exchangesFrom (now (s .entry)) at) ⌝ }
+{
+    let mut n = 0;
+    while n < most {
+        let here = at + 2 * n;
+        // A kind without its byte is no whole exchange.
+        if s.len() - here < 2 {
+            return n;
+        }
+        if s[here] as u64 != Kind::EXCHANGE {
+            return n;
+        }
+        n += 1;
+    }
+    n
+}
+
+// Whether sixteen exchanges stand in a row at an offset. There is no way out of the loop, so that the compiler takes eight pairs at once.
+fn sixteen_at(s: &[u8], at: usize) -> bool
+    requires { ⌜ at + 32 ≤ length (now s) ⌝ }
+    ensures { λ r. ⌜ r ≡ leb 16 (exchangesFrom (now (s .entry)) at) ⌝ }
+{
+    let mut odd: u16 = 0;
+    let mut i = 0;
+    while i < 16 {
+        // The kind is the low byte, and the body the high one, which drops out at the end.
+        let pair = (s[at + 2 * i] as u16) + 256 * (s[at + 2 * i + 1] as u16);
+        odd = odd | (pair ^ (Kind::EXCHANGE as u16));
+        i += 1;
+    }
+    odd % 256 == 0
+}
+
+// How many exchanges stand in a row from an offset on, counted by sixteens: fewer than sixteen are left.
+fn sixteens_from(s: &[u8], at: usize) -> usize
+    requires { ⌜ at ≤ length (now s) ⌝ }
+    ensures { λ r. ⌜ (r ≤ exchangesFrom (now (s .entry)) at) × (exchangesFrom (now (s .entry)) at < r + 16) ⌝ }
+{
+    let mut n = 0;
+    while 32 <= s.len() - (at + 2 * n) {
+        if !sixteen_at(s, at + 2 * n) {
+            return n;
+        }
+        n += 16;
+    }
+    n
+}
+
+// How many whole exchanges stand in a row from an offset of a script on. Most rows are short or long: the first four are looked at one by one, then sixteen at a time.
+pub fn exchanges_from(s: &[u8], at: usize) -> usize
+    ensures { λ r. ⌜ r ≡ exchangesFrom (now (s .entry)) at ⌝ }
+{
+    if s.len() <= at {
+        return 0;
+    }
+    let first = few_from(s, at, 4);
+    if first < 4 {
+        return first;
+    }
+    let sixteens = sixteens_from(s, at + 2 * 4);
+    let rest = few_from(s, at + 2 * (4 + sixteens), 16);
+    4 + sixteens + rest
 }

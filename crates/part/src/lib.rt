@@ -69,6 +69,10 @@ pub fn cell_of(sectors: u8, address: u32) -> usize
     ensures { λ r. ⌜ r ≡ reduced sectors address ⌝ }
 {
     let n = length_of(sectors);
+    // Most addresses are cells: these need no division.
+    if (address as usize) < n {
+        return address as usize;
+    }
     if n == 0 {
         return address as usize;
     }

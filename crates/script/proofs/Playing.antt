@@ -9,8 +9,9 @@ use native.Mathlib.Omega.{arith}
 use lib.Dec.{eqb}
 use lib.ListN.{length, getD, take, drop, replicate, take-append-drop}
 use lib.Seq.{drop-drop, length-take-le}
+use Rattle.cells.specs.PutLaws.{put-between, put-length}
 use Rattle.part.specs.Part.{Setting}
-use Rattle.kinds.specs.Kinds.{SELECT, EXCHANGE, TICK, TICKS, STAMP, roomOf, saysOf, inRange, kindRow, kindRowIn}
+use Rattle.kinds.specs.Kinds.{TICK, TICKS, roomOf, inRange}
 use Rattle.kinds.specs.Body.{nextAt, bodyAt}
 use Rattle.clock.specs.declared.Clock.{Clock}
 use Rattle.clock.specs.Clock.{unset}
@@ -25,17 +26,18 @@ use Rattle.margins.specs.declared.Allowances.{Allowances}
 use Rattle.margins.specs.declared.Report.{Report}
 use Rattle.job.specs.Tick.{TicksAnswer, worked}
 use Rattle.job.specs.Laws.{answer-rests}
-use Rattle.frame.specs.Frame.{exchange, exchanged}
-use Rattle.event.specs.Event.{Outcome, outcome, select, settleExchange, applied, tick, sortOf}
-use Rattle.event.specs.Laws.{applied-select, applied-exchange, says-its-kind, said-room}
+use Rattle.event.specs.Event.{Outcome, outcome, applied, tick}
+use Rattle.event.specs.Laws.{said-room}
 use Rattle.script.specs.declared.Watch.{Watch}
+use Rattle.script.specs.declared.rows.Row.{Row}
 use Rattle.script.specs.Script.{Event, eventAt, eventsFrom, played, timed, clockAfter, isStamp, firstBad, room}
 use Rattle.script.specs.Run.{World, world, after, runs, Stored, Playable, Played, finished, done}
-use Rattle.script.specs.Jobs.{Finished, Followed, nothing, jobs, jobsOf, tickByTick, oneTick, isTwo}
+use Rattle.script.specs.Jobs.{Finished, Followed, nothing, jobs, jobsOf, tickByTick, oneTick, stands}
 use Rattle.script.specs.Report.{reportAfter}
 use Rattle.script.specs.Watch.{ticking, ticksOf, clockBy, watch, afterEvent, afterTicks, Reports}
-use Rattle.script.specs.Laws.{select-next, exchange-body, exchange-next, no-fault, clean-later, clean-event, good-event, Good, room-more, stored-none, timed-none, runs-more, runs-none, clock-stays}
-use Rattle.script.specs.WatchLaws.{clock-as, plain-ticking, plain-clock, ticks-most, ticks-few, runs-ticking, jobs-ticking, jobs-plain, not-ticking, watch-ticks, watch-event, watch-stays, line-not-two, event-wanted, event-modest, ticks-wanted, ticks-modest, unwatched-ticks, Watches}
+use Rattle.script.specs.Heard.{Heard, Went, Known, WholePart, Ready}
+use Rattle.script.specs.Laws.{no-fault, clean-later, clean-event, good-event, Good, room-more, stored-none, timed-none, runs-more, runs-none, clock-stays}
+use Rattle.script.specs.WatchLaws.{clock-as, plain-ticking, plain-clock, ticks-most, ticks-few, runs-ticking, jobs-ticking, jobs-plain, not-ticking, watch-ticks, watch-event, event-wanted, event-modest, ticks-wanted, ticks-modest, unwatched-ticks, Watches}
 
 -- ---- the run
 
@@ -65,6 +67,16 @@ starts T s c m out p =
       few = omega arith;
     }
 
+-- what stands behind the records so far stands behind n bytes more
+rest-further : (out out₀ out′ : List ℕ) (pos pos′ n : ℕ) → drop pos out ≡ drop pos out₀ → pos′ ≡ pos + n → drop pos′ out′ ≡ drop pos′ out → drop pos′ out′ ≡ drop pos′ out₀
+rest-further out out₀ out′ pos pos′ n rest end beyond =
+    beyond
+    ∙ ap (λ (q : ℕ). drop q out) end
+    ∙ sym (drop-drop n pos out)
+    ∙ ap (drop n) rest
+    ∙ drop-drop n pos out₀
+    ∙ ap (λ (q : ℕ). drop q out₀) (sym end)
+
 module _ {T : Setting} {s : List ℕ} {c₀ : Chip} {m₀ out₀ : List ℕ} {c : Chip} {m out : List ℕ} {k : Clock} {at pos ticks : ℕ} (i : Playing T s c₀ m₀ out₀ c m out k at pos ticks) where
   abbrev here : World
   here = world c m (take pos out) ticks
@@ -82,14 +94,7 @@ module _ {T : Setting} {s : List ℕ} {c₀ : Chip} {m₀ out₀ : List ℕ} {c 
     turned o k′ pos′ out′ clock e r st t lm lo =
         record {
           same = i .same ∙ e ∙ ap (λ (w : List ℕ). runs T (timed k′ (eventsFrom s (nextAt s at))) (world (o .chip) (o .memory) w (ticks + o .ticks))) (sym (st .before));
-          rest =
-              let n : ℕ = length (recordBytes (o .said)) in
-              st .beyond
-              ∙ ap (λ (q : ℕ). drop q out) (st .end)
-              ∙ sym (drop-drop n pos out)
-              ∙ ap (drop n) (i .rest)
-              ∙ drop-drop n pos out₀
-              ∙ ap (λ (q : ℕ). drop q out₀) (sym (st .end));
+          rest = rest-further out out₀ out′ pos pos′ (length (recordBytes (o .said))) (i .rest) (st .end) (st .beyond);
           fits = omega (arith, i .fits, room-more s at more, st .end);
           memory = lm ∙ i .memory;
           output = lo ∙ i .output;
@@ -116,38 +121,6 @@ module _ {T : Setting} {s : List ℕ} {c₀ : Chip} {m₀ out₀ : List ℕ} {c 
         turned o k pos′ out′ (sym (clock-stays k (eventAt s at) no-stamp))
         (runs-more T k s at here more no-stamp ∙ ap (λ (x : Outcome). runs T (timed k (eventsFrom s (nextAt s at))) (after here x)) (sym e))
         (record-room o e) st t lm lo
-
-    -- a select opens the frame, and no more
-    pub select-turns : getD s at 0 ≡ SELECT → Playing T s c₀ m₀ out₀ (select c m .chip) m out k (at + 1) pos ticks
-    select-turns is =
-        let p : Playing T s c₀ m₀ out₀ (select c m .chip) m out k (nextAt s at) pos (ticks + 0) =
-        turns (ap (λ (kind : ℕ). eqb kind STAMP) is) (select c m) pos out (sym (applied-select T c m (getD s at 0) (bodyAt s at) is)) (stored-none out pos Nothing refl) (omega arith) refl refl in
-        rw (select-next s at is, add-zero ticks) at p
-
-    -- an exchange stands whole in the script
-    pub exchange-inside : getD s at 0 ≡ EXCHANGE → at + 2 ≤ length s
-    exchange-inside e = omega (arith, good .inside, exchange-next s at e)
-
-    -- the same of an exchange, whose byte stands behind its kind
-    module _ (is-exchange : getD s at 0 ≡ EXCHANGE) (byte : getD s (at + 1) 0 < 256) (said : Record) (f′ : Frame) (load′ : List ℕ)
-        (e : exchange said f′ load′ ≡ exchanged T (c .core) (c .frame) (c .load) m (getD s (at + 1) 0)) where
-      abbrev heard : Outcome
-      heard = settleExchange c m (exchange said f′ load′)
-
-      pub heard-is : heard ≡ applied T c m (getD s at 0) (bodyAt s at)
-      heard-is =
-          ap (settleExchange c m) e
-          ∙ sym (applied-exchange T c m (getD s at 0) (getD s (at + 1) 0) is-exchange byte)
-          ∙ ap (applied T c m (getD s at 0)) (sym (exchange-body s at is-exchange))
-
-      pub exchange-finds-room : pos + length (recordBytes said) ≤ length out
-      exchange-finds-room = finds-room heard heard-is
-
-      pub exchange-turns : (pos′ : ℕ) (out′ : List ℕ) → Stored out pos said pos′ out′ → length out′ ≡ length out
-          → Playing T s c₀ m₀ out₀ (whole (c .core) f′ load′ (c .held)) m out′ k (at + 2) pos′ ticks
-      exchange-turns pos′ out′ st lo =
-          let p : Playing T s c₀ m₀ out₀ (heard .chip) m out′ k (nextAt s at) pos′ (ticks + 0) = turns (ap (λ (kind : ℕ). eqb kind STAMP) is-exchange) heard pos′ out′ heard-is st (omega arith) refl lo in
-          rw (exchange-next s at is-exchange, add-zero ticks) at p
 
     -- the same of ticks, which say nothing and ask nothing of the frame
     module _ (is-ticking : ticking (getD s at 0) ≡ true) (body : ℕ) (is-body : body ≡ bodyAt s at) (n : ℕ) (is : n ≡ ticksOf k (getD s at 0) body) (k′ : Clock) (is-clock : k′ ≡ clockBy k (getD s at 0) body) where
@@ -177,6 +150,27 @@ module _ {T : Setting} {s : List ℕ} {c₀ : Chip} {m₀ out₀ : List ℕ} {c 
     -- ticks as they are written, where no job runs
     pub plain-idle-turn : (eqb (getD s at 0) TICKS || eqb (getD s at 0) TICK) ≡ true → running (c .core) ≡ false → Playing T s c₀ m₀ out₀ c m out k (nextAt s at) pos ticks
     plain-idle-turn plain = idle-turn (plain-ticking (getD s at 0) plain) (bodyAt s at) refl _ refl k (plain-clock k (getD s at 0) (bodyAt s at) plain)
+
+  -- a stretch in one go, with its records stored
+  pub plays-on : {at′ pos′ : ℕ} {c′ : Chip} {out′ : List ℕ} → Went T s m at c out pos at′ c′ out′ pos′ → Playing T s c₀ m₀ out₀ c′ m out′ k at′ pos′ ticks
+  plays-on {at′} {pos′} {c′} {out′} w =
+      let between = put-between (w .stored) (omega (arith, i .fits, w .heard .roomy)) in
+      record {
+        same = i .same ∙ w .heard .same k (take pos out) ticks ∙ ap (λ (l : List ℕ). runs T (timed k (eventsFrom s at′)) (world c′ m l ticks)) (sym (between .0));
+        rest = rest-further out out₀ out′ pos pos′ (length (w .said)) (i .rest) (w .stored .end) (between .1);
+        fits = omega (arith, i .fits, w .heard .roomy, w .stored .end, put-length (w .stored));
+        memory = i .memory;
+        output = put-length (w .stored) ∙ i .output;
+        clean = w .heard .clean k (i .clean);
+        inside = w .heard .inside;
+        short = i .short;
+        few = omega (arith, i .few, w .heard .onward);
+      }
+
+  -- where one can begin
+  pub ready : {S : ℕ} {longest : Row} → at < length s → WholePart S (length m₀) → Known s longest → Ready S s m out at pos longest
+  ready {S} more part known =
+      record { part = subst (WholePart S) (sym (i .memory)) part; more = more; good = good more; fits = i .fits; short = i .short; known = known }
 
   -- after the last event
   pub ends : length s ≤ at → Played T c₀ m₀ s out₀ (finished c pos ticks) m out
@@ -221,6 +215,21 @@ module _ {wanted : Bool} {T : Setting} {a : Allowances} {s : List ℕ} {c₀ : C
         comes-to = i .watches wants .comes-to ∙ ap (λ (q : List Finished). reportAfter a q (w .report)) e ∙ next .comes-to;
       }
 
+  -- a stretch in one go
+  pub watched-on : {at′ : ℕ} {c′ : Chip} {said : List ℕ} → Heard T s m at c at′ c′ said → Watching wanted T a s c₀ m₀ r₀ c′ m k at′ w
+  watched-on h =
+      record {
+        asked = i .asked;
+        watches = λ wants.
+            let now = i .watches wants in
+            record {
+              followed = now .followed;
+              keeps = record { same-on = now .keeps .same-on; same-used = now .keeps .same-used; there = λ on. ap stands (h .core-same) ∙ now .keeps .there on };
+              comes-to = now .comes-to ∙ ap (λ (q : List Finished). reportAfter a q (w .report)) (h .told k (now .followed) (now .keeps .there));
+            };
+        modest = omega (arith, i .modest, h .onward);
+      }
+
   module _ (more : at < length s) where
     -- an event that is no ticks
     pub event-watched : ticking (getD s at 0) ≡ false → (q : Core) (f : Frame) (l held m′ : List ℕ) (said : Record) (t : ℕ) → outcome q f l held m′ said t ≡ applied T c m (getD s at 0) (bodyAt s at)
@@ -234,37 +243,9 @@ module _ {wanted : Bool} {T : Setting} {a : Allowances} {s : List ℕ} {c₀ : C
           watches = λ wants.
               let now = i .watches wants in
               goes-on wants _ (jobs-plain T (now .followed) k s at c m more other)
-              (watch-event T a (eventAt s at) _ c m (other .not-one) w (now .followed) (i .asked ∙ wants) (now .keeps .same-on) (now .keeps .same-used));
+              (watch-event T (eventAt s at) _ c m (other .not-one) a w (now .followed) (i .asked ∙ wants) (now .keeps .same-on) (now .keeps .same-used));
           modest = omega (arith, i .modest, event-modest (left .chip .core) (left .said) w);
         })
-
-    -- an event that is no ticks, leaves the job and says no verdict
-    leaves-watched : ticking (getD s at 0) ≡ false → (f : Frame) (l : List ℕ) (said : Record) → isTwo said ≡ false
-        → outcome (c .core) f l (c .held) m said 0 ≡ applied T c m (getD s at 0) (bodyAt s at) → Watching wanted T a s c₀ m₀ r₀ (whole (c .core) f l (c .held)) m k (nextAt s at) w
-    leaves-watched plain f l said quiet e =
-        let other = not-ticking (getD s at 0) plain in
-        subst (λ (o : Outcome). Watching wanted T a s c₀ m₀ r₀ (o .chip) (o .memory) k (nextAt s at) w) (sym e)
-        (record {
-          asked = i .asked;
-          watches = λ wants.
-              let now = i .watches wants in
-              goes-on wants _ (jobs-plain T (now .followed) k s at c m more other)
-              (watch-stays T a (eventAt s at) _ c m (other .not-one) w (now .followed) (now .keeps) (ap (λ (o : Outcome). o .chip .core) (sym e)) (ap (λ (o : Outcome). isTwo (o .said)) (sym e) ∙ quiet));
-          modest = omega (arith, i .modest);
-        })
-
-    -- so it is of a select, and of an exchange
-    pub select-watched : getD s at 0 ≡ SELECT → Watching wanted T a s c₀ m₀ r₀ (select c m .chip) m k (at + 1) w
-    select-watched is =
-        subst (λ (next : ℕ). Watching wanted T a s c₀ m₀ r₀ (select c m .chip) m k next w) (select-next s at is)
-        (leaves-watched (ap ticking is) _ _ Nothing refl (sym (applied-select T c m (getD s at 0) (bodyAt s at) is)))
-
-    pub exchange-watched : getD s at 0 ≡ EXCHANGE → (f : Frame) (l : List ℕ) (said : Record)
-        → outcome (c .core) f l (c .held) m said 0 ≡ applied T c m (getD s at 0) (bodyAt s at) → Watching wanted T a s c₀ m₀ r₀ (whole (c .core) f l (c .held)) m k (at + 2) w
-    unfolding kindRow kindRowIn
-    exchange-watched is f l said e =
-        subst (λ (next : ℕ). Watching wanted T a s c₀ m₀ r₀ (whole (c .core) f l (c .held)) m k next w) (exchange-next s at is)
-        (leaves-watched (ap ticking is) f l said (line-not-two said (ap (λ (o : Outcome). sortOf (o .said)) e ∙ says-its-kind T c m (getD s at 0) (bodyAt s at) ∙ ap saysOf is)) e)
 
     -- ticks
     module _ (is-ticking : ticking (getD s at 0) ≡ true) (body : ℕ) (is-body : body ≡ bodyAt s at) (n : ℕ) (is : n ≡ ticksOf k (getD s at 0) body) (most : n ≤ 65535)

@@ -14,7 +14,7 @@ use Rattle.cells.specs.Put.{Put}
 use Rattle.cells.specs.PutLaws.{put-between}
 use Rattle.part.specs.Part.{permitted, sectorsIn, Setting, setting}
 use Rattle.part.specs.Area.{longestArea}
-use Rattle.kinds.specs.Kinds.{SELECT, EXCHANGE, TICKS, STAMP, kindRowIn, kindRow, knownInScript, bodyLength, inRange, roomOf}
+use Rattle.kinds.specs.Kinds.{SELECT, EXCHANGE, DESELECT, TICKS, STAMP, kindRowIn, kindRow, knownInScript, bodyLength, inRange, roomOf}
 use Rattle.kinds.specs.Body.{bodyAt, nextAt}
 use Rattle.kinds.specs.Laws.{body-one, exchange-range, stamp-range}
 use Rattle.clock.specs.declared.Clock.{Clock}
@@ -225,10 +225,14 @@ exchange-clock k s at e = clock-stays k (eventAt s at) (exchange-unstamped s at 
 
 -- ---- selects, ticks and stamps in a script
 
--- a select has no body, an 05h and a stamp have two bytes
+-- a select has no body, a deselect has one byte, an 05h and a stamp have two
 pub select-next : (s : List ℕ) (at : ℕ) → getD s at 0 ≡ SELECT → nextAt s at ≡ at + 1
 unfolding kindRow kindRowIn
 select-next s at e = ap (λ (kind : ℕ). at + 1 + bodyLength kind) e ∙ omega arith
+
+pub deselect-next : (s : List ℕ) (at : ℕ) → getD s at 0 ≡ DESELECT → nextAt s at ≡ at + 2
+unfolding kindRow kindRowIn
+deselect-next s at e = ap (λ (kind : ℕ). at + 1 + bodyLength kind) e ∙ omega arith
 
 pub ticks-next : (s : List ℕ) (at : ℕ) → getD s at 0 ≡ TICKS → nextAt s at ≡ at + 3
 unfolding kindRow kindRowIn

@@ -6,3 +6,7 @@ pub mod Watch
 pub mod Laws
 pub mod WatchLaws
 pub mod ReportLaws
+pub mod Heard
+pub mod HeardLaws
+pub mod RowLaws
+pub mod ReadLaws

@@ -410,7 +410,7 @@ module _ (T : Setting) (a : Allowances) (at : ℕ) (es : List Event) (n : ℕ) (
                 ∙ ap (λ (u : ℕ). reportAfter a (jobs T nothing es left (tick T c m n .memory)) (counted (c .core .job .kind) (margin (allowanceOf (c .core .job .kind) a) (u + worked (T .sectors) n (c .core))) (w .report))) (sym (k .same-used));
           })
 
-module _ (T : Setting) (a : Allowances) (e : Event) (es : List Event) (c : Chip) (m : List ℕ) (no-tick : eqb (e .kind) TICK ≡ false) where
+module _ (T : Setting) (e : Event) (es : List Event) (c : Chip) (m : List ℕ) (no-tick : eqb (e .kind) TICK ≡ false) where
   abbrev o : Outcome
   o = applied T c m (e .kind) (e .body)
 
@@ -421,11 +421,20 @@ module _ (T : Setting) (a : Allowances) (e : Event) (es : List Event) (c : Chip)
       ap (λ (b : Bool). cond (b && not (stands (o .chip .core))) (finished (e .offset) (c .core .job .kind) (tickMore (c .core) f)) []
       ++ jobs T (cond (not (stands (o .chip .core))) nothing (cond (isTwo (o .said)) (follows (e .offset) 0 0 0) (cond b (tickMore (c .core) f) f))) es (o .chip) (o .memory)) no-tick
 
+  -- one that leaves the job alone and begins none leaves what is followed
+  pub jobs-stay : (f : Followed) → (isOn f ≡ true → stands (c .core) ≡ true) → o .chip .core ≡ c .core → isTwo (o .said) ≡ false → jobs T f (e ∷ es) c m ≡ jobs T f es (o .chip) (o .memory)
+  jobs-stay f there same no-two = jobs-event f ∙ ap (λ (g : Followed). jobs T g es (o .chip) (o .memory)) (go f (stands (o .chip .core)) refl there)
+    where
+      go : (f : Followed) (s : Bool) → stands (o .chip .core) ≡ s → (isOn f ≡ true → stands (c .core) ≡ true) → cond (not s) nothing (cond (isTwo (o .said)) (follows (e .offset) 0 0 0) f) ≡ f
+      go f true p there = cond-no (isTwo (o .said)) _ _ no-two
+      go nothing false p there = refl
+      go (follows begin used working suspended) false p there = absurd (false≢true (sym p ∙ ap stands same ∙ there refl))
+
   -- after such an event, if a report is wanted
-  pub watch-event : (w : Watch) (f : Followed) → w .wanted ≡ true → w .on ≡ isOn f → w .used ≡ usedBy f
+  pub watch-event : (a : Allowances) (w : Watch) (f : Followed) → w .wanted ≡ true → w .on ≡ isOn f → w .used ≡ usedBy f
       → Watches T a (afterEvent (o .chip .core) (o .said) w) (jobs T f (e ∷ es) c m) es (o .chip) (o .memory) (w .report)
   unfolding afterEvent
-  watch-event w f wanted on used =
+  watch-event a w f wanted on used =
       subst (λ (v : Watch). Watches T a v (jobs T f (e ∷ es) c m) es (o .chip) (o .memory) (w .report)) (sym (cond-no (not (w .wanted)) _ _ (ap not wanted)))
       (subst (λ (js : List Finished). Watches T a (kept (stands (o .chip .core)) (isTwo (o .said))) js es (o .chip) (o .memory) (w .report)) (sym (jobs-event f))
       (go (stands (o .chip .core)) (isTwo (o .said)) refl))
@@ -440,21 +449,6 @@ module _ (T : Setting) (a : Allowances) (e : Event) (es : List Event) (c : Chip)
       go false t p = record { followed = nothing; keeps = record { same-on = refl; same-used = refl; there = λ h. absurd (false≢true h) }; comes-to = refl }
       go true true p = record { followed = follows (e .offset) 0 0 0; keeps = record { same-on = refl; same-used = refl; there = λ _. p }; comes-to = refl }
       go true false p = record { followed = f; keeps = record { same-on = on; same-used = used; there = λ _. p }; comes-to = refl }
-
-  -- one that leaves the job alone and says no verdict leaves what is watched
-  pub watch-stays : (w : Watch) (f : Followed) → Keeps w f (c .core) → o .chip .core ≡ c .core → isTwo (o .said) ≡ false
-      → Watches T a w (jobs T f (e ∷ es) c m) es (o .chip) (o .memory) (w .report)
-  watch-stays w f k same no-two =
-      record {
-        followed = f;
-        keeps = record { same-on = k .same-on; same-used = k .same-used; there = λ h. ap stands same ∙ k .there h };
-        comes-to = ap (λ (js : List Finished). reportAfter a js (w .report)) (jobs-event f ∙ ap (λ (g : Followed). jobs T g es (o .chip) (o .memory)) (go f (stands (o .chip .core)) refl (k .there)));
-      }
-    where
-      go : (f : Followed) (s : Bool) → stands (o .chip .core) ≡ s → (isOn f ≡ true → stands (c .core) ≡ true) → cond (not s) nothing (cond (isTwo (o .said)) (follows (e .offset) 0 0 0) f) ≡ f
-      go f true p there = cond-no (isTwo (o .said)) _ _ no-two
-      go nothing false p there = refl
-      go (follows begin used working suspended) false p there = absurd (false≢true (sym p ∙ ap stands same ∙ there refl))
 
 -- what an exchange says is no verdict
 pub line-not-two : (r : Record) → sortOf r ≡ Says.line → isTwo r ≡ false

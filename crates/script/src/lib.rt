@@ -1,11 +1,12 @@
 // A script run, plain or with a margin report: one pass that finds what is wrong with the script, and one that runs it.
-ghost use mathlib.Core.Bool.{true, _&&_};
+ghost use mathlib.Core.Bool.{true, false, _&&_};
 ghost use mathlib.Core.Path.{_≡_};
+ghost use mathlib.Core.Logic.{_⊎_};
 ghost use Prim.Native.Nat.{_+_, _≤_, _<_};
 ghost use lib.Dec.{eqb};
 ghost use lib.ListN.{length, getD};
 ghost use Rattle.part.specs.Part.{setting};
-ghost use Rattle.kinds.specs.Kinds.{TICKS, STAMP};
+ghost use Rattle.kinds.specs.Kinds.{STAMP, knownInScript};
 ghost use Rattle.chip.specs.declared.Chip.{Chip as ChipValue};
 ghost use Rattle.chip.specs.Chip.{whole};
 ghost use Rattle.chip.specs.Record.{recordBytes};
@@ -17,6 +18,7 @@ ghost use Rattle.script.specs.Script.{eventAt, faultBy, refusalOf};
 ghost use Rattle.script.specs.Run.{finished, refused, Scan, Stored, Playable, Played, refusal, answerOf, memoryOf, outputOf};
 ghost use Rattle.script.specs.Jobs.{isTwo};
 ghost use Rattle.script.specs.Report.{answerWith, memoryWith, outputWith, reportOf};
+ghost use Rattle.script.specs.Heard.{Known, WholePart};
 ghost use Rattle.script.specs.Watch.{ticking, ticksOf, clockBy, mostUsed, afterEvent, afterTicks, Reports};
 use chip::Chip;
 use chip::Core;
@@ -28,6 +30,9 @@ use margins::Allowances;
 use margins::Line;
 use margins::Report;
 use part::Part;
+use rows::Row;
+
+mod rows;
 
 // The answer to a script run.
 pub struct Ran {
@@ -67,10 +72,17 @@ struct Refused {
     offset: usize,
 }
 
-// What a look through a script finds: the first bad event, and the room that its records need.
+// What a look through a script finds: the first bad event, the room that its records need, and the longest row of exchanges.
 struct Scanned {
     bad: Refused,
     room: usize,
+    longest: Row,
+}
+
+// What a look at all that is lent finds: a refusal, and the longest row of exchanges.
+struct Checked {
+    no: Refused,
+    longest: Row,
 }
 
 // What refuses the event at an offset: 5, 4, 6, 8 for a stamp that went back, or 0 for nothing.
@@ -120,18 +132,18 @@ fn clock_after(clock: Clock, kind: u64, body: u16) -> Clock
     clock
 }
 
-// Whether the event at an offset is an 05h that nothing refuses: whole, and not of 0 ticks.
-fn is_good_ticks(s: &[u8], at: usize) -> bool
-    requires { ⌜ at < length (now s) ⌝ }
-    ensures { λ r. ⌜ ((clock : ClockValue) → r ≡ (eqb (getD (now (s .entry)) at 0) TICKS && eqb (faultBy clock (eventAt (now (s .entry)) at)) 0)) ⌝ }
+// Whether the event at an offset is of a kind, and nothing refuses it: it is whole, and its body in range.
+fn is_good(s: &[u8], at: usize, kind: u64) -> bool
+    requires { ⌜ (at < length (now s)) × (knownInScript kind ≡ true) × (eqb kind STAMP ≡ false) ⌝ }
+    ensures { λ r. ⌜ ((clock : ClockValue) → r ≡ (eqb (getD (now (s .entry)) at 0) kind && eqb (faultBy clock (eventAt (now (s .entry)) at)) 0)) ⌝ }
 {
-    if s[at] as u64 != Kind::TICKS {
+    if s[at] as u64 != kind {
         return false;
     }
     if s.len() < kinds::next_at(s, at) {
         return false;
     }
-    kinds::is_in_range(Kind::TICKS, kinds::body_at(s, at))
+    kinds::is_in_range(kind, kinds::body_at(s, at))
 }
 
 // Whether the event at an offset is a stamp that nothing refuses: whole, and not gone back.
@@ -148,23 +160,51 @@ fn is_good_stamp(s: &[u8], at: usize, clock: Clock) -> bool
     !clock::went_back(clock, kinds::body_at(s, at) as u16)
 }
 
-// A look through the script: the first bad event, and the room for the records. Ticks and stamps are
-// frequent: what comes after them need not wait for a look at the table of kinds.
+// The longer of a row and one of n exchanges at an offset.
+fn longer(longest: Row, at: usize, n: usize) -> Row
+    ensures { λ r. ⌜ (r ≡ longest) ⊎ (r ≡ record { at = at; count = n }) ⌝ }
+{
+    if longest.count < n {
+        return Row { at: at, count: n };
+    }
+    longest
+}
+
+// A look through the script: the first bad event, the room for the records, and the longest row of exchanges.
+// With a whole exchange nothing can be wrong, and most events are some: a row of them is passed in one go.
+// Selects, deselects, ticks and stamps are frequent: what comes after them need not wait for a look at the
+// table of kinds.
 fn scan(s: &[u8]) -> Scanned
     requires { ⌜ length (now s) ≤ 65536 ⌝ }
-    ensures { λ r. ⌜ Scan (now (s .entry)) (r .bad .number) (r .bad .offset) (r .room) ⌝ }
+    ensures { λ r. ⌜ Scan (now (s .entry)) (r .bad .number) (r .bad .offset) (r .room) × Known (now (s .entry)) (r .longest) ⌝ }
 {
     let mut at = 0;
     let mut space = 0;
     let mut clock = no_stamp();
+    let mut longest = Row {
+        at: s.len(),
+        count: 0,
+    };
     while at < s.len() {
-        // Most events are exchanges, and with a whole one nothing can be wrong.
-        if (s[at] as u64 == Kind::EXCHANGE) & (at + 1 < s.len()) {
-            space += kinds::room_of(Kind::EXCHANGE);
+        if s[at] as u64 == Kind::EXCHANGE {
+            let n = kinds::exchanges_from(s, at);
+            if 0 < n {
+                space += kinds::room_of(Kind::EXCHANGE) * n;
+                longest = longer(longest, at, n);
+                at += 2 * n;
+                continue;
+            }
+        }
+        if is_good(s, at, Kind::DESELECT) {
+            space += kinds::room_of(Kind::DESELECT);
             at += 2;
             continue;
         }
-        if is_good_ticks(s, at) {
+        if is_good(s, at, Kind::SELECT) {
+            at += 1;
+            continue;
+        }
+        if is_good(s, at, Kind::TICKS) {
             at += 3;
             continue;
         }
@@ -181,6 +221,7 @@ fn scan(s: &[u8]) -> Scanned
                     offset: at,
                 },
                 room: 0,
+                longest: longest,
             };
         }
         space += kinds::room_of(s[at] as u64);
@@ -192,6 +233,7 @@ fn scan(s: &[u8]) -> Scanned
             offset: 0,
         },
         room: space,
+        longest: longest,
     }
 }
 
@@ -348,8 +390,8 @@ fn watch_ticks(
 }
 
 // Runs a script that nothing refuses, on a chip in its parts: the two loads are lent.
-// Data bytes are most of a script: they go by the frame alone, as selects do, and ticks by the core
-// alone. Whether ticks matter, because a job runs or one is followed, is kept beside the core, so that
+// Data bytes are most of a script: those of a read go a row at a time, and a whole frame of a read that
+// stands there in one go (`rows`). Ticks go by the core alone. Whether ticks matter, because a job runs or one is followed, is kept beside the core, so that
 // ticks that find neither copy nothing; it is read off the answers, since a core that is only handed
 // on stays in one piece. The other calls get a copy of the frame, so that it need not lie in memory
 // from one data byte to the next. Where no report is wanted no job is followed.
@@ -363,11 +405,12 @@ fn play(
     out: &mut [u8],
     sectors: u8,
     area: &[u8],
+    longest: Row,
     wanted: bool,
     allowances: Allowances,
     report: Report,
 ) -> Ended
-    requires { ⌜ (allowed allowances ≡ true) × Playable (now script) (length (now out)) ⌝ }
+    requires { ⌜ (allowed allowances ≡ true) × Playable (now script) (length (now out)) × Known (now script) longest × WholePart sectors (length (now mem)) ⌝ }
     ensures { λ r. ⌜ Played (setting sectors (now (area .entry))) (whole «first_core» «first_frame» (now (load .entry)) (now (held .entry))) (now (mem .entry)) (now (script .entry)) (now (out .entry))
         (finished (whole (r .core) (r .frame) (now (load .exit)) (now (held .exit))) (r .written) (r .ticks)) (now (mem .exit)) (now (out .exit))
         × (wanted ≡ true
@@ -389,26 +432,42 @@ fn play(
     while at < script.len() {
         let kind = script[at] as u64;
         if kind == Kind::EXCHANGE {
-            let b = script[at + 1];
-            if frame::streams(frame) {
-                let data = frame::stream(frame, load, mem, sectors, b);
-                let given = data.said;
-                pos = put(out, pos, given);
-                frame = data.frame;
-                at += 2;
-                continue;
-            }
             let before = frame;
-            let e = frame::exchange(core, before, load, mem, sectors, area, b);
-            let heard = e.said;
-            pos = put(out, pos, heard);
-            frame = e.frame;
-            at += 2;
+            let went = rows::hear(
+                core,
+                before,
+                load,
+                mem,
+                sectors,
+                area,
+                script,
+                at,
+                out,
+                pos,
+                longest,
+            );
+            frame = went.frame;
+            pos = went.pos;
+            at = went.at;
             continue;
         }
         if kind == Kind::SELECT {
-            frame.selected = true;
-            at += 1;
+            let before = frame;
+            let went = rows::open(
+                core,
+                before,
+                load,
+                mem,
+                sectors,
+                script,
+                at,
+                out,
+                pos,
+                longest,
+            );
+            frame = went.frame;
+            pos = went.pos;
+            at = went.at;
             continue;
         }
         if !busy & (kind == Kind::TICKS) {
@@ -470,31 +529,51 @@ fn refuse(number: u8) -> Refused
     }
 }
 
-// What refuses a run on a chip that is legal or not, in the order of the definition; the number 0 for nothing.
-fn refuses(fine: bool, n: usize, extent: usize, script: &[u8], space: usize) -> Refused
-    ensures { λ r. ⌜ ((chip : ChipValue) → fine ≡ legal chip n → refusalOf (r .number) (r .offset) ≡ refusal chip n extent (now (script .entry)) space) ⌝ }
+// A refusal before the script is looked at.
+fn turned_down(number: u8, script: &[u8]) -> Checked
+    ensures { λ r. ⌜ (r .no ≡ record { number = number; offset = 0 }) × Known (now (script .entry)) (r .longest) ⌝ }
+{
+    Checked {
+        no: refuse(number),
+        longest: Row {
+            at: script.len(),
+            count: 0,
+        },
+    }
+}
+
+// What refuses a run on a chip that is legal or not, in the order of the definition, the number 0 for nothing; and the script's longest row of exchanges.
+fn refuses(fine: bool, n: usize, extent: usize, script: &[u8], space: usize) -> Checked
+    ensures { λ r. ⌜ ((chip : ChipValue) → fine ≡ legal chip n → refusalOf (r .no .number) (r .no .offset) ≡ refusal chip n extent (now (script .entry)) space) × Known (now (script .entry)) (r .longest) ⌝ }
 {
     if part::sectors_of(n) == 0 {
-        return refuse(1);
+        return turned_down(1, script);
     }
     if Part::LONGEST_AREA < extent {
-        return refuse(13);
+        return turned_down(13, script);
     }
     if !fine {
-        return refuse(2);
+        return turned_down(2, script);
     }
     if 65536 < script.len() {
-        return refuse(3);
+        return turned_down(3, script);
     }
     let found = scan(script);
     let bad = found.bad;
+    let longest = found.longest;
     if bad.number != 0 {
-        return bad;
+        return Checked {
+            no: bad,
+            longest: longest,
+        };
     }
     if space < found.room {
-        return refuse(7);
+        return turned_down(7, script);
     }
-    refuse(0)
+    Checked {
+        no: refuse(0),
+        longest: longest,
+    }
 }
 
 // The answer to a refused run.
@@ -533,7 +612,8 @@ pub fn run_with_report(
     }
     let n = mem.len();
     let fine = legal::is_legal(chip, n);
-    let no = refuses(fine, n, area.len(), script, out.len());
+    let checked = refuses(fine, n, area.len(), script, out.len());
+    let no = checked.no;
     if no.number != 0 {
         return Reported {
             ran: turned_away(chip, no),
@@ -552,6 +632,7 @@ pub fn run_with_report(
         out,
         part::sectors_of(n),
         area,
+        checked.longest,
         true,
         allowances,
         margins::start_from(report),
@@ -591,7 +672,8 @@ pub fn run(chip: Chip, mem: &mut [u8], area: &[u8], script: &[u8], out: &mut [u8
 {
     let n = mem.len();
     let fine = legal::is_legal(chip, n);
-    let no = refuses(fine, n, area.len(), script, out.len());
+    let checked = refuses(fine, n, area.len(), script, out.len());
+    let no = checked.no;
     if no.number != 0 {
         return turned_away(chip, no);
     }
@@ -614,6 +696,7 @@ pub fn run(chip: Chip, mem: &mut [u8], area: &[u8], script: &[u8], out: &mut [u8
         out,
         part::sectors_of(n),
         area,
+        checked.longest,
         false,
         none,
         no_report(),

@@ -14,7 +14,7 @@ use Rattle.part.specs.declared.Protected.{Protected}
 use Rattle.part.specs.declared.Protected.the-variants.{NoSector, Sectors}
 use Rattle.part.specs.Protection.{protectedCount, firstEnd, lastEnd, protectedSectors, protects, protectsAny, isProtected}
 use Rattle.part.specs.Laws.{no-ends, two-ends}
-use Rattle.commands.specs.Table.{rowOf, fitsRule, isRead, isProgram, writeEnable, writeDisable, suspend, resume, wake, deepPowerDown, reset}
+use Rattle.commands.specs.Table.{rowOf, fitsRule, isRead, isProgram, writeEnable, writeDisable, suspend, resume, wake, deepPowerDown, resetEnable, reset}
 use Rattle.chip.specs.declared.Core.{Core}
 use Rattle.chip.specs.declared.Frame.{Frame}
 use Rattle.chip.specs.declared.Job.{Job}
@@ -22,7 +22,7 @@ use Rattle.chip.specs.declared.JobKind.{JobKind}
 use Rattle.chip.specs.declared.JobKind.the-variants.{Idle, WriteStatus, Program, SmallErase, SectorErase, ChipErase}
 use Rattle.chip.specs.declared.Record.{Record}
 use Rattle.chip.specs.declared.Record.the-variants.{Verdict, InTheWay}
-use Rattle.chip.specs.Fields.{withWen, withSuspended, withWaiting, withDeep}
+use Rattle.chip.specs.Fields.{withWen, withSuspended, withWaiting, withDeep, withArmed}
 use Rattle.chip.specs.Job.{isJob, hasCells}
 use Rattle.chip.specs.Chip.{bitsOf, blankLoad}
 use Rattle.chip.specs.Record.{recordBytes}
@@ -217,6 +217,25 @@ module _ (S : ℕ) (k : Core) (f : Frame) (v : ℕ) (not-begun : v ≡ 2 → ⊥
   pub settled-same : (settled S k f v .job ≡ k .job) × (bitsOf (settled S k f v) ≡ bitsOf k)
   unfolding settled
   settled-same = cond-either Same (eqb (f .count) 0) _ _ (λ _. (refl, refl)) (λ _. acted-same)
+
+-- ---- a read
+
+-- the verdict on a read that is allowed where it stands is 0, loose or not
+pub verdict-read : (S : ℕ) (k : Core) (f : Frame) (loose : Bool) → f .judgement ≡ 0 → judge k (f .opcode) ≡ 0 → isRead (f .opcode) ≡ true → verdict S k f loose ≡ 0
+unfolding verdict listed
+verdict-read S k f loose unjudged allowed read =
+    cond-either (λ (v : ℕ). v ≡ 0) (eqb (f .count) 0) _ _ (λ _. refl)
+    (λ _. cond-no (not (eqb (f .judgement) 0)) _ _ (ap not (eq-eqb _ _ unjudged)) ∙ cond-no (not (eqb (judge k (f .opcode)) 0)) _ _ (ap not (eq-eqb _ _ allowed)) ∙ cond-yes (isRead (f .opcode)) _ _ read)
+
+-- verdict 0 leaves a core that is not armed as it was
+pub settled-read : (S : ℕ) (k : Core) (f : Frame) → k .armed ≡ false → settled S k f 0 ≡ k
+unfolding settled acted
+settled-read S k f unarmed =
+    cond-either (λ (q : Core). q ≡ k) (eqb (f .count) 0) _ _ (λ _. refl) (λ _. ap (λ (b : Bool). withArmed b k) (and-false (eqb (f .opcode) resetEnable) ∙ sym unarmed))
+  where
+    and-false : (b : Bool) → (b && false) ≡ false
+    and-false true = refl
+    and-false false = refl
 
 -- ---- the job's load
 
