@@ -1,5 +1,5 @@
 -- What is true of exchanges in a row: one by one, where each stands, and that a row can be cut anywhere.
-use Prim.Native.Nat.{ℕ, zero, suc, _+_, _*_, _<_, _≤_, _%_, min}
+use Prim.Native.Nat.{ℕ, zero, suc, _+_, _*_, _<_, _≤_, _%_}
 use mathlib.Core.Bool.{Bool, true, false, cond, _&&_}
 use mathlib.Core.List.{List}
 use mathlib.Core.Path.{_≡_, refl, sym, ap, _∙_}
@@ -8,7 +8,7 @@ use native.Mathlib.Omega.{arith}
 use lib.Dec.{eqb, ltb, leb}
 use lib.ListN.{length, getD}
 use lib.Bits.{bitAnd, bitOr, bitXor, or-mod, xor-mod, or-add-and, xor-add-and, and-le-l, and-le-r}
-use borrow.Author.Tests.{eqb-true, eq-eqb, ne-eqb, ltb-true, lt-ltb, leb-true, leb-false, le-leb, lt-leb}
+use borrow.Author.Tests.{eqb-true, eq-eqb, ltb-true, lt-ltb, leb-true, leb-false, le-leb, lt-leb}
 use Rattle.cells.specs.Choice.{cond-yes, cond-no, cond-either, and-left, and-right, and-both, and-true}
 use Rattle.kinds.specs.Kinds.{EXCHANGE}
 use Rattle.kinds.specs.Row.{isExchange, row, exchangesFrom}
@@ -110,33 +110,15 @@ row-longer s at i = pick (leb i (exchangesFrom s at)) (isExchange s (at + 2 * i)
 pub row-reach : (s : List ℕ) (at n : ℕ) → n ≤ exchangesFrom s at → getD s (at + 2 * n) 0 ≡ EXCHANGE → at + 2 * n + 1 < length s → n + 1 ≤ exchangesFrom s at
 row-reach s at n h kind whole = omega (arith, row-part s at n h, row-more s (at + 2 * n) (and-both _ _ (eq-eqb _ _ kind) (lt-ltb _ _ whole)))
 
--- behind n of a row the script has no room for another, or another kind: the row has just these
-pub row-cut : (s : List ℕ) (at n : ℕ) → n ≤ exchangesFrom s at → length s ≤ at + 2 * n + 1 → exchangesFrom s at ≡ n
-row-cut s at n h cut = pick (isExchange s (at + 2 * n)) refl
+-- where another kind stands, the row is no longer
+pub row-stops : (s : List ℕ) (at j place : ℕ) → place ≡ at + 2 * j → (getD s place 0 ≡ EXCHANGE → ⊥) → exchangesFrom s at ≤ j
+row-stops s at j place e other = pick (leb (j + 1) (exchangesFrom s at)) refl
   where
-    pick : (b : Bool) → isExchange s (at + 2 * n) ≡ b → exchangesFrom s at ≡ n
-    pick true e = absurd (past (ltb-true _ _ (and-right (eqb (getD s (at + 2 * n) 0) EXCHANGE) _ e)))
-      where
-        past : at + 2 * n + 1 < length s → ⊥
-        past l = omega arith
-    pick false e = omega (arith, row-part s at n h, row-ends s (at + 2 * n) e)
+    pick : (b : Bool) → leb (j + 1) (exchangesFrom s at) ≡ b → exchangesFrom s at ≤ j
+    pick true p = absurd (other (ap (λ (i : ℕ). getD s i 0) e ∙ row-each s at j (omega (arith, leb-true (j + 1) (exchangesFrom s at) p))))
+    pick false p = omega (arith, leb-false (j + 1) (exchangesFrom s at) p)
 
-pub row-stops : (s : List ℕ) (at n : ℕ) → n ≤ exchangesFrom s at → (getD s (at + 2 * n) 0 ≡ EXCHANGE → ⊥) → exchangesFrom s at ≡ n
-row-stops s at n h other =
-    let none = row-ends s (at + 2 * n) (ap (λ (b : Bool). b && ltb (at + 2 * n + 1) (length s)) (ne-eqb _ _ other)) in
-    omega (arith, row-part s at n h, none)
-
--- where four stand, and k behind them: all these are of the row, and end inside the script
-pub row-four : (s : List ℕ) (at first k : ℕ) → at < length s → first ≡ min 4 (exchangesFrom s at) → 4 ≤ first → k ≤ exchangesFrom s (at + 2 * 4) → (4 + k ≤ exchangesFrom s at) × (at + 2 * (4 + k) ≤ length s)
-row-four s at first k inside e four h =
-    let all : 4 + k ≤ exchangesFrom s at = omega (arith, row-part s at 4 (omega arith)) in
-    (all, omega (arith, row-inside s at (omega arith)))
-
--- and fewer than sixteen behind those: they are the rest of it
-pub row-rest : (s : List ℕ) (at k rest : ℕ) → 4 + k ≤ exchangesFrom s at → exchangesFrom s (at + 2 * 4) < k + 16 → rest ≡ min 16 (exchangesFrom s (at + 2 * (4 + k))) → 4 + k + rest ≡ exchangesFrom s at
-row-rest s at k rest h few e = omega (arith, row-part s at 4 (omega arith), row-part s at (4 + k) h)
-
--- ---- sixteen at once
+-- ---- many at once
 
 -- two tests that mean each other are the same
 same-test : (x y : Bool) → (x ≡ true → y ≡ true) → (y ≡ true → x ≡ true) → x ≡ y

@@ -1,6 +1,6 @@
 // The kinds of events: their names, their bodies, what they can say; and where in a script a body stands.
 ghost use mathlib.Core.Path.{_≡_};
-ghost use Prim.Native.Nat.{_+_, _<_, _≤_, min};
+ghost use Prim.Native.Nat.{_+_, _*_, _<_, _≤_, min};
 ghost use lib.Dec.{leb};
 ghost use lib.ListN.{length};
 ghost use Rattle.kinds.specs.Kinds.{knownKind, knownInScript, bodyLength, inRange, yields, roomOf, mostRoom};
@@ -126,34 +126,34 @@ pub fn next_at(s: &[u8], at: usize) -> usize
     at + 1 + body_length(s[at] as u64)
 }
 
-// How many whole exchanges stand in a row from an offset on, but no more than `most`: looked at one by one.
-fn few_from(s: &[u8], at: usize, most: usize) -> usize
-    requires { ⌜ at ≤ length (now s) ⌝ }
+// How many whole exchanges stand in a row from an offset on, but no more than `most`: counted one by one, where `known` stand there anyway.
+fn few_from(s: &[u8], at: usize, known: usize, most: usize) -> usize
+    requires { ⌜ (at ≤ length (now s)) × (known ≤ exchangesFrom (now s) at) × (known ≤ most) ⌝ }
     ensures { λ r. ⌜ r ≡ min most (exchangesFrom (now (s .entry)) at) ⌝ }
 {
-    let mut n = 0;
-    while n < most {
-        let here = at + 2 * n;
+    let mut count = known;
+    while count < most {
+        let here = at + 2 * count;
         // A kind without its byte is no whole exchange.
         if s.len() - here < 2 {
-            return n;
+            return count;
         }
         if s[here] as u64 != Kind::EXCHANGE {
-            return n;
+            return count;
         }
-        n += 1;
+        count += 1;
     }
-    n
+    count
 }
 
-// Whether sixteen exchanges stand in a row at an offset. There is no way out of the loop, so that the compiler takes eight pairs at once.
-fn sixteen_at(s: &[u8], at: usize) -> bool
-    requires { ⌜ at + 32 ≤ length (now s) ⌝ }
-    ensures { λ r. ⌜ r ≡ leb 16 (exchangesFrom (now (s .entry)) at) ⌝ }
+// Whether n exchanges stand in a row at an offset. There is no way out of the loop, so that the compiler takes eight pairs at once.
+fn all_at(s: &[u8], at: usize, n: usize) -> bool
+    requires { ⌜ at + 2 * n ≤ length (now s) ⌝ }
+    ensures { λ r. ⌜ r ≡ leb n (exchangesFrom (now (s .entry)) at) ⌝ }
 {
     let mut odd: u16 = 0;
     let mut i = 0;
-    while i < 16 {
+    while i < n {
         // The kind is the low byte, and the body the high one, which drops out at the end.
         let pair = (s[at + 2 * i] as u16) + 256 * (s[at + 2 * i + 1] as u16);
         odd = odd | (pair ^ (Kind::EXCHANGE as u16));
@@ -162,33 +162,38 @@ fn sixteen_at(s: &[u8], at: usize) -> bool
     odd % 256 == 0
 }
 
-// How many exchanges stand in a row from an offset on, counted by sixteens: fewer than sixteen are left.
-fn sixteens_from(s: &[u8], at: usize) -> usize
-    requires { ⌜ at ≤ length (now s) ⌝ }
-    ensures { λ r. ⌜ (r ≤ exchangesFrom (now (s .entry)) at) × (exchangesFrom (now (s .entry)) at < r + 16) ⌝ }
+// How many exchanges stand in a row from an offset on, counted in blocks of n, where `known` stand there anyway: fewer than n are left.
+fn blocks_from(s: &[u8], at: usize, known: usize, n: usize) -> usize
+    requires { ⌜ (at ≤ length (now s)) × (known ≤ exchangesFrom (now s) at) × (0 < n) × (n ≤ 64) ⌝ }
+    ensures { λ r. ⌜ (r ≤ exchangesFrom (now (s .entry)) at) × (exchangesFrom (now (s .entry)) at < r + n) ⌝ }
 {
-    let mut n = 0;
-    while 32 <= s.len() - (at + 2 * n) {
-        if !sixteen_at(s, at + 2 * n) {
-            return n;
+    let mut count = known;
+    while 2 * n <= s.len() - (at + 2 * count) {
+        let here = at + 2 * count;
+        // Where the last kind of a block is no exchange, the row ends in this block.
+        if s[here + 2 * n - 2] as u64 != Kind::EXCHANGE {
+            return count;
         }
-        n += 16;
+        if !all_at(s, here, n) {
+            return count;
+        }
+        count += n;
     }
-    n
+    count
 }
 
-// How many whole exchanges stand in a row from an offset of a script on. Most rows are short or long: the first four are looked at one by one, then sixteen at a time.
+// How many whole exchanges stand in a row from an offset of a script on. Most rows are short or long: the first four are counted one by one, then 64 at a time, then 16.
 pub fn exchanges_from(s: &[u8], at: usize) -> usize
     ensures { λ r. ⌜ r ≡ exchangesFrom (now (s .entry)) at ⌝ }
 {
     if s.len() <= at {
         return 0;
     }
-    let first = few_from(s, at, 4);
+    let first = few_from(s, at, 0, 4);
     if first < 4 {
         return first;
     }
-    let sixteens = sixteens_from(s, at + 2 * 4);
-    let rest = few_from(s, at + 2 * (4 + sixteens), 16);
-    4 + sixteens + rest
+    let large = blocks_from(s, at, first, 64);
+    let small = blocks_from(s, at, large, 16);
+    few_from(s, at, small, small + 16)
 }

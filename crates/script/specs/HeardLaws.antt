@@ -7,7 +7,8 @@ use native.Mathlib.Nat.{add-zero, add-suc}
 use native.Mathlib.Omega.{arith}
 use lib.Dec.{eqb, ltb}
 use lib.ListN.{length, getD, length-append}
-use Rattle.part.specs.Part.{Setting, lengthOf}
+use Rattle.part.specs.Part.{permitted, sectorsIn, Setting, lengthOf}
+use Rattle.part.specs.Laws.{permitted-whole, permitted-length, permitted-some}
 use Rattle.kinds.specs.Kinds.{SELECT, EXCHANGE, DESELECT, STAMP, TICK, roomOf, saysOf, kindRow, kindRowIn}
 use Rattle.kinds.specs.Body.{bodyAt, nextAt}
 use Rattle.clock.specs.declared.Clock.{Clock}
@@ -26,7 +27,13 @@ use Rattle.script.specs.Jobs.{Followed, tickByTick, stands, isTwo, jobs}
 use Rattle.script.specs.Watch.{ticking}
 use Rattle.script.specs.Laws.{select-next, exchange-body, exchange-next, clean-later, room-more, runs-more, clock-stays}
 use Rattle.script.specs.WatchLaws.{isOn, not-ticking, jobs-plain, jobs-stay, line-not-two}
-use Rattle.script.specs.Heard.{Heard}
+use Rattle.script.specs.Heard.{Heard, WholePart}
+
+-- a part of a permitted length
+pub whole-part : (S n : ℕ) → permitted n ≡ true → S ≡ sectorsIn n → WholePart S n
+whole-part S n p e =
+    let cells : lengthOf S ≡ n = ap lengthOf e ∙ permitted-whole n p in
+    record { sectors = cells; some = omega (arith, cells, e, permitted-some n p); most = permitted-length n p }
 
 -- no event at all
 pub heard-none : (T : Setting) (s m : List ℕ) (at : ℕ) (c : Chip) → at ≤ length s → Heard T s m at c at c []

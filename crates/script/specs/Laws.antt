@@ -7,9 +7,10 @@ use native.Mathlib.Nat.{add-zero}
 use native.Mathlib.Omega.{arith}
 use native.Mathlib.Decide.{ℕ-discrete}
 use lib.Dec.{eqb, ltb, leb}
-use lib.ListN.{length, getD, take, drop}
+use lib.ListN.{length, getD, take, drop, take-append-drop}
+use lib.Seq.{sets-eq}
 use borrow.Author.Tests.{eq-eqb, ne-eqb, eqb-true, eqb-false, lt-ltb, le-ltb, lt-leb, le-leb, ltb-false}
-use Rattle.cells.specs.Choice.{cond-yes, cond-no, and-right, not-so, chosen-number}
+use Rattle.cells.specs.Choice.{cond-yes, cond-no, and-left, and-right, not-so, chosen-number}
 use Rattle.cells.specs.Put.{Put}
 use Rattle.cells.specs.PutLaws.{put-between}
 use Rattle.part.specs.Part.{permitted, sectorsIn, Setting, setting}
@@ -242,14 +243,14 @@ pub stamp-next : (s : List ℕ) (at : ℕ) → getD s at 0 ≡ STAMP → nextAt 
 unfolding kindRow kindRowIn
 stamp-next s at e = ap (λ (kind : ℕ). at + 1 + bodyLength kind) e ∙ omega arith
 
--- a whole 05h is good exactly if its body is in range
-pub ticks-good : (k : Clock) (s : List ℕ) (at : ℕ) → getD s at 0 ≡ TICKS → nextAt s at ≤ length s → eqb (faultBy k (eventAt s at)) 0 ≡ inRange TICKS (bodyAt s at)
-unfolding knownInScript kindRow kindRowIn
-ticks-good k s at e whole = go (inRange (getD s at 0) (bodyAt s at)) refl ∙ ap (λ (kind : ℕ). inRange kind (bodyAt s at)) e
+-- a whole event of a kind that is no stamp is good exactly if its body is in range
+pub kind-good : (k : Clock) (s : List ℕ) (at kind : ℕ) → knownInScript kind ≡ true → eqb kind STAMP ≡ false → getD s at 0 ≡ kind → nextAt s at ≤ length s
+    → eqb (faultBy k (eventAt s at)) 0 ≡ inRange kind (bodyAt s at)
+kind-good k s at kind known other e whole = go (inRange (getD s at 0) (bodyAt s at)) refl ∙ ap (λ (q : ℕ). inRange q (bodyAt s at)) e
   where
     go : (ranged : Bool) → inRange (getD s at 0) (bodyAt s at) ≡ ranged → eqb (faultBy k (eventAt s at)) 0 ≡ ranged
-    go true r = ap (λ (fault : ℕ). eqb fault 0) (fault-none-other k s at (ap knownInScript e) whole r (λ stamp. omega (arith, e, stamp)))
-    go false r = ap (λ (fault : ℕ). eqb fault 0) (fault-six k s at (ap knownInScript e) whole r)
+    go true r = ap (λ (fault : ℕ). eqb fault 0) (fault-none-other k s at (ap knownInScript e ∙ known) whole r (λ stamp. false≢true (sym other ∙ eq-eqb kind STAMP (sym e ∙ stamp))))
+    go false r = ap (λ (fault : ℕ). eqb fault 0) (fault-six k s at (ap knownInScript e ∙ known) whole r)
 
 -- a whole stamp exactly if it did not go back
 pub stamp-good : (k : Clock) (s : List ℕ) (at : ℕ) → getD s at 0 ≡ STAMP → nextAt s at ≤ length s → bodyAt s at ≤ 65535 → eqb (faultBy k (eventAt s at)) 0 ≡ not (wentBack k (bodyAt s at))
@@ -280,6 +281,26 @@ exchange-room s at e h =
     ∙ ap (λ (kind : ℕ). roomOf kind + room (eventsFrom s (nextAt s at))) e
     ∙ ap (λ (next : ℕ). roomOf EXCHANGE + room (eventsFrom s next)) (exchange-next s at e)
 
+-- ---- a good event passed
+
+-- what a look through the script finds is found behind an event of a kind that nothing refuses and that is no stamp; its room is the kind's
+pub record Passed (k : Clock) (s : List ℕ) (at kind n : ℕ) : Type 0 where
+  pub inside : at + n ≤ length s
+  pub bad-behind : firstBad k (eventsFrom s at) ≡ firstBad k (eventsFrom s (at + n))
+  pub room-behind : room (eventsFrom s at) ≡ roomOf kind + room (eventsFrom s (at + n))
+
+pub passed : (k : Clock) (s : List ℕ) (at kind n : ℕ) → at < length s → eqb kind STAMP ≡ false → 1 + bodyLength kind ≡ n → (eqb (getD s at 0) kind && eqb (faultBy k (eventAt s at)) 0) ≡ true → Passed k s at kind n
+passed k s at kind n more other long good =
+    let e : getD s at 0 ≡ kind = eqb-true _ _ (and-left (eqb (getD s at 0) kind) (eqb (faultBy k (eventAt s at)) 0) good) in
+    let z : faultBy k (eventAt s at) ≡ 0 = eqb-true _ _ (and-right (eqb (getD s at 0) kind) (eqb (faultBy k (eventAt s at)) 0) good) in
+    let next : nextAt s at ≡ at + n = omega (arith, ap bodyLength e) in
+    let same : clockAfter k (eventAt s at) ≡ k = clock-stays k (eventAt s at) (ap (λ (q : ℕ). eqb q STAMP) e ∙ other) in
+    record {
+      inside = omega (arith, next, good-event s at (clean-event k (eventAt s at) z .as-written) .inside);
+      bad-behind = firstBad-later k s at more z ∙ (λ i. firstBad (same i) (eventsFrom s (next i)));
+      room-behind = room-more s at more ∙ (λ i. roomOf (e i) + room (eventsFrom s (next i)));
+    }
+
 -- ---- records
 
 -- a record is stored when its bytes are put
@@ -290,6 +311,18 @@ stored-as {o} {o′} {p} {p′} {bs} said is put fit =
       end = put .end ∙ sym (ap (λ (row : List ℕ). p + length row) is);
       before = between .0 ∙ ap (λ (row : List ℕ). take p o ++ row) (sym is);
       beyond = between .1;
+    }
+
+-- and the other way round: what is stored is put
+pub stored-put : (o o′ : List ℕ) (p p′ : ℕ) (said : Record) → Stored o p said p′ o′ → p + length (recordBytes said) ≤ length o → Put o p (recordBytes said) p′ o′
+stored-put o o′ p p′ said st fit =
+    record {
+      end = st .end;
+      buffer =
+          sym (take-append-drop p′ o′)
+          ∙ (λ i. st .before i ++ st .beyond i)
+          ∙ ap (λ (q : ℕ). take p o ++ recordBytes said ++ drop q o) (st .end)
+          ∙ sym (sets-eq (recordBytes said) o p fit);
     }
 
 -- no bytes, wherever the place is

@@ -1,14 +1,14 @@
 -- What is heard of a whole frame of a read of cells: its header floats, cell after cell is driven, its verdict is 0, and the chip is as it was.
-use Prim.Native.Nat.{ℕ, _+_, _*_, _-_, _<_, _≤_}
+use Prim.Native.Nat.{ℕ, zero, suc, _+_, _*_, _-_, _<_, _≤_}
 use mathlib.Core.Bool.{Bool, true, false, cond, not, _&&_, true≢false}
 use mathlib.Core.List.{List, [], _++_, append-assoc}
 use mathlib.Core.Path.{_≡_, refl, sym, ap, subst, _∙_}
 use native.Mathlib.Omega.{arith}
 use native.Mathlib.Decide.{ℕ-discrete}
 use lib.Dec.{eqb, ltb}
-use lib.ListN.{length, getD}
+use lib.ListN.{length, getD, length-append}
 use borrow.Author.Tests.{eqb-true, ne-eqb, eq-eqb, not-true}
-use Rattle.cells.specs.Choice.{cond-yes, cond-no, and-left, and-right}
+use Rattle.cells.specs.Choice.{cond-no, cond-either, and-left, and-right}
 use Rattle.part.specs.Part.{Setting, lengthOf, reduced}
 use Rattle.commands.specs.Table.{rowIn, rowOf, isRead, isProgram, lowPowerRead, highSpeedRead}
 use Rattle.kinds.specs.Kinds.{SELECT, DESELECT, kindRow, kindRowIn}
@@ -25,6 +25,7 @@ use Rattle.chip.specs.Record.{recordBytes}
 use Rattle.frame.specs.Frame.{judge, counted, shifted, opened, exchange, taken, exchanged}
 use Rattle.frame.specs.Laws.{exchanged-opcode}
 use Rattle.frame.specs.Stream.{streams, readOn, cellsOn}
+use Rattle.frame.specs.RowLaws.{cells-length}
 use Rattle.event.specs.Laws.{deselect-read, applied-deselect}
 use Rattle.script.specs.Watch.{ticking}
 use Rattle.script.specs.Laws.{deselect-next}
@@ -81,6 +82,25 @@ high =
 -- three bytes shifted in are the address, whatever was there
 shifted-three : (A a b c : ℕ) → a < 256 → b < 256 → c < 256 → shifted (shifted (shifted A a) b) c ≡ a * 65536 + b * 256 + c
 shifted-three A a b c p q r = omega arith
+
+-- ---- its records
+
+-- a header has four bytes, or five
+pub header-least : (opcode : ℕ) → 0 < headerOf opcode → 4 ≤ headerOf opcode
+header-least opcode =
+    cond-either (λ (n : ℕ). 0 < n → 4 ≤ n) (eqb opcode lowPowerRead) _ _ (λ _ _. omega arith)
+    (λ _. cond-either (λ (n : ℕ). 0 < n → 4 ≤ n) (eqb opcode highSpeedRead) _ _ (λ _ _. omega arith) (λ _ none. absurd (omega arith)))
+
+pub floats-length : (n : ℕ) → length (floats n) ≡ n
+unfolding floats
+floats-length zero = refl
+floats-length (suc n) = length-append (floats n) _ ∙ omega (arith, floats-length n)
+
+pub records-length : (S : ℕ) (s m : List ℕ) (at n : ℕ) → length (frameRecords S s m at n) ≡ headerOf (getD s (at + 2) 0) + 2 * (n - headerOf (getD s (at + 2) 0)) + 2
+records-length S s m at n =
+    let h : ℕ = headerOf (getD s (at + 2) 0) in
+    let cells : List ℕ = cellsOn m (length m) (firstCell S s at) (n - h) in
+    omega (arith, length-append (floats h ++ cells) (recordBytes (Verdict 0)), length-append (floats h) cells, floats-length h, cells-length m (length m) (firstCell S s at) (n - h))
 
 -- ---- the frame
 

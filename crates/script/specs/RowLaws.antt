@@ -5,12 +5,15 @@ use mathlib.Core.List.{List}
 use mathlib.Core.Path.{_≡_, refl, sym, ap, subst, _∙_}
 use native.Mathlib.Nat.{add-zero}
 use native.Mathlib.Omega.{arith}
+use lib.Dec.{eqb, ltb}
 use lib.ListN.{length, getD}
+use borrow.Author.Tests.{eq-eqb, lt-ltb}
+use Rattle.cells.specs.Choice.{and-both}
 use Rattle.part.specs.Part.{Setting, lengthOf}
 use Rattle.commands.specs.Table.{isProgram}
-use Rattle.kinds.specs.Kinds.{EXCHANGE, roomOf}
+use Rattle.kinds.specs.Kinds.{EXCHANGE, roomOf, kindRow, kindRowIn}
 use Rattle.kinds.specs.Row.{exchangesFrom}
-use Rattle.kinds.specs.RowLaws.{row-each, row-part, row-inside}
+use Rattle.kinds.specs.RowLaws.{row-more, row-each, row-inside}
 use Rattle.clock.specs.declared.Clock.{Clock}
 use Rattle.chip.specs.declared.Chip.{Chip}
 use Rattle.chip.specs.declared.Frame.{Frame}
@@ -27,6 +30,10 @@ use Rattle.script.specs.HeardLaws.{heard-none, heard-then, heard-exchang
 -- every byte of a script is one
 abbrev pub Bytes : List ℕ → Type 0
 Bytes s = (i : ℕ) → getD s i 0 < 256
+
+-- a whole exchange is a row
+pub row-some : (s : List ℕ) (at : ℕ) → getD s at 0 ≡ EXCHANGE → at + 2 ≤ length s → 0 < exchangesFrom s at
+row-some s at is inside = omega (arith, row-more s at (and-both (eqb (getD s at 0) EXCHANGE) (ltb (at + 1) (length s)) (eq-eqb _ _ is) (lt-ltb (at + 1) (length s) (omega arith))))
 
 module _ (s : List ℕ) (bytes : Bytes s) (at : ℕ) (from : at ≤ length s) where
   -- the exchange behind n of the row is whole
@@ -54,6 +61,11 @@ module _ (s : List ℕ) (bytes : Bytes s) (at : ℕ) (from : at ≤ length s) wh
       let one = exchange-room s (at + 2 * n) (row-each s at n (omega arith)) (omega arith) in
       let next = ap (λ (q : ℕ). room (eventsFrom s q)) (nth-next n) in
       omega (arith, row-room n (omega arith), one, next)
+
+  -- in numbers
+  pub row-rooms : (n : ℕ) → n ≤ exchangesFrom s at → 2 * n ≤ room (eventsFrom s at)
+  unfolding kindRow kindRowIn
+  row-rooms n h = omega (arith, row-room n h)
 
   -- where it reads cells, cell after cell is driven
   pub heard-row : (T : Setting) (m : List ℕ) (c : Chip) → streams (c .frame) ≡ true → isProgram (c .frame .opcode) ≡ false → (n : ℕ) → n ≤ exchangesFrom s at

@@ -453,7 +453,7 @@ fn play(
         }
         if kind == Kind::SELECT {
             let before = frame;
-            let went = rows::open(
+            let went = rows::select(
                 core,
                 before,
                 load,

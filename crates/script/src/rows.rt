@@ -186,7 +186,7 @@ fn put_frame(
     at: usize,
     n: usize,
 ) -> usize
-    requires { ⌜ WholeRead (now script) at n × (lengthOf sectors ≡ length (now mem)) × (0 < length (now mem)) × (n ≤ length (now mem)) × (pos + 2 * n + 2 ≤ length (now out)) ⌝ }
+    requires { ⌜ WholeRead (now script) at n × (lengthOf sectors ≡ length (now mem)) × (0 < length (now mem)) × (n ≤ length (now mem)) × (pos + length (frameRecords sectors (now script) (now mem) at n) ≤ length (now out)) ⌝ }
     ensures { λ r. ⌜ Put (now (out .entry)) pos (frameRecords sectors (now (script .entry)) (now (mem .entry)) at n) r (now (out .exit)) ⌝ }
 {
     let header = header_of(script[at + 2]);
@@ -198,7 +198,7 @@ fn put_frame(
 }
 
 // A select: the whole frame of a read, if it is one that stands there, or else the opened frame.
-pub fn open(
+pub fn select(
     core: Core,
     frame: Frame,
     load: &mut [u8; 256],

@@ -1,4 +1,4 @@
--- `kinds::sixteen_at` meets its contract. What is gathered has the low byte 0 as long as the row goes on (`pair-longer`).
+-- `kinds::all_at` meets its contract. What is gathered has the low byte 0 as long as the row goes on (`pair-longer`).
 use borrow.Author.Tests.{le-leb}
 use Prim.Native.Nat.{_≤_, _+_, _*_, _-_, _%_, ℕ, zero-le}
 use mathlib.Core.Path.{_≡_, sym, _∙_, ap}
@@ -7,14 +7,14 @@ use lib.Dec.{eqb, leb}
 use Rattle.kinds.specs.Row.{exchangesFrom}
 use Rattle.kinds.specs.RowLaws.{pair-longer}
 use borrow.Author.Needs.{needs}
-use Rattle.kinds.proofs.sixteen_at.Statement.{statement}
-use Rattle.kinds.proofs.sixteen_at.Tie as tie
+use Rattle.kinds.proofs.all_at.Statement.{statement}
+use Rattle.kinds.proofs.all_at.Tie as tie
 
 abbrev Inv-loop : tie.InvT-loop
-Inv-loop s at odd₀ i₀ odd i = (i ≤ 16) × (eqb (odd % 256) 0 ≡ leb i (exchangesFrom s at))
+Inv-loop s at n odd₀ i₀ odd i = (i ≤ n) × (eqb (odd % 256) 0 ≡ leb i (exchangesFrom s at))
 
 abbrev μ-loop : tie.MeasureT-loop
-μ-loop s at odd₀ i₀ odd i = 16 - i
+μ-loop s at n odd₀ i₀ odd i = n - i
 
 loop-holds : tie.Need-loop-holds Inv-loop μ-loop
 loop-holds c = (search needs, sym (le-leb 0 (exchangesFrom (c .args .s .now) (c .args .at)) zero-le))
@@ -66,11 +66,11 @@ loop-again c = (search needs, pair-longer (c .before .before .before .before .ar
 
 returns : tie.Need-returns Inv-loop μ-loop
 returns c =
-    let all : c .before .loop .i ≡ 16 = omega arith in
+    let all : c .before .loop .i ≡ c .before .before .args .n = omega arith in
     c .before .loop .inv .1 ∙ ap (λ (i : ℕ). leb i (exchangesFrom (c .before .before .args .s .now) (c .before .before .args .at))) all
 
-pub sixteen-at-spec : {M : Type 1} → statement M
-sixteen-at-spec =
+pub all-at-spec : {M : Type 1} → statement M
+all-at-spec =
     tie.close
     (tie.spec
     Inv-loop
