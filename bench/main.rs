@@ -1,4 +1,4 @@
-// The engine against the plain Rust model: the same cases on both, compared, then timed as ratios.
+// The engine against the plain Rust models: the same cases on each, compared, then timed as ratios.
 
 #[allow(dead_code)]
 #[path = "../compare/bench.rs"]
@@ -21,6 +21,7 @@ mod event;
 #[allow(dead_code)]
 #[path = "../compare/expected.rs"]
 mod expected;
+mod frame_times;
 #[allow(dead_code)]
 #[path = "../compare/generate.rs"]
 mod generate;
@@ -41,6 +42,9 @@ mod promise;
 #[allow(dead_code)]
 #[path = "../compare/protection.rs"]
 mod protection;
+mod read_cases;
+mod read_times;
+mod reads;
 #[path = "../compare/rng.rs"]
 mod rng;
 #[allow(dead_code)]
@@ -77,25 +81,35 @@ const IDLE: usize = 20_000;
 const WORKED: usize = 8_000;
 /// Scripts of the cases of one frame a script.
 const SHORT: usize = 1_000;
+/// The seed of what memory holds when a case starts.
+const NOISE: u64 = 1;
 
 /// The events of a job: write enable, its frame, and its ticks.
 fn job(bytes: Vec<u8>, ticks: u64) -> Vec<Event> {
     [frame_of([0x06]), frame_of(bytes), vec![(kind::TICKS, ticks)]].concat()
 }
 
-/// The events of as many page programs of so many bytes as a script has room for.
-fn programs(bytes: usize) -> Vec<Event> {
-    let mut events = Vec::new();
-    for page in 0_u32.. {
-        let [_, _, high, low] = (page * 256).to_be_bytes();
-        let data = (0..bytes).map(|at| (at + page as usize) as u8);
-        let more = job([0x02, 0, high, low].into_iter().chain(data).collect(), 16);
-        if script_of(&events).len() + script_of(&more).len() > LONGEST {
+/// The events of as many parts, each made from its number, as a script has room for.
+fn as_many_as_fit(part: impl Fn(usize) -> Vec<Event>) -> Vec<Event> {
+    let (mut events, mut length) = (Vec::new(), 0);
+    for number in 0.. {
+        let more = part(number);
+        length += script_of(&more).len();
+        if length > LONGEST {
             break;
         }
         events.extend(more);
     }
     events
+}
+
+/// The events of as many page programs of so many bytes as a script has room for.
+fn programs(bytes: usize) -> Vec<Event> {
+    as_many_as_fit(|page| {
+        let [.., high, low] = (page * 256).to_be_bytes();
+        let data = (0..bytes).map(|at| (at + page) as u8);
+        job([0x02, 0, high, low].into_iter().chain(data).collect(), 16)
+    })
 }
 
 /// The events of a mixed script of the longest length, by the random scenes of compare/.
@@ -120,17 +134,20 @@ fn worked(ticks: Vec<Event>) -> Vec<Event> {
     [frame_of([0x06]), frame_of([0x60]), ticks].concat()
 }
 
+/// A step of one run, its room being that of refusal 7 and some bytes more or less.
+fn run_step(script: Vec<u8>, spare: i64) -> Step {
+    Step::Run { script, spare, length: None, allowances: None }
+}
+
 /// A case of one run over a memory of so many sectors.
 fn run(words: &'static str, sectors: usize, events: &[Event], target: Option<f64>) -> Row {
-    let (script, length, allowances) = (script_of(events), None, None);
-    let steps = vec![Step::Run { script, spare: 0, length, allowances }];
-    row(words, sectors, steps, target)
+    row(words, sectors, vec![run_step(script_of(events), 0)], target)
 }
 
 /// A case of many short scripts over one sector, each a frame of these bytes.
 fn short(words: &'static str, bytes: &[u8]) -> Row {
-    let (script, length, allowances) = (script_of(&frame_of(bytes.iter().copied())), None, None);
-    row(words, 1, vec![Step::Run { script, spare: 0, length, allowances }; SHORT], None)
+    let script = script_of(&frame_of(bytes.iter().copied()));
+    row(words, 1, vec![run_step(script, 0); SHORT], None)
 }
 
 /// A case of one erase of so many bytes of the 2 MiB part, held to a plain fill.
@@ -145,11 +162,15 @@ fn single(words: &'static str, events: &[Event], lent: bool) -> Row {
     row(words, 1, events.iter().map(step).collect(), None)
 }
 
-/// A case on a fresh chip with an empty SFDP area.
+/// The steps of a case on a fresh chip with an empty SFDP area.
+fn fresh_case(sectors: usize, steps: Vec<Step>) -> Case {
+    let (length, start, content) = (sectors * Chip::SECTOR, Start::Fresh(0), Content::Noise(NOISE));
+    Case { length, start, content, area: Vec::new(), steps }
+}
+
+/// A case on a fresh chip, with no plain fill to be held to.
 fn row(words: &'static str, sectors: usize, steps: Vec<Step>, target: Option<f64>) -> Row {
-    let (length, start, content) = (sectors * Chip::SECTOR, Start::Fresh(0), Content::Noise(1));
-    let case = Case { length, start, content, area: Vec::new(), steps };
-    Row { words, case, filled: None, target }
+    Row { words, case: fresh_case(sectors, steps), filled: None, target }
 }
 
 /// All cases.
@@ -181,7 +202,7 @@ fn rows() -> Vec<Row> {
     ]
 }
 
-/// Compares every case, then prints the table of ratios.
+/// Compares every case, then prints the tables of ratios and of times.
 fn all() -> Result<(), String> {
     let rows = rows();
     let mut engine = linked::Linked::new();
@@ -191,7 +212,11 @@ fn all() -> Result<(), String> {
         }
     }
     println!("{} cases, no difference between the engine and the plain model", rows.len());
-    timing::table(&mut engine, &rows)
+    let read_cases = read_cases::all();
+    read_cases::hold(&mut engine, &read_cases)?;
+    timing::table(&mut engine, &rows)?;
+    read_times::table(&mut engine, &read_cases)?;
+    frame_times::table(&mut engine)
 }
 
 fn main() -> ExitCode {

@@ -9,7 +9,7 @@ use std::hint::black_box;
 use std::time::{Duration, Instant};
 
 /// Rounds of each case; the middle one counts.
-const ROUNDS: usize = 31;
+pub const ROUNDS: usize = 31;
 
 /// A case with its words, the number of bytes that a plain fill would set in its place, and the
 /// ratio that it is to stay within: to the fill where there is one, otherwise to the plain model.
@@ -20,12 +20,13 @@ pub struct Row {
     pub target: Option<f64>,
 }
 
-/// The room that a step's records ask for.
-fn room(step: &Step) -> usize {
-    match step {
+/// The room that the records of each step of a case ask for.
+pub fn rooms(case: &Case) -> Vec<usize> {
+    let room = |step: &Step| match step {
         Step::Run { script, .. } => room_needed(script) as usize,
         _ => 0,
-    }
+    };
+    case.steps.iter().map(room).collect()
 }
 
 /// The time of the steps of a case on the plain model, its state behind `&mut`.
@@ -64,7 +65,7 @@ fn time_reports(engine: &mut Linked, case: &Case, rooms: &[usize]) -> Result<Dur
 }
 
 /// The time of the steps of a case on the engine.
-fn time_engine(engine: &mut Linked, case: &Case, rooms: &[usize]) -> Result<Duration, String> {
+pub fn time_engine(engine: &mut Linked, case: &Case, rooms: &[usize]) -> Result<Duration, String> {
     engine.fresh(0)?;
     let loan = Loan { memory: case.length, area: case.area.len() };
     let begun = Instant::now();
@@ -91,7 +92,7 @@ fn time_fill(memory: &mut [u8]) -> Duration {
 }
 
 /// The middle of a row of times, in seconds.
-fn median(mut times: Vec<Duration>) -> f64 {
+pub fn median(mut times: Vec<Duration>) -> f64 {
     times.sort_unstable();
     times[times.len() / 2].as_secs_f64()
 }
@@ -99,7 +100,7 @@ fn median(mut times: Vec<Duration>) -> f64 {
 /// One line of the table; gives the engine's time.
 fn line(engine: &mut Linked, row: &Row) -> Result<f64, String> {
     let (case, length) = (&row.case, row.case.length);
-    let rooms: Vec<usize> = case.steps.iter().map(room).collect();
+    let rooms = rooms(case);
     let (mut memory, mut output) = (vec![0; length], vec![0; OUTPUT_AREA]);
     let (mut ours, mut plain, mut fill) = (Vec::new(), Vec::new(), Vec::new());
     for round in 0..ROUNDS {
@@ -126,7 +127,7 @@ fn line(engine: &mut Linked, row: &Row) -> Result<f64, String> {
 
 /// The engine's time for the runs of a case with a report, to its own without.
 fn report_line(engine: &mut Linked, row: &Row) -> Result<(), String> {
-    let rooms: Vec<usize> = row.case.steps.iter().map(room).collect();
+    let rooms = rooms(&row.case);
     let (mut with, mut without) = (Vec::new(), Vec::new());
     for round in 0..ROUNDS {
         engine.memory()[..row.case.length].fill(round as u8);
@@ -140,7 +141,7 @@ fn report_line(engine: &mut Linked, row: &Row) -> Result<(), String> {
 }
 
 /// A ratio in words, or a stroke for none.
-fn number(ratio: Option<f64>) -> String {
+pub fn number(ratio: Option<f64>) -> String {
     ratio.map_or("-".to_string(), |ratio| format!("{ratio:.2}"))
 }
 
