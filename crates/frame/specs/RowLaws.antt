@@ -1,6 +1,6 @@
--- What is true of a row of data bytes of a read: where it leads, that it goes on being one, and what is told of its cells.
-use Prim.Native.Nat.{ℕ, zero, suc, _+_, _*_, _-_, _<_, _≤_}
-use mathlib.Core.Bool.{Bool, true, false, cond, _&&_, _||_, false≢true}
+-- What is true of a row of data bytes: where it leads, that it goes on being one, and what is told of the cells of a read.
+use Prim.Native.Nat.{ℕ, zero, suc, _+_, _*_, _-_, _%_, _<_, _≤_}
+use mathlib.Core.Bool.{Bool, true, false, cond, _&&_, _||_, or-true, false≢true}
 use mathlib.Core.List.{List, [], _++_, append-nil, append-assoc}
 use mathlib.Core.Path.{_≡_, refl, sym, ap, subst, _∙_}
 use native.Mathlib.Nat.{add-zero, zero-add, add-suc}
@@ -13,8 +13,9 @@ use Rattle.chip.specs.declared.Frame.{Frame}
 use Rattle.chip.specs.declared.Record.the-variants.{Driven}
 use Rattle.chip.specs.Record.{recordBytes}
 use Rattle.commands.specs.Table.{isProgram, lowPowerRead, highSpeedRead}
-use Rattle.frame.specs.Frame.{counted, nextPlace, reading, readsCell, takesData}
-use Rattle.frame.specs.Stream.{isData, streams, placeOn, countOn, readOn, cellsOn, cellsUp}
+use Rattle.frame.specs.Frame.{counted, nextPlace, nextSlot, readsCell, takesData}
+use Rattle.frame.specs.Stream.{isData, streams, placeOn, countOn, readOn, slotOn, loadOn, cellsOn, cellsUp}
+use Rattle.frame.specs.StreamLaws.{cell-no-program}
 
 -- ---- places
 
@@ -47,6 +48,12 @@ place-as N place n inside few =
     let over : N ≤ place + n = ltb-false _ _ e in
     let apart : N - place + (place + n - N) ≡ n = omega arith in
     sym (ap (placeOn N place) apart) ∙ place-over N place (N - place) (place + n - N) (omega arith) (omega arith) (omega arith))
+
+-- load places are counted modulo 256
+pub slot-as : (slot n : ℕ) → slot < 256 → slotOn slot n ≡ (slot + n) % 256
+unfolding slotOn
+slot-as slot zero h = omega arith
+slot-as slot (suc n) h = ap nextSlot (slot-as slot n h) ∙ omega arith
 
 -- ---- counts
 
@@ -101,6 +108,21 @@ pub streams-on : (N n : ℕ) (f : Frame) → streams f ≡ true → readsCell f 
 streams-on N n f h cell =
     and-both (f .selected && eqb (f .judgement) 0) (isData (readOn N n f)) (and-left (f .selected && eqb (f .judgement) 0) (isData f) h)
     (ap (λ (b : Bool). b || takesData (readOn N n f)) (reads-on N n f cell))
+
+-- and a load one of its own
+stream-load : (f : Frame) → streams f ≡ true → isProgram (f .opcode) ≡ true → takesData f ≡ true
+stream-load f h is = go (readsCell f) (takesData f) refl refl (and-right (f .selected && eqb (f .judgement) 0) (isData f) h)
+  where
+    go : (cell load : Bool) → readsCell f ≡ cell → takesData f ≡ load → (cell || load) ≡ true → takesData f ≡ true
+    go true load p q e = absurd (false≢true (sym (cell-no-program f p) ∙ is))
+    go false load p q e = q ∙ e
+
+pub loads-on : (n : ℕ) (f : Frame) → streams f ≡ true → isProgram (f .opcode) ≡ true → streams (loadOn n f) ≡ true
+loads-on n f h is =
+    let four : leb 4 (f .count) ≡ true = and-right (isProgram (f .opcode)) (leb 4 (f .count)) (stream-load f h is) in
+    let later : leb 4 (countOn (f .count) n) ≡ true = le-leb 4 (countOn (f .count) n) (count-up (f .count) n 4 (leb-true 4 (f .count) four) (omega arith)) in
+    and-both (f .selected && eqb (f .judgement) 0) (isData (loadOn n f)) (and-left (f .selected && eqb (f .judgement) 0) (isData f) h)
+    (ap (λ (b : Bool). readsCell (loadOn n f) || b) (and-both (isProgram (f .opcode)) (leb 4 (countOn (f .count) n)) is later) ∙ or-true (readsCell (loadOn n f)))
 
 -- a data byte of no program is a cell
 pub stream-cell : (f : Frame) → streams f ≡ true → isProgram (f .opcode) ≡ false → readsCell f ≡ true

@@ -8,9 +8,9 @@ use Rattle.part.specs.Part.{lengthOf}
 use Rattle.commands.specs.Table.{isProgram}
 use Rattle.chip.specs.declared.Frame.{Frame}
 use Rattle.chip.specs.declared.Record.the-variants.{Floating, Driven}
-use Rattle.chip.specs.Fields.{withPlace, withCount}
+use Rattle.chip.specs.Fields.{withPlace, withSlot, withCount}
 use Rattle.chip.specs.Record.{recordBytes}
-use Rattle.frame.specs.Frame.{Exchange, exchange, counted, nextPlace, reading, loading, readsCell, takesData}
+use Rattle.frame.specs.Frame.{Exchange, exchange, counted, nextPlace, nextSlot, reading, loading, readsCell, takesData}
 
 -- whether the next byte is such a byte
 abbrev pub isData : Frame → Bool
@@ -25,7 +25,7 @@ unfoldable pub streamed : ℕ → Frame → List ℕ → List ℕ → ℕ → Ex
 streamed S f load m b =
     cond (isProgram (f .opcode)) (exchange Floating (loading f) (set load (f .slot) b)) (exchange (Driven (getD m (f .place) 0)) (reading (lengthOf S) f) load)
 
--- ---- a row of data bytes of a read
+-- ---- a row of data bytes
 
 -- the read place n places further on, in a row of N places
 unfoldable pub placeOn : ℕ → ℕ → ℕ → ℕ
@@ -40,6 +40,14 @@ countOn count (suc n) = counted (countOn count n)
 -- the frame after n data bytes of a read, from a row of N places
 abbrev pub readOn : ℕ → ℕ → Frame → Frame
 readOn N n f = withPlace (placeOn N (f .place) n) (withCount (countOn (f .count) n) f)
+
+-- the load place n places further on, and the frame after n data bytes of a page load
+unfoldable pub slotOn : ℕ → ℕ → ℕ
+slotOn slot zero = slot
+slotOn slot (suc n) = nextSlot (slotOn slot n)
+
+abbrev pub loadOn : ℕ → Frame → Frame
+loadOn n f = withSlot (slotOn (f .slot) n) (withCount (countOn (f .count) n) f)
 
 -- what n cells from a place on are told by, in a memory of N cells, the last followed by cell 0
 unfoldable pub cellsOn : List ℕ → ℕ → ℕ → ℕ → List ℕ

@@ -26,7 +26,7 @@ module _ (S : ℕ) (f : Frame) (load m : List ℕ) (b : ℕ) where
   streamed-cell h = cond-no _ _ _ h
 
 -- a read of cells is no program
-cell-no-program : (f : Frame) → readsCell f ≡ true → isProgram (f .opcode) ≡ false
+pub cell-no-program : (f : Frame) → readsCell f ≡ true → isProgram (f .opcode) ≡ false
 unfolding isProgram
 cell-no-program = cell-each (λ (opcode : ℕ). isProgram opcode ≡ false) refl refl
 

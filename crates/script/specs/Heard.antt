@@ -4,11 +4,11 @@ use mathlib.Core.Bool.{Bool, true, cond, not, _&&_}
 use mathlib.Core.List.{List, [], _++_}
 use mathlib.Core.Path.{_≡_}
 use lib.Dec.{eqb}
-use lib.ListN.{length, getD}
+use lib.ListN.{length, getD, set}
 use Rattle.cells.specs.Put.{Put}
 use Rattle.part.specs.Part.{Setting, lengthOf, reduced}
 use Rattle.commands.specs.Table.{lowPowerRead, highSpeedRead}
-use Rattle.kinds.specs.Kinds.{DESELECT}
+use Rattle.kinds.specs.Kinds.{SELECT, DESELECT}
 use Rattle.kinds.specs.Row.{exchangesFrom}
 use Rattle.clock.specs.declared.Clock.{Clock}
 use Rattle.chip.specs.declared.Chip.{Chip}
@@ -17,7 +17,7 @@ use Rattle.chip.specs.declared.Frame.{Frame}
 use Rattle.chip.specs.declared.Record.the-variants.{Floating, Verdict}
 use Rattle.chip.specs.Chip.{running}
 use Rattle.chip.specs.Record.{recordBytes}
-use Rattle.frame.specs.Stream.{cellsOn}
+use Rattle.frame.specs.Stream.{slotOn, cellsOn}
 use Rattle.script.specs.declared.rows.Row.{Row}
 use Rattle.script.specs.Script.{eventsFrom, timed, firstBad, room}
 use Rattle.script.specs.Run.{world, runs}
@@ -42,6 +42,11 @@ pub record Went (T : Setting) (s m : List ℕ) (at : ℕ) (c : Chip) (out : List
   pub stored : Put out pos said pos′ out′
   pub further : at < at′
 
+-- some of them one behind the other, or none
+pub data Reading (T : Setting) (s m : List ℕ) (at : ℕ) (c : Chip) (out : List ℕ) (pos at′ : ℕ) (c′ : Chip) (out′ : List ℕ) (pos′ : ℕ) : Type 0 where
+  none : at′ ≡ at → pos′ ≡ pos → out′ ≡ out → Reading T s m at c out pos at′ c′ out′ pos′
+  some : Went T s m at c out pos at′ c′ out′ pos′ → Reading T s m at c out pos at′ c′ out′ pos′
+
 -- a row of exchanges, as long as it is
 abbrev pub Known : List ℕ → Row → Type 0
 Known s r = (r .count ≡ exchangesFrom s (r .at)) × (r .at ≤ length s)
@@ -61,6 +66,18 @@ pub record Ready (S : ℕ) (s m out : List ℕ) (at pos : ℕ) (longest : Row) :
   pub short : length s ≤ 65536
   pub known : Known s longest
 
+-- ---- a row of a page load
+
+-- n floating bytes
+unfoldable pub floats : ℕ → List ℕ
+floats zero = []
+floats (suc n) = floats n ++ recordBytes Floating
+
+-- a load with the bytes of n exchanges of a script, from a load place on
+unfoldable pub loadedOn : List ℕ → ℕ → ℕ → ℕ → List ℕ → List ℕ
+loadedOn s at slot zero load = load
+loadedOn s at slot (suc n) load = set (loadedOn s at slot n load) (slotOn slot n) (getD s (at + 2 * n + 1) 0)
+
 -- ---- a whole frame of a read of cells
 
 -- how many bytes come before the cells: the opcode and the address, and for 0Bh a dummy; no other opcode reads cells
@@ -73,6 +90,7 @@ firstCell S s at = reduced S (getD s (at + 4) 0 * 65536 + getD s (at + 6) 0 * 25
 
 -- such a frame at an offset: a select, n exchanges, as many as its header has or more, and a deselect
 pub record WholeRead (s : List ℕ) (at n : ℕ) : Type 0 where
+  pub is-select : getD s at 0 ≡ SELECT
   pub row : n ≡ exchangesFrom s (at + 1)
   pub headed : 0 < headerOf (getD s (at + 2) 0)
   pub long : headerOf (getD s (at + 2) 0) ≤ n
@@ -82,11 +100,6 @@ pub record WholeRead (s : List ℕ) (at n : ℕ) : Type 0 where
 -- a chip that takes it as it stands: unselected, with no byte of a frame, awake, unarmed, with no job that runs
 abbrev pub canRead : Core → Frame → Bool
 canRead k f = not (f .selected) && eqb (f .count) 0 && not (k .deep) && not (k .armed) && not (running k)
-
--- n floating bytes
-unfoldable pub floats : ℕ → List ℕ
-floats zero = []
-floats (suc n) = floats n ++ recordBytes Floating
 
 -- what it says: its header floats, then come the cells, then verdict 0
 abbrev pub frameRecords : ℕ → List ℕ → List ℕ → ℕ → ℕ → List ℕ

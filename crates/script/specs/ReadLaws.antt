@@ -8,10 +8,12 @@ use native.Mathlib.Decide.{ℕ-discrete}
 use lib.Dec.{eqb, ltb}
 use lib.ListN.{length, getD, length-append}
 use borrow.Author.Tests.{eqb-true, ne-eqb, eq-eqb, not-true}
-use Rattle.cells.specs.Choice.{cond-no, cond-either, and-left, and-right}
+use Rattle.cells.specs.Choice.{cond-no, cond-either, and-left, and-right, and-both}
+use Rattle.cells.specs.Put.{Put}
+use Rattle.cells.specs.PutLaws.{put-then}
 use Rattle.part.specs.Part.{Setting, lengthOf, reduced}
 use Rattle.commands.specs.Table.{rowIn, rowOf, isRead, isProgram, lowPowerRead, highSpeedRead}
-use Rattle.kinds.specs.Kinds.{SELECT, DESELECT, kindRow, kindRowIn}
+use Rattle.kinds.specs.Kinds.{kindRow, kindRowIn}
 use Rattle.kinds.specs.Body.{bodyAt, nextAt}
 use Rattle.kinds.specs.Row.{exchangesFrom}
 use Rattle.kinds.specs.RowLaws.{row-each, row-part, row-inside}
@@ -20,16 +22,17 @@ use Rattle.chip.specs.declared.Core.{Core}
 use Rattle.chip.specs.declared.Frame.{Frame}
 use Rattle.chip.specs.declared.Record.the-variants.{Floating, Verdict}
 use Rattle.chip.specs.Fields.{withSelected}
-use Rattle.chip.specs.Chip.{whole, emptyFrame, blankLoad, running}
+use Rattle.chip.specs.Chip.{whole, emptyFrame, blankLoad, resting, running}
 use Rattle.chip.specs.Record.{recordBytes}
 use Rattle.frame.specs.Frame.{judge, counted, shifted, opened, exchange, taken, exchanged}
 use Rattle.frame.specs.Laws.{exchanged-opcode}
 use Rattle.frame.specs.Stream.{streams, readOn, cellsOn}
 use Rattle.frame.specs.RowLaws.{cells-length}
 use Rattle.event.specs.Laws.{deselect-read, applied-deselect}
+use Rattle.script.specs.Script.{eventsFrom, room}
 use Rattle.script.specs.Watch.{ticking}
 use Rattle.script.specs.Laws.{deselect-next}
-use Rattle.script.specs.Heard.{Heard, headerOf, firstCell, WholeRead, canRead, floats, frameRecords}
+use Rattle.script.specs.Heard.{Heard, Went, Reading, none, some, headerOf, firstCell, WholeRead, canRead, floats, frameRecords}
 use Rattle.script.specs.HeardLaws.{heard-then, heard-event, heard-select, heard-exchange}
 use Rattle.script.specs.RowLaws.{Bytes, heard-row}
 
@@ -89,7 +92,7 @@ shifted-three A a b c p q r = omega arith
 pub header-least : (opcode : ℕ) → 0 < headerOf opcode → 4 ≤ headerOf opcode
 header-least opcode =
     cond-either (λ (n : ℕ). 0 < n → 4 ≤ n) (eqb opcode lowPowerRead) _ _ (λ _ _. omega arith)
-    (λ _. cond-either (λ (n : ℕ). 0 < n → 4 ≤ n) (eqb opcode highSpeedRead) _ _ (λ _ _. omega arith) (λ _ none. absurd (omega arith)))
+    (λ _. cond-either (λ (n : ℕ). 0 < n → 4 ≤ n) (eqb opcode highSpeedRead) _ _ (λ _ _. omega arith) (λ _ less. absurd (omega arith)))
 
 pub floats-length : (n : ℕ) → length (floats n) ≡ n
 unfolding floats
@@ -142,7 +145,7 @@ module _ (T : Setting) (s m : List ℕ) (bytes : Bytes s) (at n : ℕ) (whole-re
   abbrev addressed : ℕ → Frame
   addressed count = inHeader o address (reduced (T .sectors) address) (getD s (at + 8) 0) count
 
-  module _ (is-select : getD s at 0 ≡ SELECT) (h : Header o) (four : 4 ≤ n) where
+  module _ (h : Header o) (four : 4 ≤ n) where
     -- the opcode opens the frame
     opens : opened k o (withSelected true f) ≡ inHeader o (f .address) (f .place) (f .slot) 1
     opens = λ i. record { selected = true; opcode = o; address = f .address; place = f .place; slot = f .slot; count = counted (awake-idle .1 i); judgement = h .judged-none k (awake-idle .2) (awake-idle .4) i }
@@ -151,7 +154,7 @@ module _ (T : Setting) (s m : List ℕ) (bytes : Bytes s) (at n : ℕ) (whole-re
     heard-address : Heard T s m at (whole k f load held) (at + 9) (whole k (addressed 4) load held) (floats 4)
     unfolding floats
     heard-address =
-        heard-then (heard-then (heard-then (heard-then (heard-select T s m at (whole k f load held) (omega (arith, whole-read .ends)) is-select)
+        heard-then (heard-then (heard-then (heard-then (heard-select T s m at (whole k f load held) (omega (arith, whole-read .ends)) (whole-read .is-select))
         (byte 0 (at + 1) (at + 3) (omega arith) (omega arith) (omega arith) o (same-byte (at + 1 + 1) (at + 2) (omega arith)) (withSelected true f) _
         (exchanged-opcode T k (withSelected true f) load m o refl (awake-idle .1) ∙ ap (λ (g : Frame). exchange Floating g load) opens)))
         (byte 1 (at + 3) (at + 5) (omega arith) (omega arith) (omega arith) _ (same-byte (at + 3 + 1) (at + 4) (omega arith)) _ _ (h .second T k _ _ _ _ load m)))
@@ -193,10 +196,10 @@ module _ (T : Setting) (s m : List ℕ) (bytes : Bytes s) (at n : ℕ) (whole-re
   abbrev records : ℕ → List ℕ
   records count = floats count ++ cellsOn m (length m) (firstCell (T .sectors) s at) (n - count) ++ recordBytes (Verdict 0)
 
-  pub heard-frame : getD s at 0 ≡ SELECT → lengthOf (T .sectors) ≡ length m
+  pub heard-frame : lengthOf (T .sectors) ≡ length m
       → Heard T s m at (whole k f load held) (at + 3 + 2 * n) (whole k emptyFrame blankLoad held) (frameRecords (T .sectors) s m at n)
   unfolding floats exchanged taken isProgram
-  heard-frame is-select part = go (ℕ-discrete o lowPowerRead) (ℕ-discrete o highSpeedRead)
+  heard-frame part = go (ℕ-discrete o lowPowerRead) (ℕ-discrete o highSpeedRead)
     where
       Told : ℕ → Type 0
       Told count = Heard T s m at (whole k f load held) (at + 3 + 2 * n) (whole k emptyFrame blankLoad held) (records count)
@@ -212,21 +215,58 @@ module _ (T : Setting) (s m : List ℕ) (bytes : Bytes s) (at n : ℕ) (whole-re
           let four : headerOf o ≡ 4 = ap headerOf e in
           let h : Header o = subst Header (sym e) low in
           let long : 4 ≤ n = omega (arith, whole-read .long, four) in
-          subst Told (sym four) (told 4 (heard-rest is-select h long 4 (at + 9) (omega arith) long (ap (λ (q : ℕ). streams (inHeader q address (reduced (T .sectors) address) (getD s (at + 8) 0) 4)) e) (heard-address is-select h long)))
-      go (no none) (yes e) =
+          subst Told (sym four) (told 4 (heard-rest h long 4 (at + 9) (omega arith) long (ap (λ (q : ℕ). streams (inHeader q address (reduced (T .sectors) address) (getD s (at + 8) 0) 4)) e) (heard-address h long)))
+      go (no not-low) (yes e) =
           let five : headerOf o ≡ 5 = ap headerOf e in
           let h : Header o = subst Header (sym e) high in
           let long : 5 ≤ n = omega (arith, whole-read .long, five) in
           subst Told (sym five)
-          (told 5 (heard-rest is-select h (omega arith) 5 (at + 11) (omega arith) long (ap (λ (q : ℕ). streams (inHeader q address (reduced (T .sectors) address) (getD s (at + 8) 0) 5)) e)
-          (heard-then (heard-address is-select h (omega arith))
+          (told 5 (heard-rest h (omega arith) 5 (at + 11) (omega arith) long (ap (λ (q : ℕ). streams (inHeader q address (reduced (T .sectors) address) (getD s (at + 8) 0) 5)) e)
+          (heard-then (heard-address h (omega arith))
           (byte 4 (at + 9) (at + 11) (omega arith) (omega arith) (omega arith) _ refl (addressed 4) (addressed 5) (dummy e)))))
         where
           dummy : o ≡ highSpeedRead → exchanged T k (addressed 4) load m (getD s (at + 9 + 1) 0) ≡ exchange Floating (addressed 5) load
           dummy e =
               subst (λ (q : ℕ). exchanged T k (inHeader q address (reduced (T .sectors) address) (getD s (at + 8) 0) 4) load m (getD s (at + 9 + 1) 0)
               ≡ exchange Floating (inHeader q address (reduced (T .sectors) address) (getD s (at + 8) 0) 5) load) (sym e) refl
-      go (no none) (no neither) = absurd (headless (whole-read .headed) (cond-no (eqb o lowPowerRead) _ _ (ne-eqb _ _ none) ∙ cond-no (eqb o highSpeedRead) _ _ (ne-eqb _ _ neither)))
+      go (no not-low) (no not-high) = absurd (headless (whole-read .headed) (cond-no (eqb o lowPowerRead) _ _ (ne-eqb _ _ not-low) ∙ cond-no (eqb o highSpeedRead) _ _ (ne-eqb _ _ not-high)))
         where
           headless : 0 < headerOf o → headerOf o ≡ 0 → ⊥
-          headless some z = omega arith
+          headless headed z = omega arith
+
+-- ---- frames one behind the other
+
+-- a chip that can read a frame can read the next one
+can-again : (k : Core) (f : Frame) → canRead k f ≡ true → canRead k emptyFrame ≡ true
+can-again k f can =
+    let four = and-left (not (f .selected) && eqb (f .count) 0 && not (k .deep) && not (k .armed)) (not (running k)) can in
+    and-both (not (k .deep) && not (k .armed)) (not (running k))
+    (and-both (not (k .deep)) (not (k .armed)) (and-right (not (f .selected) && eqb (f .count) 0) (not (k .deep)) (and-left (not (f .selected) && eqb (f .count) 0 && not (k .deep)) (not (k .armed)) four))
+    (and-right (not (f .selected) && eqb (f .count) 0 && not (k .deep)) (not (k .armed)) four))
+    (and-right (not (f .selected) && eqb (f .count) 0 && not (k .deep) && not (k .armed)) (not (running k)) can)
+
+module _ (T : Setting) (s m : List ℕ) (bytes : Bytes s) (part : lengthOf (T .sectors) ≡ length m) where
+  -- the records of a frame find room, and so do those behind it: as on any chip, on one that is fresh
+  pub frame-rooms : (at n : ℕ) → WholeRead s at n → length (frameRecords (T .sectors) s m at n) + room (eventsFrom s (at + 3 + 2 * n)) ≤ room (eventsFrom s at)
+  frame-rooms at n w = heard-frame T s m bytes at n w resting emptyFrame blankLoad blankLoad refl part .roomy
+
+  -- one frame more, behind those that were read
+  pub reads-more : {at : ℕ} {k : Core} {f : Frame} {load held out : List ℕ} {pos here : ℕ} {out′ : List ℕ} {end : ℕ} → canRead k f ≡ true
+      → Reading T s m at (whole k f load held) out pos here (whole k emptyFrame blankLoad held) out′ end → (n : ℕ) → WholeRead s here n → {out″ : List ℕ} {end′ : ℕ} → Put out′ end (frameRecords (T .sectors) s m here n) end′ out″
+      → Went T s m at (whole k f load held) out pos (here + 3 + 2 * n) (whole k emptyFrame blankLoad held) out″ end′
+  reads-more {at} {k} {f} {load} {held} {out} {pos} {here} {out′} {end} can (none a p o) n w {out″} {end′} put =
+      record {
+        said = frameRecords (T .sectors) s m here n;
+        heard =
+            subst (λ (q : ℕ). Heard T s m q (whole k f load held) (here + 3 + 2 * n) (whole k emptyFrame blankLoad held) (frameRecords (T .sectors) s m here n)) a
+            (heard-frame T s m bytes here n w k f load held can part);
+        stored = subst (λ (q : ℕ). Put out q (frameRecords (T .sectors) s m here n) end′ out″) p (subst (λ (l : List ℕ). Put l end (frameRecords (T .sectors) s m here n) end′ out″) o put);
+        further = omega (arith, a);
+      }
+  reads-more {at} {k} {f} {load} {held} can (some went) n w put =
+      record {
+        said = went .said ++ frameRecords (T .sectors) s m _ n;
+        heard = heard-then (went .heard) (heard-frame T s m bytes _ n w k emptyFrame blankLoad held (can-again k f can) part);
+        stored = put-then (went .stored) put;
+        further = omega (arith, went .further);
+      }

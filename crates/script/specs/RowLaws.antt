@@ -1,12 +1,12 @@
--- What is true of a row of exchanges in a script: nothing is wrong with it, what room it is given, and what is heard of it where it reads cells.
+-- What is true of a row of exchanges in a script: nothing is wrong with it, what room it is given, and what is heard of it where it reads cells or loads a page.
 use Prim.Native.Nat.{ℕ, zero, suc, _+_, _*_, _<_, _≤_}
 use mathlib.Core.Bool.{true, false}
-use mathlib.Core.List.{List}
+use mathlib.Core.List.{List, []}
 use mathlib.Core.Path.{_≡_, refl, sym, ap, subst, _∙_}
 use native.Mathlib.Nat.{add-zero}
 use native.Mathlib.Omega.{arith}
 use lib.Dec.{eqb, ltb}
-use lib.ListN.{length, getD}
+use lib.ListN.{length, getD, set}
 use borrow.Author.Tests.{eq-eqb, lt-ltb}
 use Rattle.cells.specs.Choice.{and-both}
 use Rattle.part.specs.Part.{Setting, lengthOf}
@@ -17,14 +17,14 @@ use Rattle.kinds.specs.RowLaws.{row-more, row-each, row-inside}
 use Rattle.clock.specs.declared.Clock.{Clock}
 use Rattle.chip.specs.declared.Chip.{Chip}
 use Rattle.chip.specs.declared.Frame.{Frame}
-use Rattle.chip.specs.declared.Record.the-variants.{Driven}
+use Rattle.chip.specs.declared.Record.the-variants.{Floating, Driven}
 use Rattle.chip.specs.Chip.{whole}
-use Rattle.frame.specs.Stream.{streams, placeOn, countOn, readOn, cellsOn}
-use Rattle.frame.specs.StreamLaws.{streamed-cell, exchanged-stream}
-use Rattle.frame.specs.RowLaws.{streams-on, stream-cell}
+use Rattle.frame.specs.Stream.{streams, placeOn, countOn, readOn, slotOn, loadOn, cellsOn}
+use Rattle.frame.specs.StreamLaws.{streamed-load, streamed-cell, exchanged-stream}
+use Rattle.frame.specs.RowLaws.{streams-on, loads-on, stream-cell}
 use Rattle.script.specs.Script.{Refusal, eventAt, eventsFrom, firstBad, room}
 use Rattle.script.specs.Laws.{firstBad-later, exchange-good, exchange-clock, exchange-next, exchange-room}
-use Rattle.script.specs.Heard.{Heard}
+use Rattle.script.specs.Heard.{Heard, floats, loadedOn}
 use Rattle.script.specs.HeardLaws.{heard-none, heard-then, heard-exchange}
 
 -- every byte of a script is one
@@ -80,3 +80,17 @@ module _ (s : List ℕ) (bytes : Bytes s) (at : ℕ) (from : at ≤ length s) wh
       (heard-then (heard-row T m c reads no-load n (omega arith))
       (heard-exchange T s m (at + 2 * n) (whole (c .core) f (c .load) (c .held)) (nth-inside n h) (row-each s at n (omega arith)) (bytes (at + 2 * n + 1)) (Driven (getD m (f .place) 0)) (readOn N (suc n) (c .frame)) (c .load)
       (sym (exchanged-stream T (c .core) f (c .load) m b (streams-on N n (c .frame) reads (stream-cell (c .frame) reads no-load)) ∙ streamed-cell (T .sectors) f (c .load) m b no-load))))
+
+  -- where it is a page load, byte after byte goes into the load
+  pub heard-loads : (T : Setting) (m : List ℕ) (c : Chip) → streams (c .frame) ≡ true → isProgram (c .frame .opcode) ≡ true → (n : ℕ) → n ≤ exchangesFrom s at
+      → Heard T s m at c (at + 2 * n) (whole (c .core) (loadOn n (c .frame)) (loadedOn s at (c .frame .slot) n (c .load)) (c .held)) (floats n)
+  unfolding slotOn countOn loadedOn floats
+  heard-loads T m c loads is zero h = subst (λ (q : ℕ). Heard T s m at c q c []) (sym (add-zero at)) (heard-none T s m at c from)
+  heard-loads T m c loads is (suc n) h =
+      let f : Frame = loadOn n (c .frame) in
+      let load : List ℕ = loadedOn s at (c .frame .slot) n (c .load) in
+      let b : ℕ = getD s (at + 2 * n + 1) 0 in
+      subst (λ (q : ℕ). Heard T s m at c q (whole (c .core) (loadOn (suc n) (c .frame)) (loadedOn s at (c .frame .slot) (suc n) (c .load)) (c .held)) (floats (suc n))) (nth-next n)
+      (heard-then (heard-loads T m c loads is n (omega arith))
+      (heard-exchange T s m (at + 2 * n) (whole (c .core) f load (c .held)) (nth-inside n h) (row-each s at n (omega arith)) (bytes (at + 2 * n + 1)) Floating (loadOn (suc n) (c .frame)) (set load (f .slot) b)
+      (sym (exchanged-stream T (c .core) f load m b (loads-on n (c .frame) loads is) ∙ streamed-load (T .sectors) f load m b is))))

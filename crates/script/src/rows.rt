@@ -1,4 +1,4 @@
-// Stretches of a script that are taken in one go: a row of data bytes of a read of cells, and a whole frame of one.
+// Stretches of a script that are taken in one go: a row of data bytes of a read of cells or of a page load, and whole frames of reads.
 ghost use mathlib.Core.Bool.{true, false};
 ghost use mathlib.Core.List.{List};
 ghost use mathlib.Core.Path.{_≡_};
@@ -8,13 +8,14 @@ ghost use Rattle.cells.specs.Put.{Put};
 ghost use Rattle.part.specs.Part.{setting, lengthOf};
 ghost use Rattle.kinds.specs.Kinds.{SELECT, EXCHANGE};
 ghost use Rattle.kinds.specs.Row.{exchangesFrom};
-ghost use Rattle.chip.specs.Chip.{whole};
-ghost use Rattle.frame.specs.Stream.{countOn, readOn, placeOn, cellsOn, cellsUp};
-ghost use Rattle.script.specs.Heard.{Known, Ready, Went, headerOf, firstCell, WholeRead, canRead, floats, frameRecords};
+ghost use Rattle.chip.specs.declared.Core.{Core as CoreValue};
+ghost use Rattle.chip.specs.declared.Frame.{Frame as FrameValue};
+ghost use Rattle.chip.specs.Chip.{whole, emptyFrame, blankLoad};
+ghost use Rattle.frame.specs.Stream.{placeOn, countOn, readOn, cellsOn, cellsUp, loadOn};
+ghost use Rattle.script.specs.Heard.{Known, Ready, Went, Reading, floats, loadedOn, headerOf, firstCell, WholeRead, canRead, frameRecords};
 use crate::put;
 use chip::Core;
 use chip::Frame;
-use chip::Record;
 use commands::Command;
 use kinds::Kind;
 
@@ -29,6 +30,12 @@ pub struct Onward {
     pub frame: Frame,
     pub at: usize,
     pub pos: usize,
+}
+
+// The same without a frame.
+struct Place {
+    at: usize,
+    pos: usize,
 }
 
 // How many exchanges stand in a row at an offset: those of the longest row have been counted.
@@ -129,21 +136,24 @@ fn can_read(core: Core, frame: Frame) -> bool
     !frame.selected & (frame.count == 0) & !core.deep & !core.armed & !runs
 }
 
-// The exchanges of the whole frame of a read that begins with a select at an offset; 0 where there is no such frame.
+// The exchanges of the whole frame of a read that stands at an offset; 0 where there is none. Its opcode is looked at first: most frames read no cells.
 fn whole_read(script: &[u8], at: usize, longest: Row) -> usize
-    requires { ⌜ (at < length (now script)) × (length (now script) ≤ 65536) × Known (now script) longest ⌝ }
+    requires { ⌜ (at ≤ length (now script)) × (length (now script) ≤ 65536) × Known (now script) longest ⌝ }
     ensures { λ r. ⌜ (0 < r → WholeRead (now (script .entry)) at r) ⌝ }
 {
-    let n = row_from(script, at + 1, longest);
-    let end = at + 1 + 2 * n;
-    if script.len() < end + 2 {
-        return 0;
-    }
-    if script[end] as u64 != Kind::DESELECT {
+    if script.len() < at + 3 {
         return 0;
     }
     let header = header_of(script[at + 2]);
-    if (header == 0) | (n < header) {
+    if (script[at] as u64 != Kind::SELECT) | (header == 0) {
+        return 0;
+    }
+    let n = row_from(script, at + 1, longest);
+    let end = at + 1 + 2 * n;
+    if (n < header) | (script.len() < end + 2) {
+        return 0;
+    }
+    if script[end] as u64 != Kind::DESELECT {
         return 0;
     }
     n
@@ -197,7 +207,35 @@ fn put_frame(
     end + 2
 }
 
-// A select: the whole frame of a read, if it is one that stands there, or else the opened frame.
+// Stores the records of the whole frames of reads that stand one behind the other from an offset on: where script and output go on.
+fn read_frames(
+    mem: &[u8],
+    sectors: u8,
+    script: &[u8],
+    at: usize,
+    out: &mut [u8],
+    pos: usize,
+    longest: Row,
+) -> Place
+    requires { ⌜ Ready sectors (now script) (now mem) (now out) at pos longest ⌝ }
+    ensures { λ r. ⌜ ((area load held : List ℕ) (k : CoreValue) (f : FrameValue) → canRead k f ≡ true → Reading (setting sectors area) (now (script .entry)) (now (mem .entry)) at (whole k f load held) (now (out .entry)) pos
+        (r .at) (whole k emptyFrame blankLoad held) (now (out .exit)) (r .pos)) ⌝ }
+{
+    let mut here = at;
+    let mut end = pos;
+    let mut n = whole_read(script, here, longest);
+    while 0 < n {
+        end = put_frame(out, end, mem, sectors, script, here, n);
+        here += 3 + 2 * n;
+        n = whole_read(script, here, longest);
+    }
+    Place {
+        at: here,
+        pos: end,
+    }
+}
+
+// A select: the whole frames of reads that stand there, or else the opened frame.
 pub fn select(
     core: Core,
     frame: Frame,
@@ -214,28 +252,101 @@ pub fn select(
     ensures { λ r. ⌜ ((area held : List ℕ) → Went (setting sectors area) (now (script .entry)) (now (mem .entry)) at (whole core frame (now (load .entry)) held) (now (out .entry)) pos
         (r .at) (whole core (r .frame) (now (load .exit)) held) (now (out .exit)) (r .pos)) ⌝ }
 {
-    if can_read(core, frame) {
-        let n = whole_read(script, at, longest);
-        if 0 < n {
-            let end = put_frame(out, pos, mem, sectors, script, at, n);
-            *load = [255; 256];
-            return Onward {
-                frame: chip::empty_frame(),
-                at: at + 3 + 2 * n,
-                pos: end,
-            };
-        }
-    }
     let mut next = frame;
     next.selected = true;
+    if !can_read(core, frame) {
+        return Onward {
+            frame: next,
+            at: at + 1,
+            pos: pos,
+        };
+    }
+    let reads = read_frames(mem, sectors, script, at, out, pos, longest);
+    if reads.at == at {
+        return Onward {
+            frame: next,
+            at: at + 1,
+            pos: pos,
+        };
+    }
+    *load = [255; 256];
     Onward {
-        frame: next,
-        at: at + 1,
-        pos: pos,
+        frame: chip::empty_frame(),
+        at: reads.at,
+        pos: reads.pos,
     }
 }
 
-// An exchange: the row of all that read cells from here on, or else one.
+// The row of n data bytes of a read.
+fn read_row(
+    frame: Frame,
+    mem: &[u8],
+    at: usize,
+    out: &mut [u8],
+    pos: usize,
+    n: usize,
+) -> Onward
+    requires { ⌜ (frame .place < length (now mem)) × (0 < n) × (n ≤ length (now mem)) × (at + 2 * n ≤ 65536) × (length (now mem) ≤ 2097152) × (pos + 2 * n ≤ length (now out)) ⌝ }
+    ensures { λ r. ⌜ (r .frame ≡ readOn (length (now (mem .entry))) n frame) × (r .at ≡ at + 2 * n) × Put (now (out .entry)) pos (cellsOn (now (mem .entry)) (length (now (mem .entry))) (frame .place) n) (r .pos) (now (out .exit)) ⌝ }
+{
+    Onward {
+        frame: read_on(frame, mem.len(), n),
+        at: at + 2 * n,
+        pos: put_row(out, pos, mem, frame.place, n),
+    }
+}
+
+// Stores n floating bytes; the answer is the place behind them.
+fn put_floats(out: &mut [u8], pos: usize, n: usize) -> usize
+    requires { ⌜ pos + n ≤ length (now out) ⌝ }
+    ensures { λ r. ⌜ Put (now (out .entry)) pos (floats n) r (now (out .exit)) ⌝ }
+{
+    let mut i = 0;
+    while i < n {
+        out[pos + i] = 0x80;
+        i += 1;
+    }
+    pos + n
+}
+
+// Takes the bytes of n exchanges into a load, from a load place on, the last followed by 0.
+fn take_row(load: &mut [u8; 256], slot: u8, script: &[u8], at: usize, n: usize)
+    requires { ⌜ (at + 2 * n ≤ length (now script)) × (length (now script) ≤ 65536) ⌝ }
+    ensures { λ r. ⌜ now (load .exit) ≡ loadedOn (now (script .entry)) at slot n (now (load .entry)) ⌝ }
+{
+    let first = slot as usize;
+    let mut i = 0;
+    while i < n {
+        load[(first + i) % 256] = script[at + 2 * i + 1];
+        i += 1;
+    }
+}
+
+// The row of n data bytes of a page load.
+fn load_row(
+    frame: Frame,
+    load: &mut [u8; 256],
+    script: &[u8],
+    at: usize,
+    out: &mut [u8],
+    pos: usize,
+    n: usize,
+) -> Onward
+    requires { ⌜ (0 < n) × (at + 2 * n ≤ length (now script)) × (length (now script) ≤ 65536) × (pos + n ≤ length (now out)) ⌝ }
+    ensures { λ r. ⌜ (r .frame ≡ loadOn n frame) × (r .at ≡ at + 2 * n) × (now (load .exit) ≡ loadedOn (now (script .entry)) at (frame .slot) n (now (load .entry))) × Put (now (out .entry)) pos (floats n) (r .pos) (now (out .exit)) ⌝ }
+{
+    take_row(load, frame.slot, script, at, n);
+    let mut next = frame;
+    next.slot = (((frame.slot as usize) + n) % 256) as u8;
+    next.count = count_on(frame.count, n);
+    Onward {
+        frame: next,
+        at: at + 2 * n,
+        pos: put_floats(out, pos, n),
+    }
+}
+
+// An exchange: the row of all data bytes from here on, or else one.
 pub fn hear(
     core: Core,
     frame: Frame,
@@ -253,31 +364,22 @@ pub fn hear(
     ensures { λ r. ⌜ ((held : List ℕ) → Went (setting sectors (now (area .entry))) (now (script .entry)) (now (mem .entry)) at (whole core frame (now (load .entry)) held) (now (out .entry)) pos
         (r .at) (whole core (r .frame) (now (load .exit)) held) (now (out .exit)) (r .pos)) ⌝ }
 {
-    let b = script[at + 1];
-    if !frame::streams(frame) {
-        let e = frame::exchange(core, frame, load, mem, sectors, area, b);
-        let heard = e.said;
-        let next = e.frame;
-        return Onward {
-            frame: next,
-            at: at + 2,
-            pos: put(out, pos, heard),
-        };
+    if frame::streams(frame) {
+        if commands::is_program(frame.opcode) {
+            let n = row_from(script, at, longest);
+            return load_row(frame, load, script, at, out, pos, n);
+        }
+        if frame.place < mem.len() {
+            let n = row_from(script, at, longest);
+            return read_row(frame, mem, at, out, pos, n);
+        }
     }
-    if commands::is_program(frame.opcode) | (mem.len() <= frame.place) {
-        let d = frame::stream(frame, load, mem, sectors, b);
-        let given = d.said;
-        let next = d.frame;
-        return Onward {
-            frame: next,
-            at: at + 2,
-            pos: put(out, pos, given),
-        };
-    }
-    let n = row_from(script, at, longest);
+    let e = frame::exchange(core, frame, load, mem, sectors, area, script[at + 1]);
+    let heard = e.said;
+    let next = e.frame;
     Onward {
-        frame: read_on(frame, mem.len(), n),
-        at: at + 2 * n,
-        pos: put_row(out, pos, mem, frame.place, n),
+        frame: next,
+        at: at + 2,
+        pos: put(out, pos, heard),
     }
 }
