@@ -27,7 +27,7 @@ use Rattle.script.specs.Jobs.{Followed, tickByTick, stands, isTwo, jobs}
 use Rattle.script.specs.Watch.{ticking}
 use Rattle.script.specs.Laws.{select-next, exchange-body, exchange-next, clean-later, room-more, runs-more, clock-stays}
 use Rattle.script.specs.WatchLaws.{isOn, not-ticking, jobs-plain, jobs-stay, line-not-two}
-use Rattle.script.specs.Heard.{Heard, WholePart}
+use Rattle.script.specs.Heard.{Heard, Went, WholePart}
 
 -- a part of a permitted length
 pub whole-part : (S n : ℕ) → permitted n ≡ true → S ≡ sectorsIn n → WholePart S n
@@ -61,6 +61,12 @@ heard-then {T} {s} {m} {at} {at′} {at″} {c} {c′} {c″} {said} {said′} a
       onward = omega (arith, a .onward, b .onward);
       inside = b .inside;
     }
+
+-- the same, with its end said in other words
+pub went-as : {T : Setting} {s m : List ℕ} {at : ℕ} {c : Chip} {out : List ℕ} {pos at′ at″ : ℕ} {c′ c″ : Chip} {out′ : List ℕ} {pos′ : ℕ} → at″ ≡ at′ → c″ ≡ c′
+    → Went T s m at c out pos at′ c′ out′ pos′ → Went T s m at c out pos at″ c″ out′ pos′
+went-as {T} {s} {m} {at} {c} {out} {pos} {at′} {at″} {c′} {c″} {out′} {pos′} a e w =
+    subst (λ (q : ℕ). Went T s m at c out pos q c″ out′ pos′) (sym a) (subst (λ (x : Chip). Went T s m at c out pos at′ x out′ pos′) (sym e) w)
 
 -- ---- one event
 

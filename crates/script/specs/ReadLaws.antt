@@ -270,3 +270,13 @@ module _ (T : Setting) (s m : List ℕ) (bytes : Bytes s) (part : lengthOf (T .s
         stored = put-then (went .stored) put;
         further = omega (arith, went .further);
       }
+
+-- where they lead nowhere nothing is stored, and elsewhere they are a stretch
+module _ {T : Setting} {s m : List ℕ} {at : ℕ} {c : Chip} {out : List ℕ} {pos at′ : ℕ} {c′ : Chip} {out′ : List ℕ} {pos′ : ℕ} where
+  pub reading-none : Reading T s m at c out pos at′ c′ out′ pos′ → at′ ≡ at → out′ ≡ out
+  reading-none (none a p o) e = o
+  reading-none (some went) e = absurd (omega (arith, went .further, e))
+
+  pub reading-some : Reading T s m at c out pos at′ c′ out′ pos′ → (at′ ≡ at → ⊥) → Went T s m at c out pos at′ c′ out′ pos′
+  reading-some (none a p o) other = absurd (other a)
+  reading-some (some went) other = went

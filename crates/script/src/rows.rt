@@ -226,13 +226,10 @@ fn read_frames(
     let mut n = whole_read(script, here, longest);
     while 0 < n {
         end = put_frame(out, end, mem, sectors, script, here, n);
-        here += 3 + 2 * n;
+        here = here + 3 + 2 * n;
         n = whole_read(script, here, longest);
     }
-    Place {
-        at: here,
-        pos: end,
-    }
+    Place { at: here, pos: end }
 }
 
 // A select: the whole frames of reads that stand there, or else the opened frame.
@@ -278,14 +275,7 @@ pub fn select(
 }
 
 // The row of n data bytes of a read.
-fn read_row(
-    frame: Frame,
-    mem: &[u8],
-    at: usize,
-    out: &mut [u8],
-    pos: usize,
-    n: usize,
-) -> Onward
+fn read_row(frame: Frame, mem: &[u8], at: usize, out: &mut [u8], pos: usize, n: usize) -> Onward
     requires { ⌜ (frame .place < length (now mem)) × (0 < n) × (n ≤ length (now mem)) × (at + 2 * n ≤ 65536) × (length (now mem) ≤ 2097152) × (pos + 2 * n ≤ length (now out)) ⌝ }
     ensures { λ r. ⌜ (r .frame ≡ readOn (length (now (mem .entry))) n frame) × (r .at ≡ at + 2 * n) × Put (now (out .entry)) pos (cellsOn (now (mem .entry)) (length (now (mem .entry))) (frame .place) n) (r .pos) (now (out .exit)) ⌝ }
 {
