@@ -25,10 +25,9 @@ use Rattle.chip.specs.declared.Record.{Record}
 use Rattle.chip.specs.declared.Record.the-variants.{Nothing, Floating, Driven, Verdict, InTheWay}
 use Rattle.chip.specs.Record.{recordBytes}
 use Rattle.chip.specs.Laws.{recordBytes-most}
-use Rattle.frame.specs.Frame.{Exchange, exchanged}
+use Rattle.frame.specs.Frame.{Exchange, exchanged, judge}
 use Rattle.frame.specs.Legality.{taken-each, exchanged-each}
 use Rattle.commands.specs.Table.{isRead}
-use Rattle.frame.specs.Frame.{judge}
 use Rattle.chip.specs.Chip.{emptyFrame, blankLoad}
 use Rattle.verdict.specs.Verdict.{verdict, inTheWay, recordOf}
 use Rattle.verdict.specs.Laws.{verdict-read, settled-read, held-stays, record-plain}

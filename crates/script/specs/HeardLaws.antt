@@ -1,32 +1,31 @@
 -- What is true of stretches: one event is one, two that follow on each other are one, and so are a row of cells and a whole frame that reads.
-use Prim.Native.Nat.{ℕ, zero, suc, _+_, _*_, _<_, _≤_}
-use mathlib.Core.Bool.{Bool, true, false, cond, _&&_, _||_}
-use mathlib.Core.List.{List, [], _∷_, _++_, append-nil, append-assoc}
+use Prim.Native.Nat.{ℕ, _+_, _<_, _≤_}
+use mathlib.Core.Bool.{true, false}
+use mathlib.Core.List.{List, [], _++_, append-nil, append-assoc}
 use mathlib.Core.Path.{_≡_, refl, sym, ap, subst, _∙_}
-use native.Mathlib.Nat.{add-zero, add-suc}
+use native.Mathlib.Nat.{add-zero}
 use native.Mathlib.Omega.{arith}
-use lib.Dec.{eqb, ltb}
 use lib.ListN.{length, getD, length-append}
 use Rattle.part.specs.Part.{permitted, sectorsIn, Setting, lengthOf}
 use Rattle.part.specs.Laws.{permitted-whole, permitted-length, permitted-some}
-use Rattle.kinds.specs.Kinds.{SELECT, EXCHANGE, DESELECT, STAMP, TICK, roomOf, saysOf, kindRow, kindRowIn}
+use Rattle.kinds.specs.Kinds.{SELECT, EXCHANGE, roomOf, saysOf, kindRow, kindRowIn}
 use Rattle.kinds.specs.Body.{bodyAt, nextAt}
 use Rattle.clock.specs.declared.Clock.{Clock}
 use Rattle.chip.specs.declared.Chip.{Chip}
 use Rattle.chip.specs.declared.Frame.{Frame}
 use Rattle.chip.specs.declared.Record.{Record}
-use Rattle.chip.specs.declared.Record.the-variants.{Nothing, Floating, Driven, Verdict}
+use Rattle.chip.specs.declared.Record.the-variants.{Nothing}
 use Rattle.chip.specs.Chip.{whole}
 use Rattle.chip.specs.Record.{recordBytes}
 use Rattle.event.specs.Event.{Outcome, outcome, select, settleExchange, applied, sortOf}
 use Rattle.event.specs.Laws.{applied-select, applied-exchange, says-its-kind, said-room}
 use Rattle.frame.specs.Frame.{exchange, exchanged}
-use Rattle.script.specs.Script.{Event, eventAt, eventsFrom, timed, clockAfter, firstBad, room}
-use Rattle.script.specs.Run.{World, world, runs}
-use Rattle.script.specs.Jobs.{Followed, tickByTick, stands, isTwo, jobs}
+use Rattle.script.specs.Script.{eventAt, eventsFrom, timed, firstBad}
+use Rattle.script.specs.Run.{world, runs}
+use Rattle.script.specs.Jobs.{tickByTick, stands, isTwo, jobs}
 use Rattle.script.specs.Watch.{ticking}
 use Rattle.script.specs.Laws.{select-next, exchange-body, exchange-next, clean-later, room-more, runs-more, clock-stays}
-use Rattle.script.specs.WatchLaws.{isOn, not-ticking, jobs-plain, jobs-stay, line-not-two}
+use Rattle.script.specs.WatchLaws.{not-ticking, jobs-plain, jobs-stay, line-not-two}
 use Rattle.script.specs.Heard.{Heard, Went, WholePart}
 
 -- a part of a permitted length

@@ -1,13 +1,13 @@
 -- What is heard of a whole frame of a read of cells: its header floats, cell after cell is driven, its verdict is 0, and the chip is as it was.
 use Prim.Native.Nat.{ℕ, zero, suc, _+_, _*_, _-_, _<_, _≤_}
 use mathlib.Core.Bool.{Bool, true, false, cond, not, _&&_, true≢false}
-use mathlib.Core.List.{List, [], _++_, append-assoc}
+use mathlib.Core.List.{List, _++_}
 use mathlib.Core.Path.{_≡_, refl, sym, ap, subst, _∙_}
 use native.Mathlib.Omega.{arith}
 use native.Mathlib.Decide.{ℕ-discrete}
 use lib.Dec.{eqb, ltb}
 use lib.ListN.{length, getD, length-append}
-use borrow.Author.Tests.{eqb-true, ne-eqb, eq-eqb, not-true}
+use borrow.Author.Tests.{eqb-true, ne-eqb, not-true}
 use Rattle.cells.specs.Choice.{cond-no, cond-either, and-left, and-right, and-both}
 use Rattle.cells.specs.Put.{Put}
 use Rattle.cells.specs.PutLaws.{put-then}

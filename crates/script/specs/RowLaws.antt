@@ -2,7 +2,7 @@
 use Prim.Native.Nat.{ℕ, zero, suc, _+_, _*_, _<_, _≤_}
 use mathlib.Core.Bool.{true, false}
 use mathlib.Core.List.{List, []}
-use mathlib.Core.Path.{_≡_, refl, sym, ap, subst, _∙_}
+use mathlib.Core.Path.{_≡_, sym, ap, subst, _∙_}
 use native.Mathlib.Nat.{add-zero}
 use native.Mathlib.Omega.{arith}
 use lib.Dec.{eqb, ltb}
@@ -22,7 +22,7 @@ use Rattle.chip.specs.Chip.{whole}
 use Rattle.frame.specs.Stream.{streams, placeOn, countOn, readOn, slotOn, loadOn, cellsOn}
 use Rattle.frame.specs.StreamLaws.{streamed-load, streamed-cell, exchanged-stream}
 use Rattle.frame.specs.RowLaws.{streams-on, loads-on, stream-cell}
-use Rattle.script.specs.Script.{Refusal, eventAt, eventsFrom, firstBad, room}
+use Rattle.script.specs.Script.{eventsFrom, firstBad, room}
 use Rattle.script.specs.Laws.{firstBad-later, exchange-good, exchange-clock, exchange-next, exchange-room}
 use Rattle.script.specs.Heard.{Heard, floats, loadedOn}
 use Rattle.script.specs.HeardLaws.{heard-none, heard-then, heard-exchange}

@@ -172,7 +172,7 @@ fn longer(longest: Row, at: usize, n: usize) -> Row
 
 // A look through the script: the first bad event, the room for the records, and the longest row of exchanges.
 // With a whole exchange nothing can be wrong, and most events are some: a row of them is passed in one go.
-// Selects, deselects, ticks and stamps are frequent: what comes after them need not wait for a look at the
+// Ticks, deselects, selects and stamps are frequent: what comes after them need not wait for a look at the
 // table of kinds.
 fn scan(s: &[u8]) -> Scanned
     requires { ⌜ length (now s) ≤ 65536 ⌝ }
@@ -195,6 +195,10 @@ fn scan(s: &[u8]) -> Scanned
                 continue;
             }
         }
+        if is_good(s, at, Kind::TICKS) {
+            at += 3;
+            continue;
+        }
         if is_good(s, at, Kind::DESELECT) {
             space += kinds::room_of(Kind::DESELECT);
             at += 2;
@@ -202,10 +206,6 @@ fn scan(s: &[u8]) -> Scanned
         }
         if is_good(s, at, Kind::SELECT) {
             at += 1;
-            continue;
-        }
-        if is_good(s, at, Kind::TICKS) {
-            at += 3;
             continue;
         }
         if is_good_stamp(s, at, clock) {

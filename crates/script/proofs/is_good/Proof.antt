@@ -1,3 +1,4 @@
+-- `script::is_good` meets its contract. Another kind, one that is cut off, or a whole one, which is good if its body is in range, whatever the clock (`kind-good`).
 use Rattle.script.specs.Script.{eventAt, faultBy}
 use mathlib.Core.Path.{sym, ap, _∙_}
 use mathlib.Core.Bool.{Bool, _&&_}
@@ -10,41 +11,28 @@ use Rattle.script.specs.Laws.{fault-four, kind-good}
 use borrow.Author.Needs.{needs}
 use Rattle.script.proofs.is_good.Statement.{statement}
 use Rattle.script.proofs.is_good.Tie as tie
-use Rattle.script.proofs.is_good.Reads as reads
-use Rattle.script.proofs.is_good.Lts as lts
-use Rattle.kinds.proofs.body_at.Reads as body-at-reads
-use Rattle.kinds.proofs.is_in_range.Reads as is-in-range-reads
-use Rattle.kinds.proofs.next_at.Reads as next-at-reads
 
--- src/lib.rt:140:8
 shared-slice-read-if1 : tie.Need-shared-slice-read-if1
 shared-slice-read-if1 c = search needs
 
--- src/lib.rt:140:8
 cast-if1 : tie.Need-cast-if1
 cast-if1 c = omega (arith, c .shared-slice-known2 .given (c .before .before .args .at))
 
--- src/lib.rt:141:9
 returns : tie.Need-returns
 returns c = λ k. sym (ap (λ (b : Bool). b && eqb (faultBy k (eventAt (c .before .before .before .args .s .now) (c .before .before .before .args .at))) 0) (ne-eqb _ _ (c .if1 .taken)))
 
--- src/lib.rt:143:18
 next-at-requires : tie.Need-next-at-requires
 next-at-requires c κs = search needs
 
--- src/lib.rt:144:9
 returns-2 : tie.Need-returns-2
 returns-2 c = λ k. sym (λ i. eq-eqb _ _ (c .before .before .if1 .left) i && eqb (fault-four k (c .before .before .before .before .before .args .s .now) (c .before .before .before .before .before .args .at) (ap knownInScript (c .before .before .if1 .left) ∙ c .before .before .before .before .before .pre .1) (omega (arith, c .if2 .taken, c .before .next-at .ensures, step-inside (c .before .before .before .before .before .args .s .now) (c .before .before .before .before .before .args .at) (c .before .before .before .before .before .pre .0))) i) 0)
 
--- src/lib.rt:146:30
 body-at-requires : tie.Need-body-at-requires
 body-at-requires c κs = search needs
 
--- src/lib.rt:146:5
 is-in-range-requires : tie.Need-is-in-range-requires
 is-in-range-requires c κs = search needs
 
--- src/lib.rt:136:1
 returns-3 : tie.Need-returns-3
 returns-3 c = λ k. c .is-in-range .ensures ∙ ap (inRange (c .before .before .before .before .before .before .before .args .kind)) (c .before .body-at .ensures .0) ∙ sym (λ i. eq-eqb _ _ (c .before .before .before .before .if1 .left) i && kind-good k (c .before .before .before .before .before .before .before .args .s .now) (c .before .before .before .before .before .before .before .args .at) (c .before .before .before .before .before .before .before .args .kind) (c .before .before .before .before .before .before .before .pre .1) (c .before .before .before .before .before .before .before .pre .2) (c .before .before .before .before .if1 .left) (omega (arith, c .before .before .if2 .left, c .before .before .before .next-at .ensures, step-inside (c .before .before .before .before .before .before .before .args .s .now) (c .before .before .before .before .before .before .before .args .at) (c .before .before .before .before .before .before .before .pre .0))) i)
 

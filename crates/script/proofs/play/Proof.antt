@@ -1,6 +1,7 @@
-use Prim.Native.Nat.{_+_, _<_, _-_}
-use mathlib.Core.Bool.{Bool, true, false, not, _&&_, _||_, or-false}
-use mathlib.Core.Path.{_≡_, refl, sym, _∙_, ap}
+-- `script::play` meets its contract. What is left of the script, run from here, comes to what the whole script comes to (`Playing`), and the jobs told from here on to the whole report if one is wanted (`Watching`); each turn is a stretch of it (`plays-on`, `watched-on`) or one event, ticks of any kind by `ticks-turn`, those that find nothing to do by `idle-turn`. Beside it stands whether a job runs or is followed.
+use Prim.Native.Nat.{_<_, _-_}
+use mathlib.Core.Bool.{Bool, true, not, _&&_, _||_, or-false}
+use mathlib.Core.Path.{_≡_, sym, _∙_, ap}
 use native.Mathlib.Omega.{arith}
 use borrow.Author.Tests.{not-true}
 use lib.Dec.{eqb}
@@ -17,22 +18,6 @@ use Rattle.script.proofs.Playing.{Playing, starts, plays-on, ready, wat
 use borrow.Author.Needs.{needs}
 use Rattle.script.proofs.play.Statement.{statement}
 use Rattle.script.proofs.play.Tie as tie
-use Rattle.script.proofs.play.Reads as reads
-use Rattle.script.proofs.play.Lts as lts
-use Rattle.chip.proofs.is_running.Reads as is-running-reads
-use Rattle.event.proofs.step.Reads as step-reads
-use Rattle.job.proofs.ticks.Reads as ticks-reads
-use Rattle.kinds.proofs.body_at.Reads as body-at-reads
-use Rattle.kinds.proofs.next_at.Reads as next-at-reads
-use Rattle.script.proofs.clock_after.Reads as clock-after-reads
-use Rattle.script.proofs.is_ticking.Reads as is-ticking-reads
-use Rattle.script.proofs.no_stamp.Reads as no-stamp-reads
-use Rattle.script.proofs.put.Reads as put-reads
-use Rattle.script.proofs.rows.hear.Reads as hear-reads
-use Rattle.script.proofs.rows.select.Reads as select-reads
-use Rattle.script.proofs.ticks_of.Reads as ticks-of-reads
-use Rattle.script.proofs.watch_event.Reads as watch-event-reads
-use Rattle.script.proofs.watch_ticks.Reads as watch-ticks-reads
 
 abbrev Inv-loop : tie.InvT-loop
 Inv-loop load₀ held₀ mem₀ script out₀ sectors area longest wanted allowances core₀ frame₀ busy₀ clock₀ watch₀ at₀ pos₀ ticks₀ load held mem out core frame busy clock watch at pos ticks = Playing (setting sectors area) script (whole core₀ frame₀ load₀ held₀) mem₀ out₀ (whole core frame load held) mem out clock at pos ticks × (busy ≡ (running core || watch .on)) × Watching wanted (setting sectors area) allowances script (whole core₀ frame₀ load₀ held₀) mem₀ (watch₀ .report) (whole core frame load held) mem clock at watch
@@ -40,61 +25,47 @@ Inv-loop load₀ held₀ mem₀ script out₀ sectors area longest wanted allowa
 abbrev μ-loop : tie.MeasureT-loop
 μ-loop load₀ held₀ mem₀ script out₀ sectors area longest wanted allowances core₀ frame₀ busy₀ clock₀ watch₀ at₀ pos₀ ticks₀ load held mem out core frame busy clock watch at pos ticks = length script - at
 
--- src/lib.rt:421:9
 is-running-requires : tie.Need-is-running-requires Inv-loop μ-loop
 is-running-requires c κs = search needs
 
--- src/lib.rt:422:9
 no-stamp-requires : tie.Need-no-stamp-requires Inv-loop μ-loop
 no-stamp-requires c κs = search needs
 
--- src/lib.rt:432:5
 loop-holds : tie.Need-loop-holds Inv-loop μ-loop
 loop-holds c = (rw (c .no-stamp .ensures) (starts _ _ _ _ _ (c .before .before .before .before .before .before .pre .1)), c .before .is-running .ensures ∙ sym (or-false _), rw (c .no-stamp .ensures) (watch-starts _ _ _ _ _ _ _))
 
--- src/lib.rt:433:20
 shared-slice-read-kind : tie.Need-shared-slice-read-kind Inv-loop μ-loop
 shared-slice-read-kind c = search needs
 
--- src/lib.rt:433:20
 cast-kind : tie.Need-cast-kind Inv-loop μ-loop
 cast-kind c = omega (arith, c .shared-slice-known3 .given (c .before .before .loop .at))
 
--- src/lib.rt:436:17
 hear-requires : tie.Need-hear-requires Inv-loop μ-loop
 hear-requires c κs = (ready (c .before .before .before .before .before .before .loop .inv .0) (c .before .before .before .before .before .loop-test .taken) (c .before .before .before .before .before .before .before .before .before .before .before .before .before .pre .3) (c .before .before .before .before .before .before .before .before .before .before .before .before .before .pre .2), c .before .before .before .if1 .taken)
 
--- src/lib.rt:432:5
 loop-less : tie.Need-loop-less Inv-loop μ-loop
 loop-less c = omega (arith, c .before .before .before .hear .ensures (c .before .before .before .before .before .before .before .before .before .before .loop .held) .further, c .before .before .before .before .before .before .before .before .before .loop-test .taken)
 
--- src/lib.rt:432:5
 loop-again : tie.Need-loop-again Inv-loop μ-loop
 loop-again c = (plays-on (c .before .before .before .before .before .before .before .before .before .before .loop .inv .0) (c .before .before .before .hear .ensures (c .before .before .before .before .before .before .before .before .before .before .loop .held)), c .before .before .before .before .before .before .before .before .before .before .loop .inv .1, watched-on (c .before .before .before .before .before .before .before .before .before .before .loop .inv .2) (c .before .before .before .hear .ensures (c .before .before .before .before .before .before .before .before .before .before .loop .held) .heard))
 
--- src/lib.rt:456:17
 select-requires : tie.Need-select-requires Inv-loop μ-loop
 select-requires c κs = (ready (c .before .before .before .before .before .before .before .loop .inv .0) (c .before .before .before .before .before .before .loop-test .taken) (c .before .before .before .before .before .before .before .before .before .before .before .before .before .before .pre .3) (c .before .before .before .before .before .before .before .before .before .before .before .before .before .before .pre .2), c .before .before .before .if2 .taken)
 
--- src/lib.rt:432:5
 loop-less-2 : tie.Need-loop-less-2 Inv-loop μ-loop
 loop-less-2 c = omega (arith, c .before .before .before .select .ensures (c .before .before .before .before .before .before .before .before .before .before .before .before .before .before .before .before .before .before .args .area .now) (c .before .before .before .before .before .before .before .before .before .before .before .loop .held) .further, c .before .before .before .before .before .before .before .before .before .before .loop-test .taken)
 
--- src/lib.rt:432:5
 loop-again-2 : tie.Need-loop-again-2 Inv-loop μ-loop
 loop-again-2 c = (plays-on (c .before .before .before .before .before .before .before .before .before .before .before .loop .inv .0) (c .before .before .before .select .ensures (c .before .before .before .before .before .before .before .before .before .before .before .before .before .before .before .before .before .before .args .area .now) (c .before .before .before .before .before .before .before .before .before .before .before .loop .held)), c .before .before .before .before .before .before .before .before .before .before .before .loop .inv .1, watched-on (c .before .before .before .before .before .before .before .before .before .before .before .loop .inv .2) (c .before .before .before .select .ensures (c .before .before .before .before .before .before .before .before .before .before .before .before .before .before .before .before .before .before .args .area .now) (c .before .before .before .before .before .before .before .before .before .before .before .loop .held) .heard))
 
--- src/lib.rt:474:13
 next-at-requires : tie.Need-next-at-requires Inv-loop μ-loop
 next-at-requires c κs = search needs
 
--- src/lib.rt:432:5
 loop-less-3 : tie.Need-loop-less-3 Inv-loop μ-loop
 loop-less-3 c =
     let next : c .next-at .result ≡ nextAt (c .before .before .before .before .before .before .before .before .before .before .before .before .before .args .script .now) (c .before .before .before .before .before .before .loop .at) = c .next-at .ensures ∙ step-inside (c .before .before .before .before .before .before .before .before .before .before .before .before .before .args .script .now) (c .before .before .before .before .before .before .loop .at) (c .before .before .before .before .before .loop-test .taken) in
     omega (arith, next, c .before .before .before .before .before .loop-test .taken)
 
--- src/lib.rt:432:5
 loop-again-3 : tie.Need-loop-again-3 Inv-loop μ-loop
 loop-again-3 c =
     let next : c .next-at .result ≡ nextAt (c .before .before .before .before .before .before .before .before .before .before .before .before .before .args .script .now) (c .before .before .before .before .before .before .loop .at) = c .next-at .ensures ∙ step-inside (c .before .before .before .before .before .before .before .before .before .before .before .before .before .args .script .now) (c .before .before .before .before .before .before .loop .at) (c .before .before .before .before .before .loop-test .taken) in
@@ -107,41 +78,32 @@ loop-again-3 c =
       rw next (plain-idle-watched (c .before .before .before .before .before .before .loop .inv .2) (c .before .before .before .before .before .loop-test .taken) (good (c .before .before .before .before .before .before .loop .inv .0) (c .before .before .before .before .before .loop-test .taken) .ranged) plain (idle .0) (idle .1)),
     )
 
--- src/lib.rt:477:13
 body-at-requires : tie.Need-body-at-requires Inv-loop μ-loop
 body-at-requires c κs = search needs
 
--- src/lib.rt:478:12
 is-ticking-requires : tie.Need-is-ticking-requires Inv-loop μ-loop
 is-ticking-requires c κs = search needs
 
--- src/lib.rt:479:43
 cast-ticks-of : tie.Need-cast-ticks-of Inv-loop μ-loop
 cast-ticks-of c = omega (arith, c .before .before .body-at .ensures .1)
 
--- src/lib.rt:479:17
 ticks-of-requires : tie.Need-ticks-of-requires Inv-loop μ-loop
 ticks-of-requires c κs = search needs
 
--- src/lib.rt:480:46
 cast-clock-after : tie.Need-cast-clock-after Inv-loop μ-loop
 cast-clock-after c = omega (arith, c .before .before .before .body-at .ensures .1)
 
--- src/lib.rt:480:13
 clock-after-requires : tie.Need-clock-after-requires Inv-loop μ-loop
 clock-after-requires c κs = search needs
 
--- src/lib.rt:481:13
 next-at-requires-2 : tie.Need-next-at-requires-2 Inv-loop μ-loop
 next-at-requires-2 c κs = search needs
 
--- src/lib.rt:432:5
 loop-less-4 : tie.Need-loop-less-4 Inv-loop μ-loop
 loop-less-4 c =
     let next : c .before .next-at2 .result ≡ nextAt (c .before .before .before .before .before .before .before .before .before .before .before .before .before .before .before .before .before .before .before .args .script .now) (c .before .before .before .before .before .before .before .before .before .before .before .before .loop .at) = c .before .next-at2 .ensures ∙ step-inside (c .before .before .before .before .before .before .before .before .before .before .before .before .before .before .before .before .before .before .before .args .script .now) (c .before .before .before .before .before .before .before .before .before .before .before .before .loop .at) (c .before .before .before .before .before .before .before .before .before .before .before .loop-test .taken) in
     omega (arith, next, c .before .before .before .before .before .before .before .before .before .before .before .loop-test .taken)
 
--- src/lib.rt:432:5
 loop-again-4 : tie.Need-loop-again-4 Inv-loop μ-loop
 loop-again-4 c =
     let next : c .before .next-at2 .result ≡ nextAt (c .before .before .before .before .before .before .before .before .before .before .before .before .before .before .before .before .before .before .before .args .script .now) (c .before .before .before .before .before .before .before .before .before .before .before .before .loop .at) = c .before .next-at2 .ensures ∙ step-inside (c .before .before .before .before .before .before .before .before .before .before .before .before .before .before .before .before .before .before .before .args .script .now) (c .before .before .before .before .before .before .before .before .before .before .before .before .loop .at) (c .before .before .before .before .before .before .before .before .before .before .before .loop-test .taken) in
@@ -152,11 +114,9 @@ loop-again-4 c =
       rw next (idle-watched (c .before .before .before .before .before .before .before .before .before .before .before .before .loop .inv .2) (c .before .before .before .before .before .before .before .before .before .before .before .loop-test .taken) ticking _ (c .before .before .before .before .before .before .body-at .ensures .0) _ (c .before .before .before .ticks-of .ensures .0) (c .before .before .before .ticks-of .ensures .1) _ (c .before .before .clock-after .ensures) (idle .0) (idle .1)),
     )
 
--- src/lib.rt:485:17
 ticks-requires : tie.Need-ticks-requires Inv-loop μ-loop
 ticks-requires c κs = search needs
 
--- src/lib.rt:486:13
 watch-ticks-requires : tie.Need-watch-ticks-requires Inv-loop μ-loop
 watch-ticks-requires c κs =
     let ticking = sym (c .before .before .before .before .before .before .before .before .before .before .is-ticking .ensures) ∙ c .before .before .before .before .before .before .before .before .before .if4 .taken in
@@ -166,27 +126,22 @@ watch-ticks-requires c κs =
       omega (arith, c .before .before .ticks .ensures .working, worked-most (c .before .before .before .before .before .before .before .before .before .before .before .before .before .before .before .before .before .before .before .before .before .before .before .before .args .sectors) (c .before .before .before .before .before .before .before .before .ticks-of .result) (c .before .before .before .before .before .before .before .before .before .before .before .before .before .before .before .before .before .loop .core)),
     )
 
--- src/lib.rt:488:20
 is-running-requires-2 : tie.Need-is-running-requires-2 Inv-loop μ-loop
 is-running-requires-2 c κs = search needs
 
--- src/lib.rt:489:22
 cast-ticks : tie.Need-cast-ticks Inv-loop μ-loop
 cast-ticks c = search needs
 
--- src/lib.rt:489:13
 add-ticks : tie.Need-add-ticks Inv-loop μ-loop
 add-ticks c =
     let t : c .before .before .before .before .before .before .before .ticks .result .worked < 4294967296 = search needs in
     omega (arith, c .before .before .before .before .before .before .before .before .before .before .before .before .before .before .before .before .before .before .before .before .before .before .loop .inv .0 .few, c .before .before .before .before .before .before .before .before .before .before .before .before .before .before .before .before .before .before .before .before .before .before .loop .inv .0 .inside, c .before .before .before .before .before .before .before .before .before .before .before .before .before .before .before .before .before .before .before .before .before .before .loop .inv .0 .short)
 
--- src/lib.rt:432:5
 loop-less-5 : tie.Need-loop-less-5 Inv-loop μ-loop
 loop-less-5 c =
     let next : c .before .before .before .before .before .before .before .before .before .before .before .next-at2 .result ≡ nextAt (c .before .before .before .before .before .before .before .before .before .before .before .before .before .before .before .before .before .before .before .before .before .before .before .before .before .before .before .before .before .args .script .now) (c .before .before .before .before .before .before .before .before .before .before .before .before .before .before .before .before .before .before .before .before .before .before .loop .at) = c .before .before .before .before .before .before .before .before .before .before .before .next-at2 .ensures ∙ step-inside (c .before .before .before .before .before .before .before .before .before .before .before .before .before .before .before .before .before .before .before .before .before .before .before .before .before .before .before .before .before .args .script .now) (c .before .before .before .before .before .before .before .before .before .before .before .before .before .before .before .before .before .before .before .before .before .before .loop .at) (c .before .before .before .before .before .before .before .before .before .before .before .before .before .before .before .before .before .before .before .before .before .loop-test .taken) in
     omega (arith, next, c .before .before .before .before .before .before .before .before .before .before .before .before .before .before .before .before .before .before .before .before .before .loop-test .taken)
 
--- src/lib.rt:432:5
 loop-again-5 : tie.Need-loop-again-5 Inv-loop μ-loop
 loop-again-5 c =
     let next : c .before .before .before .before .before .before .before .before .before .before .before .next-at2 .result ≡ nextAt (c .before .before .before .before .before .before .before .before .before .before .before .before .before .before .before .before .before .before .before .before .before .before .before .before .before .before .before .before .before .args .script .now) (c .before .before .before .before .before .before .before .before .before .before .before .before .before .before .before .before .before .before .before .before .before .before .loop .at) = c .before .before .before .before .before .before .before .before .before .before .before .next-at2 .ensures ∙ step-inside (c .before .before .before .before .before .before .before .before .before .before .before .before .before .before .before .before .before .before .before .before .before .before .before .before .before .before .before .before .before .args .script .now) (c .before .before .before .before .before .before .before .before .before .before .before .before .before .before .before .before .before .before .before .before .before .before .loop .at) (c .before .before .before .before .before .before .before .before .before .before .before .before .before .before .before .before .before .before .before .before .before .loop-test .taken) in
@@ -196,47 +151,37 @@ loop-again-5 c =
       rw (next, c .before .before .before .before .watch-ticks .ensures) (ticks-watched (c .before .before .before .before .before .before .before .before .before .before .before .before .before .before .before .before .before .before .before .before .before .before .loop .inv .2) (c .before .before .before .before .before .before .before .before .before .before .before .before .before .before .before .before .before .before .before .before .before .loop-test .taken) ticking _ (c .before .before .before .before .before .before .before .before .before .before .before .before .before .before .before .before .body-at .ensures .0) _ (c .before .before .before .before .before .before .before .before .before .before .before .before .before .ticks-of .ensures .0) (c .before .before .before .before .before .before .before .before .before .before .before .before .before .ticks-of .ensures .1) _ (c .before .before .before .before .before .before .before .before .before .before .before .before .clock-after .ensures) _ _ _ _ (c .before .before .before .before .before .before .before .ticks .ensures)),
     )
 
--- src/lib.rt:502:13
 cast-step : tie.Need-cast-step Inv-loop μ-loop
 cast-step c = omega (arith, c .before .before .before .before .before .body-at .ensures .1)
 
--- src/lib.rt:493:13
 step-requires : tie.Need-step-requires Inv-loop μ-loop
 step-requires c κs = search needs
 
--- src/lib.rt:505:9
 put-requires : tie.Need-put-requires Inv-loop μ-loop
 put-requires c κs = finds-room (c .before .before .before .before .before .before .before .before .before .before .before .before .before .before .before .loop .inv .0) (c .before .before .before .before .before .before .before .before .before .before .before .before .before .before .loop-test .taken) _ (c .before .before .before .step .ensures ∙ ap (applied _ _ _ _) (c .before .before .before .before .before .before .before .before .before .body-at .ensures .0))
 
--- src/lib.rt:506:9
 watch-event-requires : tie.Need-watch-event-requires Inv-loop μ-loop
 watch-event-requires c κs = search needs
 
--- src/lib.rt:508:16
 is-running-requires-3 : tie.Need-is-running-requires-3 Inv-loop μ-loop
 is-running-requires-3 c κs = search needs
 
--- src/lib.rt:510:18
 cast-ticks-2 : tie.Need-cast-ticks-2 Inv-loop μ-loop
 cast-ticks-2 c = search needs
 
--- src/lib.rt:510:9
 add-ticks-2 : tie.Need-add-ticks-2 Inv-loop μ-loop
 add-ticks-2 c =
     let t : c .before .before .before .before .before .before .before .before .before .before .before .before .step .result .ticks < 4294967296 = search needs in
     omega (arith, c .before .before .before .before .before .before .before .before .before .before .before .before .before .before .before .before .before .before .before .before .before .before .before .before .loop .inv .0 .few, c .before .before .before .before .before .before .before .before .before .before .before .before .before .before .before .before .before .before .before .before .before .before .before .before .loop .inv .0 .inside, c .before .before .before .before .before .before .before .before .before .before .before .before .before .before .before .before .before .before .before .before .before .before .before .before .loop .inv .0 .short)
 
--- src/lib.rt:511:9
 next-at-requires-3 : tie.Need-next-at-requires-3 Inv-loop μ-loop
 next-at-requires-3 c κs = search needs
 
--- src/lib.rt:432:5
 loop-less-6 : tie.Need-loop-less-6 Inv-loop μ-loop
 loop-less-6 c =
     let next : c .next-at3 .result ≡ nextAt (c .before .before .before .before .before .before .before .before .before .before .before .before .before .before .before .before .before .before .before .before .before .before .before .before .before .before .before .before .before .before .before .before .args .script .now) (c .before .before .before .before .before .before .before .before .before .before .before .before .before .before .before .before .before .before .before .before .before .before .before .before .before .loop .at) = c .next-at3 .ensures ∙ step-inside (c .before .before .before .before .before .before .before .before .before .before .before .before .before .before .before .before .before .before .before .before .before .before .before .before .before .before .before .before .before .before .before .before .args .script .now) (c .before .before .before .before .before .before .before .before .before .before .before .before .before .before .before .before .before .before .before .before .before .before .before .before .before .loop .at) (c .before .before .before .before .before .before .before .before .before .before .before .before .before .before .before .before .before .before .before .before .before .before .before .before .loop-test .taken) in
     omega (arith, next, c .before .before .before .before .before .before .before .before .before .before .before .before .before .before .before .before .before .before .before .before .before .before .before .before .loop-test .taken)
 
--- src/lib.rt:432:5
 loop-again-6 : tie.Need-loop-again-6 Inv-loop μ-loop
 loop-again-6 c =
     let next : c .next-at3 .result ≡ nextAt (c .before .before .before .before .before .before .before .before .before .before .before .before .before .before .before .before .before .before .before .before .before .before .before .before .before .before .before .before .before .before .before .before .args .script .now) (c .before .before .before .before .before .before .before .before .before .before .before .before .before .before .before .before .before .before .before .before .before .before .before .before .before .loop .at) = c .next-at3 .ensures ∙ step-inside (c .before .before .before .before .before .before .before .before .before .before .before .before .before .before .before .before .before .before .before .before .before .before .before .before .before .before .before .before .before .before .before .before .args .script .now) (c .before .before .before .before .before .before .before .before .before .before .before .before .before .before .before .before .before .before .before .before .before .before .before .before .before .loop .at) (c .before .before .before .before .before .before .before .before .before .before .before .before .before .before .before .before .before .before .before .before .before .before .before .before .loop-test .taken) in
@@ -247,15 +192,12 @@ loop-again-6 c =
       rw (next, c .before .before .before .before .before .before .watch-event .ensures) (event-watched (c .before .before .before .before .before .before .before .before .before .before .before .before .before .before .before .before .before .before .before .before .before .before .before .before .before .loop .inv .2) (c .before .before .before .before .before .before .before .before .before .before .before .before .before .before .before .before .before .before .before .before .before .before .before .before .loop-test .taken) other _ _ _ _ _ _ _ does),
     )
 
--- src/lib.rt:398:1
 same-length : tie.Need-same-length Inv-loop μ-loop
 same-length c = c .before .before .loop .inv .0 .memory
 
--- src/lib.rt:398:1
 same-length-2 : tie.Need-same-length-2 Inv-loop μ-loop
 same-length-2 c = c .before .before .loop .inv .0 .output
 
--- src/lib.rt:398:1
 returns : tie.Need-returns Inv-loop μ-loop
 returns c = (ends (c .before .before .loop .inv .0) (c .before .loop-test .left), reports (c .before .before .loop .inv .2) (c .before .loop-test .left))
 

@@ -1,3 +1,4 @@
+-- `script::refuses` meets its contract. One test after the other, in the order of the definition; the longest row is the scan's.
 use mathlib.Core.Path.{_≡_, sym, _∙_, ap}
 use mathlib.Core.Bool.{true, false}
 use Prim.Native.Nat.{_<_, _≤_}
@@ -13,22 +14,13 @@ use Rattle.chip.specs.declared.Chip.{Chip}
 use borrow.Author.Needs.{needs}
 use Rattle.script.proofs.refuses.Statement.{statement}
 use Rattle.script.proofs.refuses.Tie as tie
-use Rattle.script.proofs.refuses.Reads as reads
-use Rattle.script.proofs.refuses.Lts as lts
-use Rattle.part.proofs.sectors_of.Reads as sectors-of-reads
-use Rattle.script.proofs.refuse.Reads as refuse-reads
-use Rattle.script.proofs.scan.Reads as scan-reads
-use Rattle.script.proofs.turned_down.Reads as turned-down-reads
 
--- src/lib.rt:549:8
 sectors-of-requires : tie.Need-sectors-of-requires
 sectors-of-requires c κs = search needs
 
--- src/lib.rt:550:9
 turned-down-requires : tie.Need-turned-down-requires
 turned-down-requires c κs = search needs
 
--- src/lib.rt:550:9
 returns : tie.Need-returns
 returns c = (
   (λ (chip : Chip) fine. rw (c .turned-down .ensures .0) (sym (refusal-length _ _ _ _ _ (no-sectors (c .before .before .before .before .args .n) _ (c .before .before .sectors-of .ensures) (c .before .if1 .taken))))
@@ -36,11 +28,9 @@ returns c = (
   c .turned-down .ensures .1,
 )
 
--- src/lib.rt:553:9
 turned-down-requires-2 : tie.Need-turned-down-requires-2
 turned-down-requires-2 c κs = search needs
 
--- src/lib.rt:553:9
 returns-2 : tie.Need-returns-2
 returns-2 c = (
   (λ (chip : Chip) fine.
@@ -50,11 +40,9 @@ returns-2 c = (
   c .turned-down2 .ensures .1,
 )
 
--- src/lib.rt:556:9
 turned-down-requires-3 : tie.Need-turned-down-requires-3
 turned-down-requires-3 c κs = search needs
 
--- src/lib.rt:556:9
 returns-3 : tie.Need-returns-3
 returns-3 c = (
   (λ (chip : Chip) fine.
@@ -65,11 +53,9 @@ returns-3 c = (
   c .turned-down3 .ensures .1,
 )
 
--- src/lib.rt:559:9
 turned-down-requires-4 : tie.Need-turned-down-requires-4
 turned-down-requires-4 c κs = search needs
 
--- src/lib.rt:559:9
 returns-4 : tie.Need-returns-4
 returns-4 c = (
   (λ (chip : Chip) fine.
@@ -80,11 +66,9 @@ returns-4 c = (
   c .turned-down4 .ensures .1,
 )
 
--- src/lib.rt:561:9
 scan-requires : tie.Need-scan-requires
 scan-requires c κs = search needs
 
--- src/lib.rt:565:9
 returns-5 : tie.Need-returns-5
 returns-5 c = (
   (λ (chip : Chip) fine.
@@ -96,11 +80,9 @@ returns-5 c = (
   c .before .before .before .before .scan .ensures .1,
 )
 
--- src/lib.rt:571:9
 turned-down-requires-5 : tie.Need-turned-down-requires-5
 turned-down-requires-5 c κs = search needs
 
--- src/lib.rt:571:9
 returns-6 : tie.Need-returns-6
 returns-6 c = (
   (λ (chip : Chip) fine.
@@ -113,11 +95,9 @@ returns-6 c = (
   c .turned-down5 .ensures .1,
 )
 
--- src/lib.rt:574:13
 refuse-requires : tie.Need-refuse-requires
 refuse-requires c κs = search needs
 
--- src/lib.rt:546:1
 returns-7 : tie.Need-returns-7
 returns-7 c = (
   (λ (chip : Chip) fine.

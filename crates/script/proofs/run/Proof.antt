@@ -1,3 +1,4 @@
+-- `script::run` meets its contract. Refused: all as it was. Done: nothing refused it, so the script can be played, and what that comes to is the world after the run.
 use mathlib.Core.Path.{_≡_, refl, sym, _∙_, ap}
 use mathlib.Core.List.{_++_}
 use lib.ListN.{length, drop}
@@ -11,29 +12,16 @@ use Rattle.script.specs.HeardLaws.{whole-part}
 use borrow.Author.Needs.{needs}
 use Rattle.script.proofs.run.Statement.{statement}
 use Rattle.script.proofs.run.Tie as tie
-use Rattle.script.proofs.run.Reads as reads
-use Rattle.script.proofs.run.Lts as lts
-use Rattle.legal.proofs.is_legal.Reads as is-legal-reads
-use Rattle.part.proofs.sectors_of.Reads as sectors-of-reads
-use Rattle.script.proofs.finished.Reads as finished-reads
-use Rattle.script.proofs.no_report.Reads as no-report-reads
-use Rattle.script.proofs.play.Reads as play-reads
-use Rattle.script.proofs.refuses.Reads as refuses-reads
-use Rattle.script.proofs.turned_away.Reads as turned-away-reads
 
--- src/lib.rt:674:9
 is-legal-requires : tie.Need-is-legal-requires
 is-legal-requires c κs = search needs
 
--- src/lib.rt:675:9
 refuses-requires : tie.Need-refuses-requires
 refuses-requires c κs = search needs
 
--- src/lib.rt:678:9
 turned-away-requires : tie.Need-turned-away-requires
 turned-away-requires c κs = search needs
 
--- src/lib.rt:678:9
 returns : tie.Need-returns
 returns c =
     let no : refusal (c .before .before .before .before .before .before .before .before .before .before .args .chip) (length (c .before .before .before .before .before .before .before .before .before .before .args .mem .now)) (length (c .before .before .before .before .before .before .before .before .before .before .args .area .now)) (c .before .before .before .before .before .before .before .before .before .before .args .script .now) (length (c .before .before .before .before .before .before .before .before .before .before .args .out .now)) .number ≡ 0 → ⊥ = λ e. c .before .if1 .taken (ap (λ (r : Refusal). r .number) (c .before .before .before .before .refuses .ensures .0 (c .before .before .before .before .before .before .before .before .before .before .args .chip) (c .before .before .before .before .before .is-legal .ensures)) ∙ e) in (
@@ -42,15 +30,12 @@ returns c =
       sym (output-refused _ _ _ _ _ no),
     )
 
--- src/lib.rt:697:9
 sectors-of-requires : tie.Need-sectors-of-requires
 sectors-of-requires c κs = search needs
 
--- src/lib.rt:702:9
 no-report-requires : tie.Need-no-report-requires
 no-report-requires c κs = search needs
 
--- src/lib.rt:689:9
 play-requires : tie.Need-play-requires
 unfolding allowed
 play-requires c κs =
@@ -58,19 +43,15 @@ play-requires c κs =
     let yes = accepted _ _ _ _ _ ok in
     (refl, yes .script-playable, c .before .before .before .before .before .before .before .before .before .before .before .refuses .ensures .1, whole-part _ _ (yes .length-permitted) (c .before .sectors-of .ensures ∙ cond-yes _ _ _ (yes .length-permitted)))
 
--- src/lib.rt:704:5
 finished-requires : tie.Need-finished-requires
 finished-requires c κs = search needs
 
--- src/lib.rt:668:1
 same-length : tie.Need-same-length
 same-length c = search needs
 
--- src/lib.rt:668:1
 same-length-2 : tie.Need-same-length-2
 same-length-2 c = search needs
 
--- src/lib.rt:668:1
 returns-2 : tie.Need-returns-2
 returns-2 c =
     let ok : refusal (c .before .before .before .before .before .before .before .before .before .before .before .before .before .before .before .before .before .before .before .before .before .before .before .args .chip) (length (c .before .before .before .before .before .before .before .before .before .before .before .before .before .before .before .before .before .before .before .before .before .before .before .args .mem .now)) (length (c .before .before .before .before .before .before .before .before .before .before .before .before .before .before .before .before .before .before .before .before .before .before .before .args .area .now)) (c .before .before .before .before .before .before .before .before .before .before .before .before .before .before .before .before .before .before .before .before .before .before .before .args .script .now) (length (c .before .before .before .before .before .before .before .before .before .before .before .before .before .before .before .before .before .before .before .before .before .before .before .args .out .now)) .number ≡ 0 = sym (ap (λ (r : Refusal). r .number) (c .before .before .before .before .before .before .before .before .before .before .before .before .before .before .before .before .before .refuses .ensures .0 (c .before .before .before .before .before .before .before .before .before .before .before .before .before .before .before .before .before .before .before .before .before .before .before .args .chip) (c .before .before .before .before .before .before .before .before .before .before .before .before .before .before .before .before .before .before .is-legal .ensures))) ∙ c .before .before .before .before .before .before .before .before .before .before .before .before .before .before .if1 .left in

@@ -1,3 +1,4 @@
+-- `script::run_with_report` meets its contract. 18 before all else; refused: all as it was, the report too; done: what playing comes to, and the report after its jobs.
 use mathlib.Core.Path.{_≡_, refl, sym, _∙_, ap}
 use mathlib.Core.List.{_++_}
 use mathlib.Core.Bool.{true, false}
@@ -16,31 +17,16 @@ use Rattle.script.specs.HeardLaws.{whole-part}
 use borrow.Author.Needs.{needs}
 use Rattle.script.proofs.run_with_report.Statement.{statement}
 use Rattle.script.proofs.run_with_report.Tie as tie
-use Rattle.script.proofs.run_with_report.Reads as reads
-use Rattle.script.proofs.run_with_report.Lts as lts
-use Rattle.legal.proofs.is_legal.Reads as is-legal-reads
-use Rattle.margins.proofs.are_allowed.Reads as are-allowed-reads
-use Rattle.margins.proofs.start_from.Reads as start-from-reads
-use Rattle.part.proofs.sectors_of.Reads as sectors-of-reads
-use Rattle.script.proofs.finished.Reads as finished-reads
-use Rattle.script.proofs.play.Reads as play-reads
-use Rattle.script.proofs.refuse.Reads as refuse-reads
-use Rattle.script.proofs.refuses.Reads as refuses-reads
-use Rattle.script.proofs.turned_away.Reads as turned-away-reads
 
--- src/lib.rt:607:9
 are-allowed-requires : tie.Need-are-allowed-requires
 are-allowed-requires c κs = search needs
 
--- src/lib.rt:609:36
 refuse-requires : tie.Need-refuse-requires
 refuse-requires c κs = search needs
 
--- src/lib.rt:609:18
 turned-away-requires : tie.Need-turned-away-requires
 turned-away-requires c κs = search needs
 
--- src/lib.rt:608:9
 returns : tie.Need-returns
 returns c =
     let bad : allowed (c .before .before .before .before .before .before .before .before .args .allowances) ≡ false = sym (c .before .before .before .are-allowed .ensures) ∙ not-true _ (c .before .before .if1 .taken) in (
@@ -50,19 +36,15 @@ returns c =
       sym (report-18 _ _ _ _ _ _ bad _),
     )
 
--- src/lib.rt:614:9
 is-legal-requires : tie.Need-is-legal-requires
 is-legal-requires c κs = search needs
 
--- src/lib.rt:615:9
 refuses-requires : tie.Need-refuses-requires
 refuses-requires c κs = search needs
 
--- src/lib.rt:619:18
 turned-away-requires-2 : tie.Need-turned-away-requires-2
 turned-away-requires-2 c κs = search needs
 
--- src/lib.rt:618:9
 returns-2 : tie.Need-returns-2
 returns-2 c =
     let good : allowed (c .before .before .before .before .before .before .before .before .before .before .before .before .args .allowances) ≡ true = sym (c .before .before .before .before .before .before .before .are-allowed .ensures) ∙ not-false _ (c .before .before .before .before .before .before .if1 .left) in
@@ -73,34 +55,27 @@ returns-2 c =
       sym (report-refused _ _ _ _ _ _ good _ no),
     )
 
--- src/lib.rt:633:9
 sectors-of-requires : tie.Need-sectors-of-requires
 sectors-of-requires c κs = search needs
 
--- src/lib.rt:638:9
 start-from-requires : tie.Need-start-from-requires
 start-from-requires c κs = search needs
 
--- src/lib.rt:625:9
 play-requires : tie.Need-play-requires
 play-requires c κs =
     let ok : refusal (c .before .before .before .before .before .before .before .before .before .before .before .before .before .before .before .before .before .before .before .args .chip) (length (c .before .before .before .before .before .before .before .before .before .before .before .before .before .before .before .before .before .before .before .args .mem .now)) (length (c .before .before .before .before .before .before .before .before .before .before .before .before .before .before .before .before .before .before .before .args .area .now)) (c .before .before .before .before .before .before .before .before .before .before .before .before .before .before .before .before .before .before .before .args .script .now) (length (c .before .before .before .before .before .before .before .before .before .before .before .before .before .before .before .before .before .before .before .args .out .now)) .number ≡ 0 = sym (ap (λ (r : Refusal). r .number) (c .before .before .before .before .before .before .before .before .before .before .before .refuses .ensures .0 (c .before .before .before .before .before .before .before .before .before .before .before .before .before .before .before .before .before .before .before .args .chip) (c .before .before .before .before .before .before .before .before .before .before .before .before .is-legal .ensures))) ∙ c .before .before .before .before .before .before .before .before .if2 .left in
     let yes = accepted _ _ _ _ _ ok in
     (sym (c .before .before .before .before .before .before .before .before .before .before .before .before .before .before .are-allowed .ensures) ∙ not-false _ (c .before .before .before .before .before .before .before .before .before .before .before .before .before .if1 .left), yes .script-playable, c .before .before .before .before .before .before .before .before .before .before .before .refuses .ensures .1, whole-part _ _ (yes .length-permitted) (c .before .sectors-of .ensures ∙ cond-yes _ _ _ (yes .length-permitted)))
 
--- src/lib.rt:642:14
 finished-requires : tie.Need-finished-requires
 finished-requires c κs = search needs
 
--- src/lib.rt:593:1
 same-length : tie.Need-same-length
 same-length c = search needs
 
--- src/lib.rt:593:1
 same-length-2 : tie.Need-same-length-2
 same-length-2 c = search needs
 
--- src/lib.rt:593:1
 returns-3 : tie.Need-returns-3
 returns-3 c =
     let good : allowed (c .before .before .before .before .before .before .before .before .before .before .before .before .before .before .before .before .before .before .before .before .before .before .before .before .before .before .args .allowances) ≡ true = sym (c .before .before .before .before .before .before .before .before .before .before .before .before .before .before .before .before .before .before .before .before .before .are-allowed .ensures) ∙ not-false _ (c .before .before .before .before .before .before .before .before .before .before .before .before .before .before .before .before .before .before .before .before .if1 .left) in

@@ -1,7 +1,8 @@
-use Prim.Native.Nat.{ℕ, _≤_, _<_, _+_, _*_, _-_}
+-- `script::scan` meets its contract. No event passed was bad by the clock that it found, so the first bad one lies ahead; the room counted and the room ahead are the whole. A row of exchanges is never bad (`row-clean`) and is given its room (`row-room`); other frequent events that are good are passed one by one (`passed`). The longest row is one that was counted.
+use Prim.Native.Nat.{ℕ, _≤_, _+_, _*_, _-_}
 use native.Mathlib.Nat.{add-zero, add-assoc, zero-add}
 use native.Mathlib.Omega.{arith}
-use lib.Dec.{eqb, ltb}
+use lib.Dec.{eqb}
 use lib.ListN.{length, getD}
 use Rattle.kinds.specs.Body.{nextAt}
 use Rattle.kinds.specs.Laws.{step-inside}
@@ -10,33 +11,20 @@ use Rattle.clock.specs.Clock.{unset}
 use Rattle.script.specs.Script.{events, eventsFrom, eventAt, clockAfter, firstBad, room, refusalOf, faultBy}
 use Rattle.script.specs.Watch.{clockBy}
 use Rattle.script.specs.WatchLaws.{clock-as}
-use Rattle.kinds.specs.Kinds.{SELECT, DESELECT, TICKS, EXCHANGE, STAMP, knownInScript, roomOf, mostRoom, kindRow, kindRowIn}
+use Rattle.kinds.specs.Kinds.{SELECT, DESELECT, TICKS, STAMP, knownInScript, roomOf, mostRoom, kindRow, kindRowIn}
 use mathlib.Core.Bool.{true, false, _&&_, false≢true}
-use borrow.Author.Tests.{eq-eqb, eqb-true, ltb-true}
+use borrow.Author.Tests.{eq-eqb, eqb-true}
 use Rattle.cells.specs.Choice.{not-so, and-left, and-right}
-use Rattle.script.specs.Laws.{stamp-next, firstBad-none, firstBad-here, firstBad-later, clean-event, good-event, clock-stays, room-none, room-more, Passed, passed}
+use Rattle.script.specs.Laws.{stamp-next, firstBad-none, firstBad-here, firstBad-later, clean-event, good-event, clock-stays, room-none, room-more, passed}
 use mathlib.Core.Logic.{⊎-elim}
 use mathlib.Core.Path.{subst, refl, _≡_, sym, _∙_, ap}
 use Rattle.kinds.specs.Row.{exchangesFrom}
 use Rattle.kinds.specs.RowLaws.{row-past, row-inside}
-use Rattle.script.specs.declared.rows.Row.{Row}
 use Rattle.script.specs.Heard.{Known}
 use Rattle.script.specs.RowLaws.{row-clean, row-room}
 use borrow.Author.Needs.{needs}
 use Rattle.script.proofs.scan.Statement.{statement}
 use Rattle.script.proofs.scan.Tie as tie
-use Rattle.script.proofs.scan.Reads as reads
-use Rattle.script.proofs.scan.Lts as lts
-use Rattle.kinds.proofs.body_at.Reads as body-at-reads
-use Rattle.kinds.proofs.exchanges_from.Reads as exchanges-from-reads
-use Rattle.kinds.proofs.next_at.Reads as next-at-reads
-use Rattle.kinds.proofs.room_of.Reads as room-of-reads
-use Rattle.script.proofs.clock_after.Reads as clock-after-reads
-use Rattle.script.proofs.fault_at.Reads as fault-at-reads
-use Rattle.script.proofs.is_good.Reads as is-good-reads
-use Rattle.script.proofs.is_good_stamp.Reads as is-good-stamp-reads
-use Rattle.script.proofs.longer.Reads as longer-reads
-use Rattle.script.proofs.no_stamp.Reads as no-stamp-reads
 
 abbrev Inv-loop : tie.InvT-loop
 Inv-loop s at₀ space₀ clock₀ longest₀ at space clock longest = (at ≤ length s) × (space ≤ mostRoom * at) × (firstBad unset (events s) ≡ firstBad clock (eventsFrom s at)) × (room (events s) ≡ space + room (eventsFrom s at)) × Known s longest
@@ -44,57 +32,44 @@ Inv-loop s at₀ space₀ clock₀ longest₀ at space clock longest = (at ≤ l
 abbrev μ-loop : tie.MeasureT-loop
 μ-loop s at₀ space₀ clock₀ longest₀ at space clock longest = length s - at
 
--- src/lib.rt:183:9
 no-stamp-requires : tie.Need-no-stamp-requires Inv-loop μ-loop
 no-stamp-requires c κs = search needs
 
--- src/lib.rt:188:5
 loop-holds : tie.Need-loop-holds Inv-loop μ-loop
 loop-holds c = (search needs, search needs, ap (λ (k : Clock). firstBad k (eventsFrom (c .before .before .args .s .now) 0)) (sym (c .no-stamp .ensures)), sym (zero-add _), (sym (row-past (c .before .before .args .s .now) (length (c .before .before .args .s .now)) (omega arith)), omega arith))
 
--- src/lib.rt:189:12
 shared-slice-read-if1 : tie.Need-shared-slice-read-if1 Inv-loop μ-loop
 shared-slice-read-if1 c = search needs
 
--- src/lib.rt:189:12
 cast-if1 : tie.Need-cast-if1 Inv-loop μ-loop
 cast-if1 c = omega (arith, c .shared-slice-known2 .given (c .before .before .loop .at))
 
--- src/lib.rt:190:17
 exchanges-from-requires : tie.Need-exchanges-from-requires Inv-loop μ-loop
 exchanges-from-requires c κs = search needs
 
--- src/lib.rt:192:26
 room-of-requires : tie.Need-room-of-requires Inv-loop μ-loop
 room-of-requires c κs = search needs
 
--- src/lib.rt:192:26
 mul-space : tie.Need-mul-space Inv-loop μ-loop
 unfolding kindRow kindRowIn
 mul-space c = omega (arith, ap (λ (r : ℕ). r * c .before .before .exchanges-from .result) (c .room-of .ensures .0), c .before .before .exchanges-from .ensures, row-inside (c .before .before .before .before .before .before .before .before .before .args .s .now) (c .before .before .before .before .before .before .loop .at) (c .before .before .before .before .before .before .loop .inv .0), c .before .before .before .before .before .before .before .before .before .pre)
 
--- src/lib.rt:192:17
 add-space : tie.Need-add-space Inv-loop μ-loop
 unfolding kindRow kindRowIn
 add-space c = omega (arith, ap (λ (r : ℕ). r * c .before .before .exchanges-from .result) (c .room-of .ensures .0), c .before .before .exchanges-from .ensures, row-inside (c .before .before .before .before .before .before .before .before .before .args .s .now) (c .before .before .before .before .before .before .loop .at) (c .before .before .before .before .before .before .loop .inv .0), c .before .before .before .before .before .before .loop .inv .1, c .before .before .before .before .before .before .before .before .before .pre)
 
--- src/lib.rt:193:17
 longer-requires : tie.Need-longer-requires Inv-loop μ-loop
 longer-requires c κs = search needs
 
--- src/lib.rt:194:23
 mul-at : tie.Need-mul-at Inv-loop μ-loop
 mul-at c = omega (arith, c .before .before .before .exchanges-from .ensures, row-inside (c .before .before .before .before .before .before .before .before .before .before .args .s .now) (c .before .before .before .before .before .before .before .loop .at) (c .before .before .before .before .before .before .before .loop .inv .0), c .before .before .before .before .before .before .before .before .before .before .pre)
 
--- src/lib.rt:194:17
 add-at : tie.Need-add-at Inv-loop μ-loop
 add-at c = omega (arith, c .before .before .before .exchanges-from .ensures, row-inside (c .before .before .before .before .before .before .before .before .before .before .args .s .now) (c .before .before .before .before .before .before .before .loop .at) (c .before .before .before .before .before .before .before .loop .inv .0), c .before .before .before .before .before .before .before .before .before .before .pre)
 
--- src/lib.rt:188:5
 loop-less : tie.Need-loop-less Inv-loop μ-loop
 loop-less c = omega (arith, c .before .before .before .exchanges-from .ensures, row-inside (c .before .before .before .before .before .before .before .before .before .before .args .s .now) (c .before .before .before .before .before .before .before .loop .at) (c .before .before .before .before .before .before .before .loop .inv .0), c .before .before .if2 .taken)
 
--- src/lib.rt:188:5
 loop-again : tie.Need-loop-again Inv-loop μ-loop
 unfolding kindRow kindRowIn
 loop-again c =
@@ -110,82 +85,68 @@ loop-again c =
       ⊎-elim (λ e. subst (Known s) (sym e) (c .before .before .before .before .before .before .before .loop .inv .4)) (λ e. subst (Known s) (sym e) (c .before .before .before .exchanges-from .ensures, c .before .before .before .before .before .before .before .loop .inv .0)) (c .longer .ensures),
     )
 
--- src/lib.rt:198:12
 is-good-requires : tie.Need-is-good-requires Inv-loop μ-loop
 unfolding knownInScript kindRow kindRowIn
 is-good-requires c κs = (c .before .before .loop-test .taken, refl, refl)
 
--- src/lib.rt:199:22
-room-of-requires-2 : tie.Need-room-of-requires-2 Inv-loop μ-loop
-room-of-requires-2 c κs = search needs
-
--- src/lib.rt:199:13
-add-space-2 : tie.Need-add-space-2 Inv-loop μ-loop
-add-space-2 c = omega (arith, c .before .before .before .before .before .before .loop .inv .1, c .before .before .before .before .before .before .loop .inv .0, c .room-of2 .ensures .1, c .before .before .before .before .before .before .before .before .before .pre)
-
--- src/lib.rt:200:13
 add-at-2 : tie.Need-add-at-2 Inv-loop μ-loop
-add-at-2 c = omega (arith, c .before .before .before .before .before .loop-test .taken, c .before .before .before .before .before .before .before .before .before .pre)
+add-at-2 c = omega (arith, c .before .before .before .before .loop-test .taken, c .before .before .before .before .before .before .before .before .pre)
 
--- src/lib.rt:188:5
 loop-less-2 : tie.Need-loop-less-2 Inv-loop μ-loop
-loop-less-2 c = omega (arith, c .before .before .before .before .before .loop-test .taken)
+loop-less-2 c = omega (arith, c .before .before .before .before .loop-test .taken)
 
--- src/lib.rt:188:5
 loop-again-2 : tie.Need-loop-again-2 Inv-loop μ-loop
 unfolding kindRow kindRowIn
 loop-again-2 c =
-    let p = passed (c .before .before .before .before .before .before .loop .clock) (c .before .before .before .before .before .before .before .before .before .args .s .now) (c .before .before .before .before .before .before .loop .at) DESELECT 2 (c .before .before .before .before .before .loop-test .taken) refl refl (sym (c .before .before .is-good .ensures (c .before .before .before .before .before .before .loop .clock)) ∙ c .before .if3 .taken) in (
+    let p = passed (c .before .before .before .before .before .loop .clock) (c .before .before .before .before .before .before .before .before .args .s .now) (c .before .before .before .before .before .loop .at) TICKS 3 (c .before .before .before .before .loop-test .taken) refl refl (sym (c .before .is-good .ensures (c .before .before .before .before .before .loop .clock)) ∙ c .if3 .taken) in (
       p .inside,
-      omega (arith, c .before .before .before .before .before .before .loop .inv .1, c .room-of2 .ensures .1),
-      c .before .before .before .before .before .before .loop .inv .2 ∙ p .bad-behind,
-      c .before .before .before .before .before .before .loop .inv .3 ∙ ap (λ (r : ℕ). c .before .before .before .before .before .before .loop .space + r) (p .room-behind) ∙ rw (c .room-of2 .ensures .0) (sym (add-assoc _ _ _)),
-      c .before .before .before .before .before .before .loop .inv .4,
+      omega (arith, c .before .before .before .before .before .loop .inv .1),
+      c .before .before .before .before .before .loop .inv .2 ∙ p .bad-behind,
+      c .before .before .before .before .before .loop .inv .3 ∙ ap (λ (r : ℕ). c .before .before .before .before .before .loop .space + r) (p .room-behind ∙ zero-add _),
+      c .before .before .before .before .before .loop .inv .4,
     )
 
--- src/lib.rt:203:12
 is-good-requires-2 : tie.Need-is-good-requires-2 Inv-loop μ-loop
 unfolding knownInScript kindRow kindRowIn
 is-good-requires-2 c κs = (c .before .before .before .before .loop-test .taken, refl, refl)
 
--- src/lib.rt:204:13
+room-of-requires-2 : tie.Need-room-of-requires-2 Inv-loop μ-loop
+room-of-requires-2 c κs = search needs
+
+add-space-2 : tie.Need-add-space-2 Inv-loop μ-loop
+add-space-2 c = omega (arith, c .before .before .before .before .before .before .before .before .loop .inv .1, c .before .before .before .before .before .before .before .before .loop .inv .0, c .room-of2 .ensures .1, c .before .before .before .before .before .before .before .before .before .before .before .pre)
+
 add-at-3 : tie.Need-add-at-3 Inv-loop μ-loop
-add-at-3 c = omega (arith, c .before .before .before .before .before .before .loop-test .taken, c .before .before .before .before .before .before .before .before .before .before .pre)
+add-at-3 c = omega (arith, c .before .before .before .before .before .before .before .loop-test .taken, c .before .before .before .before .before .before .before .before .before .before .before .pre)
 
--- src/lib.rt:188:5
 loop-less-3 : tie.Need-loop-less-3 Inv-loop μ-loop
-loop-less-3 c = omega (arith, c .before .before .before .before .before .before .loop-test .taken)
+loop-less-3 c = omega (arith, c .before .before .before .before .before .before .before .loop-test .taken)
 
--- src/lib.rt:188:5
 loop-again-3 : tie.Need-loop-again-3 Inv-loop μ-loop
 unfolding kindRow kindRowIn
 loop-again-3 c =
-    let p = passed (c .before .before .before .before .before .before .before .loop .clock) (c .before .before .before .before .before .before .before .before .before .before .args .s .now) (c .before .before .before .before .before .before .before .loop .at) SELECT 1 (c .before .before .before .before .before .before .loop-test .taken) refl refl (sym (c .before .is-good2 .ensures (c .before .before .before .before .before .before .before .loop .clock)) ∙ c .if4 .taken) in (
+    let p = passed (c .before .before .before .before .before .before .before .before .loop .clock) (c .before .before .before .before .before .before .before .before .before .before .before .args .s .now) (c .before .before .before .before .before .before .before .before .loop .at) DESELECT 2 (c .before .before .before .before .before .before .before .loop-test .taken) refl refl (sym (c .before .before .is-good2 .ensures (c .before .before .before .before .before .before .before .before .loop .clock)) ∙ c .before .if4 .taken) in (
       p .inside,
-      omega (arith, c .before .before .before .before .before .before .before .loop .inv .1),
-      c .before .before .before .before .before .before .before .loop .inv .2 ∙ p .bad-behind,
-      c .before .before .before .before .before .before .before .loop .inv .3 ∙ ap (λ (r : ℕ). c .before .before .before .before .before .before .before .loop .space + r) (p .room-behind ∙ zero-add _),
-      c .before .before .before .before .before .before .before .loop .inv .4,
+      omega (arith, c .before .before .before .before .before .before .before .before .loop .inv .1, c .room-of2 .ensures .1),
+      c .before .before .before .before .before .before .before .before .loop .inv .2 ∙ p .bad-behind,
+      c .before .before .before .before .before .before .before .before .loop .inv .3 ∙ ap (λ (r : ℕ). c .before .before .before .before .before .before .before .before .loop .space + r) (p .room-behind) ∙ rw (c .room-of2 .ensures .0) (sym (add-assoc _ _ _)),
+      c .before .before .before .before .before .before .before .before .loop .inv .4,
     )
 
--- src/lib.rt:207:12
 is-good-requires-3 : tie.Need-is-good-requires-3 Inv-loop μ-loop
 unfolding knownInScript kindRow kindRowIn
 is-good-requires-3 c κs = (c .before .before .before .before .before .before .loop-test .taken, refl, refl)
 
--- src/lib.rt:208:13
 add-at-4 : tie.Need-add-at-4 Inv-loop μ-loop
 add-at-4 c = omega (arith, c .before .before .before .before .before .before .before .before .loop-test .taken, c .before .before .before .before .before .before .before .before .before .before .before .before .pre)
 
--- src/lib.rt:188:5
 loop-less-4 : tie.Need-loop-less-4 Inv-loop μ-loop
 loop-less-4 c = omega (arith, c .before .before .before .before .before .before .before .before .loop-test .taken)
 
--- src/lib.rt:188:5
 loop-again-4 : tie.Need-loop-again-4 Inv-loop μ-loop
 unfolding kindRow kindRowIn
 loop-again-4 c =
-    let p = passed (c .before .before .before .before .before .before .before .before .before .loop .clock) (c .before .before .before .before .before .before .before .before .before .before .before .before .args .s .now) (c .before .before .before .before .before .before .before .before .before .loop .at) TICKS 3 (c .before .before .before .before .before .before .before .before .loop-test .taken) refl refl (sym (c .before .is-good3 .ensures (c .before .before .before .before .before .before .before .before .before .loop .clock)) ∙ c .if5 .taken) in (
+    let p = passed (c .before .before .before .before .before .before .before .before .before .loop .clock) (c .before .before .before .before .before .before .before .before .before .before .before .before .args .s .now) (c .before .before .before .before .before .before .before .before .before .loop .at) SELECT 1 (c .before .before .before .before .before .before .before .before .loop-test .taken) refl refl (sym (c .before .is-good3 .ensures (c .before .before .before .before .before .before .before .before .before .loop .clock)) ∙ c .if5 .taken) in (
       p .inside,
       omega (arith, c .before .before .before .before .before .before .before .before .before .loop .inv .1),
       c .before .before .before .before .before .before .before .before .before .loop .inv .2 ∙ p .bad-behind,
@@ -193,31 +154,24 @@ loop-again-4 c =
       c .before .before .before .before .before .before .before .before .before .loop .inv .4,
     )
 
--- src/lib.rt:211:12
 is-good-stamp-requires : tie.Need-is-good-stamp-requires Inv-loop μ-loop
 is-good-stamp-requires c κs = search needs
 
--- src/lib.rt:212:53
 body-at-requires : tie.Need-body-at-requires Inv-loop μ-loop
 body-at-requires c κs = search needs
 
--- src/lib.rt:212:53
 cast-clock-after : tie.Need-cast-clock-after Inv-loop μ-loop
 cast-clock-after c = omega (arith, c .body-at .ensures .1)
 
--- src/lib.rt:212:13
 clock-after-requires : tie.Need-clock-after-requires Inv-loop μ-loop
 clock-after-requires c κs = search needs
 
--- src/lib.rt:213:13
 add-at-5 : tie.Need-add-at-5 Inv-loop μ-loop
 add-at-5 c = omega (arith, c .before .before .before .before .before .before .before .before .before .before .before .before .loop-test .taken, c .before .before .before .before .before .before .before .before .before .before .before .before .before .before .before .before .pre)
 
--- src/lib.rt:188:5
 loop-less-5 : tie.Need-loop-less-5 Inv-loop μ-loop
 loop-less-5 c = omega (arith, c .before .before .before .before .before .before .before .before .before .before .before .before .loop-test .taken)
 
--- src/lib.rt:188:5
 loop-again-5 : tie.Need-loop-again-5 Inv-loop μ-loop
 unfolding kindRow kindRowIn
 loop-again-5 c =
@@ -235,11 +189,9 @@ loop-again-5 c =
       c .before .before .before .before .before .before .before .before .before .before .before .before .before .loop .inv .4,
     )
 
--- src/lib.rt:216:13
 fault-at-requires : tie.Need-fault-at-requires Inv-loop μ-loop
 fault-at-requires c κs = search needs
 
--- src/lib.rt:218:13
 returns : tie.Need-returns Inv-loop μ-loop
 returns c =
     let is : c .before .fault-at .result ≡ faultBy (c .before .before .before .before .before .before .before .before .before .before .before .before .before .loop .clock) (eventAt (c .before .before .before .before .before .before .before .before .before .before .before .before .before .before .before .before .args .s .now) (c .before .before .before .before .before .before .before .before .before .before .before .before .before .loop .at)) = c .before .fault-at .ensures in (
@@ -250,31 +202,24 @@ returns c =
       c .before .before .before .before .before .before .before .before .before .before .before .before .before .loop .inv .4,
     )
 
--- src/lib.rt:227:33
 shared-slice-read-room-of : tie.Need-shared-slice-read-room-of Inv-loop μ-loop
 shared-slice-read-room-of c = search needs
 
--- src/lib.rt:227:33
 cast-room-of : tie.Need-cast-room-of Inv-loop μ-loop
 cast-room-of c = omega (arith, c .shared-slice-known3 .given (c .before .before .before .before .before .before .before .before .before .before .before .before .before .before .loop .at))
 
--- src/lib.rt:227:18
 room-of-requires-3 : tie.Need-room-of-requires-3 Inv-loop μ-loop
 room-of-requires-3 c κs = search needs
 
--- src/lib.rt:227:9
 add-space-3 : tie.Need-add-space-3 Inv-loop μ-loop
 add-space-3 c = omega (arith, c .before .before .before .before .before .before .before .before .before .before .before .before .before .before .before .loop .inv .1, c .before .before .before .before .before .before .before .before .before .before .before .before .before .before .before .loop .inv .0, c .room-of3 .ensures .1, c .before .before .before .before .before .before .before .before .before .before .before .before .before .before .before .before .before .before .pre)
 
--- src/lib.rt:228:9
 next-at-requires : tie.Need-next-at-requires Inv-loop μ-loop
 next-at-requires c κs = search needs
 
--- src/lib.rt:188:5
 loop-less-6 : tie.Need-loop-less-6 Inv-loop μ-loop
 loop-less-6 c = omega (arith, c .next-at .ensures, step-inside (c .before .before .before .before .before .before .before .before .before .before .before .before .before .before .before .before .before .before .before .args .s .now) (c .before .before .before .before .before .before .before .before .before .before .before .before .before .before .before .before .loop .at) (c .before .before .before .before .before .before .before .before .before .before .before .before .before .before .before .loop-test .taken))
 
--- src/lib.rt:188:5
 loop-again-6 : tie.Need-loop-again-6 Inv-loop μ-loop
 loop-again-6 c =
     let s = c .before .before .before .before .before .before .before .before .before .before .before .before .before .before .before .before .before .before .before .args .s .now in
@@ -290,7 +235,6 @@ loop-again-6 c =
       c .before .before .before .before .before .before .before .before .before .before .before .before .before .before .before .before .loop .inv .4,
     )
 
--- src/lib.rt:177:1
 returns-2 : tie.Need-returns-2 Inv-loop μ-loop
 returns-2 c = (
   record {
@@ -320,12 +264,12 @@ scan-spec =
     loop-less
     loop-again
     is-good-requires
-    room-of-requires-2
-    add-space-2
     add-at-2
     loop-less-2
     loop-again-2
     is-good-requires-2
+    room-of-requires-2
+    add-space-2
     add-at-3
     loop-less-3
     loop-again-3

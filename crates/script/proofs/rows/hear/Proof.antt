@@ -1,47 +1,32 @@
-use Prim.Native.Nat.{ℕ, _+_, _*_, _<_, _≤_}
-use mathlib.Core.Bool.{true}
-use mathlib.Core.List.{List}
-use mathlib.Core.Path.{_≡_, refl, sym, subst, _∙_, ap}
+-- `script::rows::hear` meets its contract. A row of data bytes is heard byte by byte (`heard-loads`, `heard-row`), any other exchange is heard alone (`heard-exchange`).
+use Prim.Native.Nat.{ℕ, _+_, _*_, _≤_}
+use mathlib.Core.Path.{sym, subst, _∙_, ap}
 use native.Mathlib.Omega.{arith}
 use lib.ListN.{length}
-use Rattle.cells.specs.PutLaws.{put-length}
 use Rattle.part.specs.Part.{setting}
 use Rattle.chip.specs.declared.Frame.{Frame}
 use Rattle.chip.specs.declared.Chip.{Chip}
 use Rattle.chip.specs.Chip.{whole}
 use Rattle.chip.specs.Record.{recordBytes}
 use Rattle.kinds.specs.RowLaws.{row-inside}
-use Rattle.frame.specs.Stream.{readOn, loadOn, cellsOn}
+use Rattle.frame.specs.Stream.{readOn, cellsOn}
 use Rattle.script.specs.Laws.{exchange-next, stored-put}
-use Rattle.script.specs.Heard.{Heard, floats, loadedOn}
+use Rattle.script.specs.Heard.{Heard, floats}
 use Rattle.script.specs.HeardLaws.{heard-exchange, went-as}
 use Rattle.script.specs.RowLaws.{heard-row, heard-loads, row-some, row-rooms}
 use borrow.Author.Needs.{needs}
 use Rattle.script.proofs.rows.hear.Statement.{statement}
 use Rattle.script.proofs.rows.hear.Tie as tie
-use Rattle.script.proofs.rows.hear.Reads as reads
-use Rattle.script.proofs.rows.hear.Lts as lts
-use Rattle.commands.proofs.is_program.Reads as is-program-reads
-use Rattle.frame.proofs.exchange.Reads as exchange-reads
-use Rattle.frame.proofs.streams.Reads as streams-reads
-use Rattle.script.proofs.put.Reads as put-reads
-use Rattle.script.proofs.rows.load_row.Reads as load-row-reads
-use Rattle.script.proofs.rows.read_row.Reads as read-row-reads
-use Rattle.script.proofs.rows.row_from.Reads as row-from-reads
 
--- src/rows.rt:367:8
 streams-requires : tie.Need-streams-requires
 streams-requires c κs = search needs
 
--- src/rows.rt:368:12
 is-program-requires : tie.Need-is-program-requires
 is-program-requires c κs = search needs
 
--- src/rows.rt:369:17
 row-from-requires : tie.Need-row-from-requires
 row-from-requires c κs = c .before .before .before .before .before .before .before .before .pre .0 .known
 
--- src/rows.rt:370:13
 load-row-requires : tie.Need-load-row-requires
 load-row-requires c κs =
     let s = c .before .before .before .before .before .before .before .before .before .before .before .args .script .now in
@@ -54,11 +39,9 @@ load-row-requires c κs =
       omega (arith, row-rooms s (λ i. c .before .before .before .before .before .before .before .before .shared-slice-known3 .given i .fits) at from (c .before .before .row-from .result) (omega (arith, c .before .before .row-from .ensures)), c .before .before .before .before .before .before .before .before .before .before .before .pre .0 .fits),
     )
 
--- src/rows.rt:370:13
 same-length : tie.Need-same-length
 same-length c = search needs
 
--- src/rows.rt:370:13
 returns : tie.Need-returns
 returns c = λ held.
     let T = setting (c .before .before .before .before .before .before .before .before .before .before .before .before .before .before .args .sectors) (c .before .before .before .before .before .before .before .before .before .before .before .before .before .before .args .area .now) in
@@ -77,11 +60,9 @@ returns c = λ held.
       further = omega (arith, some, c .before .before .before .before .before .row-from .ensures);
     })
 
--- src/rows.rt:373:17
 row-from-requires-2 : tie.Need-row-from-requires-2
 row-from-requires-2 c κs = c .before .before .before .before .before .before .before .before .before .before .pre .0 .known
 
--- src/rows.rt:374:13
 read-row-requires : tie.Need-read-row-requires
 read-row-requires c κs =
     let s = c .before .before .before .before .before .before .before .before .before .before .before .before .args .script .now in
@@ -97,11 +78,9 @@ read-row-requires c κs =
       omega (arith, row-rooms s (λ i. c .before .before .before .before .before .before .before .before .before .shared-slice-known3 .given i .fits) at from (c .before .row-from2 .result) (omega (arith, c .before .row-from2 .ensures)), c .before .before .before .before .before .before .before .before .before .before .before .before .pre .0 .fits),
     )
 
--- src/rows.rt:374:13
 same-length-2 : tie.Need-same-length-2
 same-length-2 c = search needs
 
--- src/rows.rt:374:13
 returns-2 : tie.Need-returns-2
 returns-2 c = λ held.
     let T = setting (c .before .before .before .before .before .before .before .before .before .before .before .before .before .before .before .args .sectors) (c .before .before .before .before .before .before .before .before .before .before .before .before .before .before .before .args .area .now) in
@@ -122,33 +101,26 @@ returns-2 c = λ held.
       further = omega (arith, some, c .before .before .before .before .row-from2 .ensures);
     })
 
--- src/rows.rt:377:75
 add-exchange : tie.Need-add-exchange
 add-exchange c = omega (arith, c .before .before .before .before .before .before .before .pre .0 .more, c .before .before .before .before .before .before .before .pre .0 .short)
 
--- src/rows.rt:377:68
 shared-slice-read-exchange : tie.Need-shared-slice-read-exchange
 shared-slice-read-exchange c = omega (arith, c .before .before .before .before .before .before .before .before .pre .0 .good .inside, exchange-next (c .before .before .before .before .before .before .before .before .args .script .now) (c .before .before .before .before .before .before .before .before .args .at) (c .before .before .before .before .before .before .before .before .pre .1))
 
--- src/rows.rt:377:9
 exchange-requires : tie.Need-exchange-requires
 exchange-requires c κs = search needs
 
--- src/rows.rt:382:13
 add-t27 : tie.Need-add-t27
 add-t27 c = omega (arith, c .before .before .before .before .before .before .before .before .before .before .pre .0 .more, c .before .before .before .before .before .before .before .before .before .before .pre .0 .short)
 
--- src/rows.rt:383:14
 put-requires : tie.Need-put-requires
 put-requires c κs =
     let heard = heard-exchange (setting (c .before .before .before .before .before .before .before .before .before .before .before .args .sectors) (c .before .before .before .before .before .before .before .before .before .before .before .args .area .now)) (c .before .before .before .before .before .before .before .before .before .before .before .args .script .now) (c .before .before .before .before .before .before .before .before .before .before .before .args .mem .now) (c .before .before .before .before .before .before .before .before .before .before .before .args .at) (whole (c .before .before .before .before .before .before .before .before .before .before .before .args .core) (c .before .before .before .before .before .before .before .before .before .before .before .args .frame) (c .before .before .before .before .before .before .before .before .before .before .before .args .load .now) (c .before .before .before .before .before .before .before .before .before .before .before .args .load .now)) (omega (arith, c .before .before .before .before .before .before .before .before .before .before .before .pre .0 .good .inside, exchange-next (c .before .before .before .before .before .before .before .before .before .before .before .args .script .now) (c .before .before .before .before .before .before .before .before .before .before .before .args .at) (c .before .before .before .before .before .before .before .before .before .before .before .pre .1))) (c .before .before .before .before .before .before .before .before .before .before .before .pre .1) (c .before .before .before .before .before .before .before .before .shared-slice-known3 .given (c .before .before .before .before .before .before .before .before .before .before .before .args .at + 1) .fits) _ _ _ (c .before .before .exchange .ensures) in
     omega (arith, heard .roomy, c .before .before .before .before .before .before .before .before .before .before .before .pre .0 .fits)
 
--- src/rows.rt:350:1
 same-length-3 : tie.Need-same-length-3
 same-length-3 c = search needs
 
--- src/rows.rt:350:1
 returns-3 : tie.Need-returns-3
 returns-3 c = λ held.
     let heard = heard-exchange (setting (c .before .before .before .before .before .before .before .before .before .before .before .before .before .before .args .sectors) (c .before .before .before .before .before .before .before .before .before .before .before .before .before .before .args .area .now)) (c .before .before .before .before .before .before .before .before .before .before .before .before .before .before .args .script .now) (c .before .before .before .before .before .before .before .before .before .before .before .before .before .before .args .mem .now) (c .before .before .before .before .before .before .before .before .before .before .before .before .before .before .args .at) (whole (c .before .before .before .before .before .before .before .before .before .before .before .before .before .before .args .core) (c .before .before .before .before .before .before .before .before .before .before .before .before .before .before .args .frame) (c .before .before .before .before .before .before .before .before .before .before .before .before .before .before .args .load .now) held) (omega (arith, c .before .before .before .before .before .before .before .before .before .before .before .before .before .before .pre .0 .good .inside, exchange-next (c .before .before .before .before .before .before .before .before .before .before .before .before .before .before .args .script .now) (c .before .before .before .before .before .before .before .before .before .before .before .before .before .before .args .at) (c .before .before .before .before .before .before .before .before .before .before .before .before .before .before .pre .1))) (c .before .before .before .before .before .before .before .before .before .before .before .before .before .before .pre .1) (c .before .before .before .before .before .before .before .before .before .before .before .shared-slice-known3 .given (c .before .before .before .before .before .before .before .before .before .before .before .before .before .before .args .at + 1) .fits) _ _ _ (c .before .before .before .before .before .exchange .ensures) in

@@ -1,3 +1,4 @@
+-- `script::rows::place_on` meets its contract. n places on in one sum (`place-as`).
 use mathlib.Core.Path.{sym, _∙_}
 use borrow.Author.Tests.{lt-ltb, le-ltb}
 use Rattle.cells.specs.Choice.{cond-yes, cond-no}
@@ -5,18 +6,13 @@ use Rattle.frame.specs.RowLaws.{place-as}
 use borrow.Author.Needs.{needs}
 use Rattle.script.proofs.rows.place_on.Statement.{statement}
 use Rattle.script.proofs.rows.place_on.Tie as tie
-use Rattle.script.proofs.rows.place_on.Reads as reads
-use Rattle.script.proofs.rows.place_on.Lts as lts
 
--- src/rows.rt:81:14
 add-up : tie.Need-add-up
 add-up c = search needs
 
--- src/rows.rt:83:9
 returns : tie.Need-returns
 returns c = sym (place-as _ _ _ (c .before .pre .0) (c .before .pre .1) ∙ cond-yes _ _ _ (lt-ltb _ _ (c .if1 .taken)))
 
--- src/rows.rt:77:1
 returns-2 : tie.Need-returns-2
 returns-2 c = sym (place-as _ _ _ (c .before .pre .0) (c .before .pre .1) ∙ cond-no _ _ _ (le-ltb _ _ (c .if1 .left)))
 

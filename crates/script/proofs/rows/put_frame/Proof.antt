@@ -1,54 +1,41 @@
-use Prim.Native.Nat.{_+_, _*_, _-_, _<_, _≤_}
+-- `script::rows::put_frame` meets its contract. Header, cells and verdict are put one behind the other; their lengths add up (`records-length`).
+use Prim.Native.Nat.{_+_, _-_}
 use mathlib.Core.List.{_++_}
-use mathlib.Core.Path.{_≡_, sym, ap, _∙_}
+use mathlib.Core.Path.{sym, _∙_}
 use native.Mathlib.Nat.{mod-lt}
 use native.Mathlib.Omega.{arith}
 use lib.ListN.{length, getD, length-set}
 use Rattle.cells.specs.PutLaws.{put-as, put-then, put-two, put-length}
-use Rattle.part.specs.Part.{lengthOf}
 use Rattle.chip.specs.declared.Record.the-variants.{Verdict}
 use Rattle.chip.specs.Record.{recordBytes}
 use Rattle.frame.specs.Stream.{cellsOn}
 use Rattle.frame.specs.RowLaws.{cells-length}
-use Rattle.script.specs.Heard.{headerOf, floats}
+use Rattle.script.specs.Heard.{floats}
 use Rattle.script.specs.ReadLaws.{header-least, floats-length, records-length}
 use borrow.Author.Needs.{needs}
 use Rattle.script.proofs.rows.put_frame.Statement.{statement}
 use Rattle.script.proofs.rows.put_frame.Tie as tie
-use Rattle.script.proofs.rows.put_frame.Reads as reads
-use Rattle.script.proofs.rows.put_frame.Lts as lts
-use Rattle.script.proofs.rows.first_cell.Reads as first-cell-reads
-use Rattle.script.proofs.rows.header_of.Reads as header-of-reads
-use Rattle.script.proofs.rows.put_header.Reads as put-header-reads
-use Rattle.script.proofs.rows.put_row.Reads as put-row-reads
 
--- src/rows.rt:192:35
 add-header-of : tie.Need-add-header-of
 add-header-of c = search needs
 
--- src/rows.rt:192:28
 shared-slice-read-header-of : tie.Need-shared-slice-read-header-of
 shared-slice-read-header-of c = omega (arith, c .before .before .before .before .pre .0 .ends)
 
--- src/rows.rt:192:9
 header-of-requires : tie.Need-header-of-requires
 header-of-requires c κs = search needs
 
--- src/rows.rt:193:9
 put-header-requires : tie.Need-put-header-requires
 put-header-requires c κs =
     let some = header-least (getD (c .before .before .before .before .before .before .args .script .now) (c .before .before .before .before .before .before .args .at + 2) 0) (c .before .before .before .before .before .before .pre .0 .headed) in
     (omega (arith, some, c .before .header-of .ensures .0), c .before .header-of .ensures .1, omega (arith, c .before .header-of .ensures .0, c .before .before .before .before .before .before .pre .4, records-length (c .before .before .before .before .before .before .args .sectors) (c .before .before .before .before .before .before .args .script .now) (c .before .before .before .before .before .before .args .mem .now) (c .before .before .before .before .before .before .args .at) (c .before .before .before .before .before .before .args .n)))
 
--- src/rows.rt:194:39
 first-cell-requires : tie.Need-first-cell-requires
 first-cell-requires c κs = omega (arith, header-least (getD (c .before .before .before .before .before .before .before .before .before .before .args .script .now) (c .before .before .before .before .before .before .before .before .before .before .args .at + 2) 0) (c .before .before .before .before .before .before .before .before .before .before .pre .0 .headed), c .before .before .before .before .before .before .before .before .before .before .pre .0 .long, c .before .before .before .before .before .before .before .before .before .before .pre .0 .ends)
 
--- src/rows.rt:194:72
 sub-put-row : tie.Need-sub-put-row
 sub-put-row c = omega (arith, c .before .before .before .before .before .before .header-of .ensures .0, c .before .before .before .before .before .before .before .before .before .before .before .pre .0 .long)
 
--- src/rows.rt:194:9
 put-row-requires : tie.Need-put-row-requires
 put-row-requires c κs = (
   omega (arith, c .before .before .before .before .before .before .header-of .ensures .0, c .before .before .before .before .put-header .ensures .end, floats-length (c .before .before .before .before .before .before .header-of .result), c .before .before .before .before .before .before .before .before .before .before .before .pre .0 .long, c .before .before .before .before .before .before .before .before .before .before .before .pre .4, records-length (c .before .before .before .before .before .before .before .before .before .before .before .args .sectors) (c .before .before .before .before .before .before .before .before .before .before .before .args .script .now) (c .before .before .before .before .before .before .before .before .before .before .before .args .mem .now) (c .before .before .before .before .before .before .before .before .before .before .before .args .at) (c .before .before .before .before .before .before .before .before .before .before .before .args .n), put-length (c .before .before .before .before .put-header .ensures)),
@@ -56,27 +43,21 @@ put-row-requires c κs = (
   omega (arith, c .before .before .before .before .before .before .before .before .before .before .before .pre .3),
 )
 
--- src/rows.rt:195:5
 slice-write-out : tie.Need-slice-write-out
 slice-write-out c = omega (arith, c .before .before .before .before .before .before .before .before .before .header-of .ensures .0, c .before .before .before .before .before .before .before .put-header .ensures .end, floats-length (c .before .before .before .before .before .before .before .before .before .header-of .result), c .before .before .put-row .ensures .end, cells-length (c .before .before .before .before .before .before .before .before .before .before .before .before .before .before .args .mem .now) (length (c .before .before .before .before .before .before .before .before .before .before .before .before .before .before .args .mem .now)) (c .before .before .before .first-cell .result) (c .before .before .before .before .before .before .before .before .before .before .before .before .before .before .args .n - c .before .before .before .before .before .before .before .before .before .header-of .result), c .before .before .before .before .before .before .before .before .before .before .before .before .before .before .pre .0 .long, c .before .before .before .before .before .before .before .before .before .before .before .before .before .before .pre .4, records-length (c .before .before .before .before .before .before .before .before .before .before .before .before .before .before .args .sectors) (c .before .before .before .before .before .before .before .before .before .before .before .before .before .before .args .script .now) (c .before .before .before .before .before .before .before .before .before .before .before .before .before .before .args .mem .now) (c .before .before .before .before .before .before .before .before .before .before .before .before .before .before .args .at) (c .before .before .before .before .before .before .before .before .before .before .before .before .before .before .args .n), put-length (c .before .before .before .before .before .before .before .put-header .ensures), put-length (c .before .before .put-row .ensures))
 
--- src/rows.rt:196:9
 add-out : tie.Need-add-out
 add-out c = omega (arith, c .before .before .before .before .before .before .before .before .before .header-of .ensures .0, c .before .before .before .before .before .before .before .put-header .ensures .end, floats-length (c .before .before .before .before .before .before .before .before .before .header-of .result), c .before .before .put-row .ensures .end, cells-length (c .before .before .before .before .before .before .before .before .before .before .before .before .before .before .args .mem .now) (length (c .before .before .before .before .before .before .before .before .before .before .before .before .before .before .args .mem .now)) (c .before .before .before .first-cell .result) (c .before .before .before .before .before .before .before .before .before .before .before .before .before .before .args .n - c .before .before .before .before .before .before .before .before .before .header-of .result), c .before .before .before .before .before .before .before .before .before .before .before .before .before .before .pre .0 .long, c .before .before .before .before .before .before .before .before .before .before .before .before .before .before .pre .4, records-length (c .before .before .before .before .before .before .before .before .before .before .before .before .before .before .args .sectors) (c .before .before .before .before .before .before .before .before .before .before .before .before .before .before .args .script .now) (c .before .before .before .before .before .before .before .before .before .before .before .before .before .before .args .mem .now) (c .before .before .before .before .before .before .before .before .before .before .before .before .before .before .args .at) (c .before .before .before .before .before .before .before .before .before .before .before .before .before .before .args .n), put-length (c .before .before .before .before .before .before .before .put-header .ensures), put-length (c .before .before .put-row .ensures))
 
--- src/rows.rt:196:5
 slice-write-out-2 : tie.Need-slice-write-out-2
 slice-write-out-2 c = simp length-set (omega (arith, c .before .before .before .before .before .before .before .before .before .header-of .ensures .0, c .before .before .before .before .before .before .before .put-header .ensures .end, floats-length (c .before .before .before .before .before .before .before .before .before .header-of .result), c .before .before .put-row .ensures .end, cells-length (c .before .before .before .before .before .before .before .before .before .before .before .before .before .before .args .mem .now) (length (c .before .before .before .before .before .before .before .before .before .before .before .before .before .before .args .mem .now)) (c .before .before .before .first-cell .result) (c .before .before .before .before .before .before .before .before .before .before .before .before .before .before .args .n - c .before .before .before .before .before .before .before .before .before .header-of .result), c .before .before .before .before .before .before .before .before .before .before .before .before .before .before .pre .0 .long, c .before .before .before .before .before .before .before .before .before .before .before .before .before .before .pre .4, records-length (c .before .before .before .before .before .before .before .before .before .before .before .before .before .before .args .sectors) (c .before .before .before .before .before .before .before .before .before .before .before .before .before .before .args .script .now) (c .before .before .before .before .before .before .before .before .before .before .before .before .before .before .args .mem .now) (c .before .before .before .before .before .before .before .before .before .before .before .before .before .before .args .at) (c .before .before .before .before .before .before .before .before .before .before .before .before .before .before .args .n), put-length (c .before .before .before .before .before .before .before .put-header .ensures), put-length (c .before .before .put-row .ensures)))
 
--- src/rows.rt:197:5
 add-result : tie.Need-add-result
 add-result c = omega (arith, c .before .before .before .before .before .before .before .before .before .header-of .ensures .0, c .before .before .before .before .before .before .before .put-header .ensures .end, floats-length (c .before .before .before .before .before .before .before .before .before .header-of .result), c .before .before .put-row .ensures .end, cells-length (c .before .before .before .before .before .before .before .before .before .before .before .before .before .before .args .mem .now) (length (c .before .before .before .before .before .before .before .before .before .before .before .before .before .before .args .mem .now)) (c .before .before .before .first-cell .result) (c .before .before .before .before .before .before .before .before .before .before .before .before .before .before .args .n - c .before .before .before .before .before .before .before .before .before .header-of .result), c .before .before .before .before .before .before .before .before .before .before .before .before .before .before .pre .0 .long, c .before .before .before .before .before .before .before .before .before .before .before .before .before .before .pre .4, records-length (c .before .before .before .before .before .before .before .before .before .before .before .before .before .before .args .sectors) (c .before .before .before .before .before .before .before .before .before .before .before .before .before .before .args .script .now) (c .before .before .before .before .before .before .before .before .before .before .before .before .before .before .args .mem .now) (c .before .before .before .before .before .before .before .before .before .before .before .before .before .before .args .at) (c .before .before .before .before .before .before .before .before .before .before .before .before .before .before .args .n), put-length (c .before .before .before .before .before .before .before .put-header .ensures), put-length (c .before .before .put-row .ensures))
 
--- src/rows.rt:180:1
 same-length : tie.Need-same-length
 same-length c = simp length-set (put-length (c .before .before .put-row .ensures) ∙ put-length (c .before .before .before .before .before .before .before .put-header .ensures))
 
--- src/rows.rt:180:1
 returns : tie.Need-returns
 returns c =
     let m = c .before .before .before .before .before .before .before .before .before .before .before .before .before .before .args .mem .now in

@@ -1,7 +1,8 @@
+-- `script::rows::put_header` meets its contract. Byte after byte is put, four of them or five.
 use Prim.Native.Nat.{ℕ, _+_}
 use mathlib.Core.List.{List, [], _∷_, _++_}
 use Rattle.cells.specs.Put.{Put}
-use mathlib.Core.Path.{_≡_, sym, ap}
+use mathlib.Core.Path.{_≡_, ap}
 use native.Mathlib.Omega.{arith}
 use lib.ListN.{length-set, set}
 use Rattle.cells.specs.PutLaws.{put-byte, put-then, put-end, put-as}
@@ -9,73 +10,56 @@ use Rattle.script.specs.Heard.{floats}
 use borrow.Author.Needs.{needs}
 use Rattle.script.proofs.rows.put_header.Statement.{statement}
 use Rattle.script.proofs.rows.put_header.Tie as tie
-use Rattle.script.proofs.rows.put_header.Reads as reads
-use Rattle.script.proofs.rows.put_header.Lts as lts
 
 -- one byte more, behind those that are put
 more : {t u : List ℕ} {p q : ℕ} {xs : List ℕ} (b r : ℕ) → q + 1 ≡ r → Put t p xs q u → Put t p (xs ++ (b ∷ [])) r (set u q b)
 more b r e a = put-end e (put-then a (put-byte _ _ b))
 
--- src/rows.rt:168:5
 slice-write-out : tie.Need-slice-write-out
 slice-write-out c = search needs
 
--- src/rows.rt:169:9
 add-out : tie.Need-add-out
 add-out c = search needs
 
--- src/rows.rt:169:5
 slice-write-out-2 : tie.Need-slice-write-out-2
 slice-write-out-2 c = simp length-set (omega (arith, c .pre .2))
 
--- src/rows.rt:170:9
 add-out-2 : tie.Need-add-out-2
 add-out-2 c = search needs
 
--- src/rows.rt:170:5
 slice-write-out-3 : tie.Need-slice-write-out-3
 slice-write-out-3 c = simp length-set (omega (arith, c .pre .2))
 
--- src/rows.rt:171:9
 add-out-3 : tie.Need-add-out-3
 add-out-3 c = search needs
 
--- src/rows.rt:171:5
 slice-write-out-4 : tie.Need-slice-write-out-4
 slice-write-out-4 c = simp length-set (omega (arith, c .pre .2))
 
--- src/rows.rt:173:13
 add-out-4 : tie.Need-add-out-4
 add-out-4 c = search needs
 
--- src/rows.rt:173:9
 slice-write-out-5 : tie.Need-slice-write-out-5
 slice-write-out-5 c = simp length-set (omega (arith, c .before .pre .2))
 
--- src/rows.rt:174:16
 add-result : tie.Need-add-result
 add-result c = search needs
 
--- src/rows.rt:174:9
 same-length : tie.Need-same-length
 same-length c = search needs
 
--- src/rows.rt:174:9
 returns : tie.Need-returns
 unfolding floats
 returns c =
     put-as (ap floats (c .if1 .taken))
     (more 0x80 (c .before .args .pos + 5) (omega arith) (more 0x80 (c .before .args .pos + 4) (omega arith) (more 0x80 (c .before .args .pos + 3) (omega arith) (more 0x80 (c .before .args .pos + 2) (omega arith) (put-byte _ _ 0x80)))))
 
--- src/rows.rt:176:5
 add-result-2 : tie.Need-add-result-2
 add-result-2 c = search needs
 
--- src/rows.rt:164:1
 same-length-2 : tie.Need-same-length-2
 same-length-2 c = search needs
 
--- src/rows.rt:164:1
 returns-2 : tie.Need-returns-2
 unfolding floats
 returns-2 c =

@@ -1,3 +1,4 @@
+-- `script::rows::put_row` meets its contract. Up to the top the cells stand one behind the other (`cells-up`), past it they go on from 0 (`cells-over`).
 use Prim.Native.Nat.{_+_, _-_}
 use mathlib.Core.Path.{_≡_, ap, _∙_}
 use native.Mathlib.Omega.{arith}
@@ -8,67 +9,49 @@ use Rattle.frame.specs.RowLaws.{cells-up, cells-over}
 use borrow.Author.Needs.{needs}
 use Rattle.script.proofs.rows.put_row.Statement.{statement}
 use Rattle.script.proofs.rows.put_row.Tie as tie
-use Rattle.script.proofs.rows.put_row.Reads as reads
-use Rattle.script.proofs.rows.put_row.Lts as lts
-use Rattle.script.proofs.rows.put_cells.Reads as put-cells-reads
 
--- src/rows.rt:66:15
 sub-top : tie.Need-sub-top
 sub-top c = search needs
 
--- src/rows.rt:68:9
 put-cells-requires : tie.Need-put-cells-requires
 put-cells-requires c κs = search needs
 
--- src/rows.rt:69:22
 mul-result : tie.Need-mul-result
 mul-result c = search needs
 
--- src/rows.rt:69:16
 add-result : tie.Need-add-result
 add-result c = search needs
 
--- src/rows.rt:69:9
 same-length : tie.Need-same-length
 same-length c = search needs
 
--- src/rows.rt:69:9
 returns : tie.Need-returns
 returns c = put-as (cells-up (c .before .before .before .before .before .before .before .args .mem .now) (length (c .before .before .before .before .before .before .before .args .mem .now)) (c .before .before .before .before .before .before .before .args .place) (c .before .before .before .before .before .before .before .args .n) (omega (arith, c .before .before .before .before .before .before .before .pre .1, c .before .before .before .before .if1 .taken))) (c .before .before .put-cells .ensures)
 
--- src/rows.rt:71:5
 put-cells-requires-2 : tie.Need-put-cells-requires-2
 put-cells-requires-2 c κs = search needs
 
--- src/rows.rt:72:26
 mul-put-cells : tie.Need-mul-put-cells
 mul-put-cells c = search needs
 
--- src/rows.rt:72:20
 add-put-cells : tie.Need-add-put-cells
 add-put-cells c = search needs
 
--- src/rows.rt:72:43
 sub-put-cells : tie.Need-sub-put-cells
 sub-put-cells c = search needs
 
--- src/rows.rt:72:5
 put-cells-requires-3 : tie.Need-put-cells-requires-3
 put-cells-requires-3 c κs = (omega (arith, c .before .before .before .before .before .before .before .before .pre .0, c .before .before .before .before .before .before .before .before .pre .1, c .before .before .before .before .before .if1 .left, put-length (c .before .before .before .put-cells2 .ensures)), omega (arith, c .before .before .before .before .before .before .before .before .pre .1, c .before .before .before .before .before .before .before .before .pre .2, c .before .before .before .before .before .if1 .left))
 
--- src/rows.rt:73:11
 mul-result-2 : tie.Need-mul-result-2
 mul-result-2 c = search needs
 
--- src/rows.rt:73:5
 add-result-2 : tie.Need-add-result-2
 add-result-2 c = search needs
 
--- src/rows.rt:62:1
 same-length-2 : tie.Need-same-length-2
 same-length-2 c = search needs
 
--- src/rows.rt:62:1
 returns-2 : tie.Need-returns-2
 returns-2 c =
     let m = c .before .before .before .before .before .before .before .before .before .before .before .args .mem .now in

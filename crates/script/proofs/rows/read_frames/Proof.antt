@@ -1,6 +1,7 @@
+-- `script::rows::read_frames` meets its contract. What was read so far is a stretch or nothing, and one frame more makes it a longer stretch (`reads-more`).
 use mathlib.Core.Bool.{true}
 use mathlib.Core.List.{List, []}
-use Prim.Native.Nat.{ℕ, _+_, _*_, _-_, _<_, _≤_}
+use Prim.Native.Nat.{ℕ, _+_, _-_, _<_, _≤_}
 use mathlib.Core.Path.{_≡_, refl, _∙_}
 use native.Mathlib.Omega.{arith}
 use lib.ListN.{length}
@@ -12,13 +13,8 @@ use Rattle.chip.specs.Chip.{whole, emptyFrame, blankLoad}
 use Rattle.script.specs.Script.{eventsFrom, room}
 use Rattle.script.specs.Heard.{Reading, none, some, WholeRead, canRead}
 use Rattle.script.specs.ReadLaws.{frame-rooms, reads-more}
-use borrow.Author.Needs.{needs}
 use Rattle.script.proofs.rows.read_frames.Statement.{statement}
 use Rattle.script.proofs.rows.read_frames.Tie as tie
-use Rattle.script.proofs.rows.read_frames.Reads as reads
-use Rattle.script.proofs.rows.read_frames.Lts as lts
-use Rattle.script.proofs.rows.put_frame.Reads as put-frame-reads
-use Rattle.script.proofs.rows.whole_read.Reads as whole-read-reads
 
 abbrev Inv-loop : tie.InvT-loop
 Inv-loop mem sectors script at out₀ pos longest here₀ end₀ n₀ out here end n = (here ≤ length script) × (end + room (eventsFrom script here) ≤ length out) × (length out ≡ length out₀) × (0 < n → WholeRead script here n) × ((area load held : List ℕ) (k : Core) (f : Frame) → canRead k f ≡ true → Reading (setting sectors area) script mem at (whole k f load held) out₀ pos here (whole k emptyFrame blankLoad held) out end)
@@ -26,41 +22,32 @@ Inv-loop mem sectors script at out₀ pos longest here₀ end₀ n₀ out here e
 abbrev μ-loop : tie.MeasureT-loop
 μ-loop mem sectors script at out₀ pos longest here₀ end₀ n₀ out here end n = length script - here
 
--- src/rows.rt:226:9
 whole-read-requires : tie.Need-whole-read-requires Inv-loop μ-loop
 whole-read-requires c κs = (omega (arith, c .before .before .before .pre .more), c .before .before .before .pre .short, c .before .before .before .pre .known)
 
--- src/rows.rt:227:5
 loop-holds : tie.Need-loop-holds Inv-loop μ-loop
 loop-holds c = (omega (arith, c .before .before .before .before .pre .more), c .before .before .before .before .pre .fits, refl, c .whole-read .ensures, λ area load held k f can. none refl refl refl)
 
--- src/rows.rt:228:9
 put-frame-requires : tie.Need-put-frame-requires Inv-loop μ-loop
 put-frame-requires c κs =
     let there = c .before .before .loop .inv .3 (c .before .loop-test .taken) in
     (there, c .before .before .before .before .before .before .before .pre .part .sectors, omega (arith, c .before .before .before .before .before .before .before .pre .part .some), omega (arith, there .ends, c .before .before .before .before .before .before .before .pre .short, c .before .before .before .before .before .before .before .pre .part .some), omega (arith, c .before .before .loop .inv .1, frame-rooms (setting (c .before .before .before .before .before .before .before .args .sectors) []) (c .before .before .before .before .before .before .before .args .script .now) (c .before .before .before .before .before .before .before .args .mem .now) (λ i. c .before .before .before .before .before .shared-slice-known2 .given i .fits) (c .before .before .before .before .before .before .before .pre .part .sectors) (c .before .before .loop .here) (c .before .before .loop .n) there))
 
--- src/rows.rt:229:16
 add-here : tie.Need-add-here Inv-loop μ-loop
 add-here c = omega (arith, c .before .before .before .before .before .loop .inv .3 (c .before .before .before .before .loop-test .taken) .ends, c .before .before .before .before .before .before .before .before .before .before .pre .short)
 
--- src/rows.rt:229:27
 mul-here : tie.Need-mul-here Inv-loop μ-loop
 mul-here c = omega (arith, c .before .before .before .before .before .loop .inv .3 (c .before .before .before .before .loop-test .taken) .ends, c .before .before .before .before .before .before .before .before .before .before .pre .short)
 
--- src/rows.rt:229:16
 add-here-2 : tie.Need-add-here-2 Inv-loop μ-loop
 add-here-2 c = omega (arith, c .before .before .before .before .before .loop .inv .3 (c .before .before .before .before .loop-test .taken) .ends, c .before .before .before .before .before .before .before .before .before .before .pre .short)
 
--- src/rows.rt:230:9
 whole-read-requires-2 : tie.Need-whole-read-requires-2 Inv-loop μ-loop
 whole-read-requires-2 c κs = (omega (arith, c .before .before .before .before .before .loop .inv .3 (c .before .before .before .before .loop-test .taken) .ends), c .before .before .before .before .before .before .before .before .before .before .pre .short, c .before .before .before .before .before .before .before .before .before .before .pre .known)
 
--- src/rows.rt:227:5
 loop-less : tie.Need-loop-less Inv-loop μ-loop
 loop-less c = omega (arith, c .before .before .before .before .before .before .loop .inv .3 (c .before .before .before .before .before .loop-test .taken) .ends)
 
--- src/rows.rt:227:5
 loop-again : tie.Need-loop-again Inv-loop μ-loop
 loop-again c =
     let there = c .before .before .before .before .before .before .loop .inv .3 (c .before .before .before .before .before .loop-test .taken) in (
@@ -71,11 +58,9 @@ loop-again c =
       λ area load held k f can. some (reads-more (setting (c .before .before .before .before .before .before .before .before .before .before .before .args .sectors) area) (c .before .before .before .before .before .before .before .before .before .before .before .args .script .now) (c .before .before .before .before .before .before .before .before .before .before .before .args .mem .now) (λ i. c .before .before .before .before .before .before .before .before .before .shared-slice-known2 .given i .fits) (c .before .before .before .before .before .before .before .before .before .before .before .pre .part .sectors) can (c .before .before .before .before .before .before .loop .inv .4 area load held k f can) (c .before .before .before .before .before .before .loop .n) there (c .before .before .before .put-frame .ensures)),
     )
 
--- src/rows.rt:211:1
 same-length : tie.Need-same-length Inv-loop μ-loop
 same-length c = c .before .loop .inv .2
 
--- src/rows.rt:211:1
 returns : tie.Need-returns Inv-loop μ-loop
 returns c = c .before .loop .inv .4
 

