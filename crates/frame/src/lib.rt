@@ -193,7 +193,7 @@ pub fn streams(f: Frame) -> bool
 }
 
 // A data byte of a read of cells or of a page load: it asks nothing of the core.
-pub fn stream(f: Frame, load: &mut [u8; 256], mem: &[u8], sectors: u8, b: u8) -> Exchanged
+fn stream(f: Frame, load: &mut [u8; 256], mem: &[u8], sectors: u8, b: u8) -> Exchanged
     ensures { λ r. ⌜ exchange (r .said) (r .frame) (now (load .exit)) ≡ streamed sectors f (now (load .entry)) (now (mem .entry)) b ⌝ }
 {
     if commands::is_program(f.opcode) {

@@ -224,9 +224,9 @@ exchange-good k s at e more byte =
 pub exchange-clock : (k : Clock) (s : List ℕ) (at : ℕ) → getD s at 0 ≡ EXCHANGE → clockAfter k (eventAt s at) ≡ k
 exchange-clock k s at e = clock-stays k (eventAt s at) (exchange-unstamped s at e)
 
--- ---- selects, ticks and stamps in a script
+-- ---- selects, deselects, ticks and stamps in a script
 
--- a select has no body, a deselect has one byte, an 05h and a stamp have two
+-- a select has no body, a deselect has one byte, a stamp has two
 pub select-next : (s : List ℕ) (at : ℕ) → getD s at 0 ≡ SELECT → nextAt s at ≡ at + 1
 unfolding kindRow kindRowIn
 select-next s at e = ap (λ (kind : ℕ). at + 1 + bodyLength kind) e ∙ omega arith
@@ -234,10 +234,6 @@ select-next s at e = ap (λ (kind : ℕ). at + 1 + bodyLength kind) e ∙ omega 
 pub deselect-next : (s : List ℕ) (at : ℕ) → getD s at 0 ≡ DESELECT → nextAt s at ≡ at + 2
 unfolding kindRow kindRowIn
 deselect-next s at e = ap (λ (kind : ℕ). at + 1 + bodyLength kind) e ∙ omega arith
-
-pub ticks-next : (s : List ℕ) (at : ℕ) → getD s at 0 ≡ TICKS → nextAt s at ≡ at + 3
-unfolding kindRow kindRowIn
-ticks-next s at e = ap (λ (kind : ℕ). at + 1 + bodyLength kind) e ∙ omega arith
 
 pub stamp-next : (s : List ℕ) (at : ℕ) → getD s at 0 ≡ STAMP → nextAt s at ≡ at + 3
 unfolding kindRow kindRowIn
