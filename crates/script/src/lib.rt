@@ -34,6 +34,15 @@ use rows::Row;
 
 mod rows;
 
+// The first byte of each record: the line floated, a byte was driven, a verdict, the sectors in the way.
+const FLOATING: u8 = 0x80;
+
+const DRIVEN: u8 = 0x81;
+
+const VERDICT: u8 = 0x82;
+
+const IN_THE_WAY: u8 = 0x83;
+
 // The answer to a script run.
 pub struct Ran {
     pub chip: Chip,
@@ -245,21 +254,21 @@ fn put(out: &mut [u8], at: usize, said: Record) -> usize
     match said {
         Record::Nothing => at,
         Record::Floating => {
-            out[at] = 0x80;
+            out[at] = FLOATING;
             at + 1
         }
         Record::Driven(b) => {
-            out[at] = 0x81;
+            out[at] = DRIVEN;
             out[at + 1] = b;
             at + 2
         }
         Record::Verdict(v) => {
-            out[at] = 0x82;
+            out[at] = VERDICT;
             out[at + 1] = v;
             at + 2
         }
         Record::InTheWay(first, last) => {
-            out[at] = 0x83;
+            out[at] = IN_THE_WAY;
             out[at + 1] = first;
             out[at + 2] = last;
             at + 3

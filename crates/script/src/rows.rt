@@ -13,6 +13,9 @@ ghost use Rattle.chip.specs.declared.Frame.{Frame as FrameValue};
 ghost use Rattle.chip.specs.Chip.{whole, emptyFrame, blankLoad};
 ghost use Rattle.frame.specs.Stream.{placeOn, countOn, readOn, cellsOn, cellsUp, loadOn};
 ghost use Rattle.script.specs.Heard.{Known, Ready, Went, Reading, floats, loadedOn, headerOf, firstCell, WholeRead, canRead, frameRecords};
+use crate::DRIVEN;
+use crate::FLOATING;
+use crate::VERDICT;
 use crate::put;
 use chip::Core;
 use chip::Frame;
@@ -59,7 +62,7 @@ fn put_cells(out: &mut [u8], pos: usize, mem: &[u8], place: usize, n: usize)
 {
     let mut i = 0;
     while i < n {
-        out[pos + 2 * i] = 0x81;
+        out[pos + 2 * i] = DRIVEN;
         out[pos + 2 * i + 1] = mem[place + i];
         i += 1;
     }
@@ -175,12 +178,12 @@ fn put_header(out: &mut [u8], pos: usize, n: usize) -> usize
     requires { ⌜ (4 ≤ n) × (n ≤ 5) × (pos + n ≤ length (now out)) ⌝ }
     ensures { λ r. ⌜ Put (now (out .entry)) pos (floats n) r (now (out .exit)) ⌝ }
 {
-    out[pos] = 0x80;
-    out[pos + 1] = 0x80;
-    out[pos + 2] = 0x80;
-    out[pos + 3] = 0x80;
+    out[pos] = FLOATING;
+    out[pos + 1] = FLOATING;
+    out[pos + 2] = FLOATING;
+    out[pos + 3] = FLOATING;
     if n == 5 {
-        out[pos + 4] = 0x80;
+        out[pos + 4] = FLOATING;
         return pos + 5;
     }
     pos + 4
@@ -202,7 +205,7 @@ fn put_frame(
     let header = header_of(script[at + 2]);
     let data = put_header(out, pos, header);
     let end = put_row(out, data, mem, first_cell(sectors, script, at), n - header);
-    out[end] = 0x82;
+    out[end] = VERDICT;
     out[end + 1] = 0;
     end + 2
 }
@@ -293,7 +296,7 @@ fn put_floats(out: &mut [u8], pos: usize, n: usize) -> usize
 {
     let mut i = 0;
     while i < n {
-        out[pos + i] = 0x80;
+        out[pos + i] = FLOATING;
         i += 1;
     }
     pos + n
