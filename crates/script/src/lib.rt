@@ -195,14 +195,12 @@ fn scan(s: &[u8]) -> Scanned
         count: 0,
     };
     while at < s.len() {
-        if s[at] as u64 == Kind::EXCHANGE {
+        if (s[at] as u64 == Kind::EXCHANGE) & (at + 1 < s.len()) {
             let n = kinds::exchanges_from(s, at);
-            if 0 < n {
-                space += kinds::room_of(Kind::EXCHANGE) * n;
-                longest = longer(longest, at, n);
-                at += 2 * n;
-                continue;
-            }
+            space += kinds::room_of(Kind::EXCHANGE) * n;
+            longest = longer(longest, at, n);
+            at += 2 * n;
+            continue;
         }
         if is_good(s, at, Kind::TICKS) {
             at += 3;

@@ -131,7 +131,7 @@ fn header_of(opcode: u8) -> usize
     0
 }
 
-// Whether a frame that opens here is read to its end whatever comes between: the chip is awake and runs no job, and there is no reset to disarm.
+// Whether a read that stands whole in the script leaves the chip as it is: no frame is open, it is awake and runs no job, and there is no reset to disarm.
 fn can_read(core: Core, frame: Frame) -> bool
     ensures { λ r. ⌜ r ≡ canRead core frame ⌝ }
 {
