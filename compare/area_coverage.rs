@@ -4,7 +4,7 @@ use crate::case::LENGTHS;
 use crate::model::{Chip, Record};
 use crate::sfdp;
 use crate::side::LONGEST_AREA;
-use crate::tally::{mark, print_cells, print_head, print_line, Tally};
+use crate::tally::{print_cells, print_head, print_line, print_seen, Tally};
 use std::collections::BTreeSet;
 
 /// The opcode of a read of the area.
@@ -249,8 +249,8 @@ impl AreaCoverage {
         let faults = print_cells(&self.reader, |_| true);
         println!("\nlengths of areas, of 0 to {LONGEST_AREA}");
         faults
-            + print_lengths("lent to events and runs", &self.lengths)
-            + print_lengths("lent to the reader", &self.lengths_read)
+            + print_seen("lent to events and runs", self.lengths.len(), LONGEST_AREA + 1)
+            + print_seen("lent to the reader", self.lengths_read.len(), LONGEST_AREA + 1)
     }
 
     /// Prints the situations and the questions to the reader.
@@ -269,11 +269,4 @@ impl AreaCoverage {
 fn table_of(header: &[u8]) -> (usize, usize) {
     let [words, low, middle, high] = [3, 4, 5, 6].map(|at| usize::from(header[at]));
     (low | middle << 8 | high << 16, 4 * words)
-}
-
-/// Prints how many lengths have occurred and gives 1 if one has not.
-fn print_lengths(name: &str, lengths: &BTreeSet<usize>) -> usize {
-    let (seen, wanted) = (lengths.len(), LONGEST_AREA + 1);
-    println!("  {name:48}{seen:>8}{}", mark(seen < wanted));
-    usize::from(seen < wanted)
 }

@@ -20,10 +20,12 @@ const AREA_SCENES: [Scene; 6] = [
     |writer| writer.area_while_running(),
 ];
 
-/// Any scene, now and then one of a 5Ah frame.
+/// Any scene, now and then one of a 5Ah frame, and seldom that of a long read.
 pub fn any_scene(rng: &mut Rng) -> Scene {
     if rng.once_in(6) {
         rng.pick(&AREA_SCENES)
+    } else if rng.once_in(50) {
+        |writer| writer.read_many()
     } else {
         rng.pick(&SCENES)
     }

@@ -1,5 +1,7 @@
 // The opcodes, each with the verdicts that a frame of it can get.
 
+use crate::model::Chip;
+
 /// The verdicts that there are. 12 was one in earlier versions; the number stays unused.
 pub const VERDICTS: [u8; 12] = [0, 1, 2, 3, 4, 5, 6, 7, 8, 9, 10, 11];
 
@@ -9,6 +11,14 @@ pub struct Command {
     pub name: &'static str,
     /// The verdicts that can occur.
     pub verdicts: &'static [u8],
+}
+
+impl Command {
+    /// The head of its row in a table.
+    pub fn head(&self) -> String {
+        let opcode = self.opcode.map_or("  ".to_string(), |opcode| format!("{opcode:02X}"));
+        format!("{opcode}h {:20}", self.name)
+    }
 }
 
 /// A row of an opcode.
@@ -57,3 +67,15 @@ pub const READ_SFDP: usize = 20;
 pub const UNKNOWN: usize = 21;
 pub const EMPTY: usize = 22;
 pub const UNSELECTED: usize = 23;
+
+/// The row of what a deselect of a chip would end.
+pub fn row_of(Chip { selected, frame, .. }: &Chip) -> usize {
+    match (selected, frame.byte_count) {
+        (false, _) => UNSELECTED,
+        (_, 0) => EMPTY,
+        _ => {
+            let opcode = Some(frame.opcode);
+            COMMANDS.iter().position(|command| command.opcode == opcode).unwrap_or(UNKNOWN)
+        }
+    }
+}

@@ -5,7 +5,7 @@ use crate::areas::LONGEST_TAKEN;
 use crate::case::{room, Case, Start, Step, LENGTHS};
 use crate::class::Class;
 use crate::clock::{seen_events, Clock};
-use crate::commands::{COMMANDS, EMPTY, UNKNOWN, UNSELECTED, VERDICTS};
+use crate::commands::{row_of, COMMANDS, EMPTY, UNKNOWN, VERDICTS};
 use crate::deselect_coverage::DeselectCoverage;
 use crate::enable_coverage::EnableCoverage;
 use crate::event::{events_of, kind, Event, LONGEST};
@@ -16,11 +16,12 @@ use crate::margins::{last_step, Report};
 use crate::model::{self, Chip, Record};
 use crate::programming_coverage::ProgrammingCoverage;
 use crate::protection_coverage::ProtectionCoverage;
+use crate::read_coverage::ReadCoverage;
 use crate::report_coverage::ReportCoverage;
 use crate::side::{verdict_of, Answer};
 use crate::stamp_coverage::StampCoverage;
 use crate::states::RULES;
-use crate::tally::{print_cells, print_head, print_line, Tally};
+use crate::tally::{print_cells, print_head, print_line, required, Tally};
 use crate::wait_coverage::WaitCoverage;
 
 /// Why a verdict cannot occur in the rows that do not list it.
@@ -126,6 +127,7 @@ pub struct Coverage {
     reports: ReportCoverage,
     protection: ProtectionCoverage,
     programmings: ProgrammingCoverage,
+    reads: ReadCoverage,
     over_top: [[u64; 2]; 6],
     rules: [u64; RULES.len()],
     flags: [[u64; ENTRIES.len()]; FLAGS.len()],
@@ -155,6 +157,7 @@ impl Coverage {
             reports: ReportCoverage::new(),
             protection: ProtectionCoverage::new(),
             programmings: ProgrammingCoverage::new(),
+            reads: ReadCoverage::new(),
             over_top: [[0; 2]; 6],
             rules: [0; RULES.len()],
             flags: [[0; ENTRIES.len()]; FLAGS.len()],
@@ -217,6 +220,7 @@ impl Coverage {
         self.note_answer(before, step, entry, answer.refusal, length);
         self.deselects.note_step(&before.chip, step, entry.min(RUN), answer);
         self.stamps.note_step(&before.chip, step, entry, answer);
+        self.reads.note_step(&before.chip, step, answer);
         match step {
             Step::Run { script, spare, .. } if answer.refusal == 7 => {
                 self.note_short_room(before, script, *spare, length);
@@ -254,9 +258,11 @@ impl Coverage {
         let events = events_of(script).0;
         self.stamps.begin_run(&events, script);
         self.reports.begin_run(&before.chip, allowances.as_ref());
+        self.reads.begin_run(&before.chip, &events, allowances.is_some());
         let (after, records) = self.replay(before.clone(), &events, length);
         self.note_run(&before.chip, script, *spare, &after.chip);
         self.reports.end_run(script, &events);
+        self.reads.end_run(&after.chip, script.len(), length);
         self.protection.note_room(&events, &records, *spare, 0);
         self.deselects.note_room(&events, *spare, 0);
         events.len() as u64
@@ -379,6 +385,7 @@ impl Coverage {
                 let last = last_step(&after.chip, length);
                 self.stamps.note_stamp(&after.chip, &clock, event.1, last);
             }
+            self.reads.note_event(&after.chip, *event, length);
             let mut record = Record::None;
             if let Some(seen) = clock.seen(*event) {
                 record = self.replay_seen(&mut after, event.0, seen, length);
@@ -515,14 +522,7 @@ impl Coverage {
         self.areas.note_deselect(before, bits > 0, verdict);
         self.deselects.note_deselect(before, bits, verdict, clean.unwrap_or(verdict));
         self.protection.note_deselect(before, record, length, self.frame_lent);
-        let row = if !before.selected {
-            UNSELECTED
-        } else if frame.byte_count == 0 {
-            EMPTY
-        } else {
-            let opcode = Some(frame.opcode);
-            COMMANDS.iter().position(|command| command.opcode == opcode).unwrap_or(UNKNOWN)
-        };
+        let row = row_of(before);
         if row <= UNKNOWN {
             self.waits.note_deselect(row, before, verdict);
         }
@@ -600,7 +600,10 @@ impl Coverage {
         faults += self.report_fates();
         faults += self.waits.report();
         faults += self.enable.report();
-        faults + self.report_situations()
+        faults += self.reads.report();
+        faults += self.report_situations();
+        println!("\n{} cells have to be filled", required());
+        faults
     }
 
     /// Prints opcodes by verdicts.
@@ -609,9 +612,8 @@ impl Coverage {
         print_head(&VERDICTS);
         let mut faults = 0;
         for (command, counts) in COMMANDS.iter().zip(&self.verdicts) {
-            let opcode = command.opcode.map_or("  ".to_string(), |opcode| format!("{opcode:02X}"));
             let can = |verdict: usize| command.verdicts.contains(&(verdict as u8));
-            print!("{opcode}h {:20}", command.name);
+            print!("{}", command.head());
             faults += print_cells(counts, can);
         }
         for (verdict, reason) in REASONS.iter().enumerate() {

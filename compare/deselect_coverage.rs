@@ -235,8 +235,7 @@ impl DeselectCoverage {
         print_head(&BITS);
         let mut faults = 0;
         for (command, counts) in COMMANDS.iter().zip(&self.taken) {
-            let opcode = command.opcode.map_or("  ".to_string(), |opcode| format!("{opcode:02X}"));
-            print!("{opcode}h {:20}", command.name);
+            print!("{}", command.head());
             faults += print_cells(counts, |_| true);
         }
         faults

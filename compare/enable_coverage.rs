@@ -8,7 +8,7 @@ use crate::event::{kind, Event};
 use crate::kind_table::KindTable;
 use crate::model::{Chip, Record};
 use crate::side::verdict_of;
-use crate::tally::{print_cells, print_head};
+use crate::tally::{print_cells, print_head, print_names};
 
 /// The opcodes of programs and erases, rows of tables.
 pub const JOB_OPCODES: [u8; 7] = [0x02, 0x0A, 0x20, 0xD7, 0xD8, 0x60, 0xC7];
@@ -205,12 +205,6 @@ impl EnableCoverage {
     }
 }
 
-/// Prints the names at the head of a table's columns.
-fn print_names(names: &[&str]) {
-    let head: String = names.iter().map(|name| format!("{name:>8}")).collect();
-    println!("{:24}{head}", "");
-}
-
 /// Prints a row of counts for each opcode of a program or an erase, and gives the number of those
 /// that are not as they should be.
 fn print_opcodes<const COLUMNS: usize>(
@@ -220,7 +214,7 @@ fn print_opcodes<const COLUMNS: usize>(
     let mut faults = 0;
     for (opcode, counts) in JOB_OPCODES.iter().zip(counts) {
         let command = COMMANDS.iter().find(|command| command.opcode == Some(*opcode));
-        print!("{opcode:02X}h {:20}", command.map_or("", |command| command.name));
+        print!("{}", command.map_or(String::new(), |command| command.head()));
         faults += print_cells(counts, can);
     }
     faults

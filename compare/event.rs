@@ -11,8 +11,13 @@ pub type Event = (u64, u64);
 
 /// The events of a frame: a select, an exchange for each byte, and a deselect on the byte boundary.
 pub fn frame_of(bytes: impl IntoIterator<Item = u8>) -> Vec<Event> {
-    let sent = bytes.into_iter().map(|byte| (kind::EXCHANGE, u64::from(byte)));
-    [(kind::SELECT, 0)].into_iter().chain(sent).chain([(kind::DESELECT, 0)]).collect()
+    let (select, deselect) = ([(kind::SELECT, 0)], [(kind::DESELECT, 0)]);
+    select.into_iter().chain(exchanges_of(bytes)).chain(deselect).collect()
+}
+
+/// An exchange for each byte.
+pub fn exchanges_of(bytes: impl IntoIterator<Item = u8>) -> impl Iterator<Item = Event> {
+    bytes.into_iter().map(|byte| (kind::EXCHANGE, u64::from(byte)))
 }
 
 /// The bytes that the body of an event has in a script, if its kind is known. The harness has a

@@ -104,7 +104,8 @@ impl Expected {
     }
 }
 
-/// The bits of a frame's address that the rest of the frame, or its deselect, can still see.
+/// The bits of a frame's address that the rest of the frame, or its deselect, can still see; and
+/// all that a read has taken, which both sides keep.
 fn seen_address(opcode: u8, count: u8) -> u32 {
     let taken = match count {
         1 => 0,
@@ -114,7 +115,7 @@ fn seen_address(opcode: u8, count: u8) -> u32 {
     };
     match opcode {
         0x01 if count == 2 => 0xFF,                // the byte to write
-        0x03 | 0x0B | 0x5A if count < 4 => taken,  // at byte 4 it goes to the read place
+        0x03 | 0x0B | 0x5A => taken,               // those of a read stay to its end
         0x20 | 0xD7 | 0xD8 if count <= 4 => taken, // longer ones are verdict 4
         0x02 | 0x0A => taken,
         _ => 0,
@@ -123,10 +124,10 @@ fn seen_address(opcode: u8, count: u8) -> u32 {
 
 /// Sets to 0 what nothing can see any more of a chip's frame, given the model's chip:
 /// - of a frame that is judged, floats and keeps its verdict: address, both places and load;
-/// - of any other frame: the address unless a later byte or the deselect uses it (the library
-///   takes address bytes in every frame, the model only where they mean something), the read
-///   place but in 03h, 0Bh and 5Ah from byte 4 on and in 9Fh, the load place and the load but in
-///   a program.
+/// - of any other frame: the address unless a later byte or the deselect uses it, or it is that of
+///   a read (the library takes address bytes in every frame, the model only where they mean
+///   something), the read place but in 03h, 0Bh and 5Ah from byte 4 on and in 9Fh, the load place
+///   and the load but in a program.
 ///
 /// Of an empty frame nothing is left out, for a legal state says what it is, and nothing of a job.
 fn forget_unseen(image: &mut Image, chip: &Chip) {

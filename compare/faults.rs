@@ -19,8 +19,8 @@ use crate::side::{
 use crate::writer::{self, Written};
 use crate::wrong_report::{self, Happened, Watch};
 use crate::{
-    text, wrong_deselect, wrong_enable, wrong_reader, wrong_room, wrong_sectors, wrong_stamp,
-    wrong_wait, wrong_writer,
+    text, wrong_deselect, wrong_enable, wrong_reader, wrong_reads, wrong_room, wrong_sectors,
+    wrong_stamp, wrong_wait, wrong_writer,
 };
 
 /// The faults that have no file of their own, in words; the first five are errors that look right.
@@ -57,13 +57,14 @@ const FAULTS: [&str; 30] = [
     "the part's own area has zeros for its third header",
 ];
 
-/// The number of the first fault of the wait, of WEN beside a job, of deselects, of verdict 9's
-/// records, of the room, of the reader, of stamps, of reports, and of the script writer, and the
-/// number of the text form's.
+/// The number of the first fault of the wait, of WEN beside a job, of deselects, of reads of cells,
+/// of verdict 9's records, of the room, of the reader, of stamps, of reports, and of the script
+/// writer, and the number of the text form's.
 const WAIT: usize = FAULTS.len();
 const ENABLE: usize = WAIT + wrong_wait::FAULTS.len();
 const DESELECTS: usize = ENABLE + wrong_enable::FAULTS.len();
-const SECTORS: usize = DESELECTS + wrong_deselect::FAULTS.len();
+const READS: usize = DESELECTS + wrong_deselect::FAULTS.len();
+const SECTORS: usize = READS + wrong_reads::FAULTS.len();
 const ROOM: usize = SECTORS + wrong_sectors::FAULTS.len();
 const READER: usize = ROOM + wrong_room::FAULTS.len();
 const STAMPS: usize = READER + wrong_reader::FAULTS.len();
@@ -77,6 +78,7 @@ pub fn all_faults() -> impl Iterator<Item = &'static str> {
         &wrong_wait::FAULTS[..],
         &wrong_enable::FAULTS,
         &wrong_deselect::FAULTS,
+        &wrong_reads::FAULTS,
         &wrong_sectors::FAULTS,
         &wrong_room::FAULTS,
         &wrong_reader::FAULTS,
@@ -200,7 +202,7 @@ impl WrongCopy {
                 let (in_run, expected) = (self.run_began.is_some(), &mut self.expected);
                 wrong_enable::event(fault - ENABLE, in_run, expected, memory, area, (kind, body))
             }
-            Some(fault @ DESELECTS..SECTORS) => {
+            Some(fault @ DESELECTS..READS) => {
                 let (fault, expected) = (fault - DESELECTS, &mut self.expected);
                 wrong_deselect::event(fault, expected, memory, area, (kind, body))
             }
@@ -342,20 +344,51 @@ impl WrongCopy {
         let mut clock = wrong_stamp::Clock::new(stamps, self.last_stamp);
         let (mut written, mut ticks) = (0, 0);
         self.run_began = Some(self.expected.chip.clone());
-        for (source, body) in events_of(script).0 {
-            for event in clock.seen((source, body), &self.expected.chip) {
-                let done = self.apply_watched(loan, source, event);
-                let record = done.record.written();
-                self.output[written..written + record.len()].copy_from_slice(record);
-                written += record.len();
-                ticks += if wrong_stamp::counts(stamps, source) { done.ticks } else { 0 };
+        let events = events_of(script).0;
+        let mut rest = &events[..];
+        while let [first @ (source, _), after @ ..] = rest {
+            if let Some(taken) = self.take_read(loan, rest) {
+                written += self.write_at(written, &taken.records);
+                if self.has(READS + wrong_reads::CLEARS_CLOCK) {
+                    clock = wrong_stamp::Clock::new(stamps, None);
+                }
+                rest = &rest[taken.events..];
+                continue;
             }
+            for event in clock.seen(*first, &self.expected.chip) {
+                let done = self.apply_watched(loan, *source, event);
+                written += self.write_at(written, done.record.written());
+                ticks += if wrong_stamp::counts(stamps, *source) { done.ticks } else { 0 };
+            }
+            rest = after;
         }
         (self.run_began, self.last_stamp) = (None, clock.last());
         if self.has(ROOM + wrong_room::WRITTEN) {
             written = room_needed(script) as usize;
         }
         Answer::to_run(0, 0, written as u64, ticks)
+    }
+
+    /// Writes records at a place of the output and gives the number of their bytes.
+    fn write_at(&mut self, written: usize, records: &[u8]) -> usize {
+        self.output[written..written + records.len()].copy_from_slice(records);
+        records.len()
+    }
+
+    /// Takes a row or a whole frame of a read of cells that events begin with in one go. The copy
+    /// without a fault does so too, and rightly: what is found in the others is their fault alone.
+    fn take_read(&mut self, loan: Loan, events: &[Event]) -> Option<wrong_reads::Taken> {
+        let fault = match self.fault {
+            None => wrong_reads::NO_FAULT,
+            Some(fault @ READS..SECTORS) => fault - READS,
+            _ => return None,
+        };
+        let memory = &self.memory[..loan.memory];
+        let taken = wrong_reads::take(fault, &mut self.expected.chip, memory, events);
+        if fault == wrong_reads::LOSES_REPORT && taken.is_some() {
+            self.watch = None;
+        }
+        taken
     }
 
     /// Applies an event of a run, which has a kind of its own in the script, and lets the watch, if
@@ -483,12 +516,20 @@ impl Side for WrongCopy {
     }
 
     fn run(&mut self, loan: Loan, script: &[u8], room: usize) -> Result<Answer, String> {
-        let Some(fault @ DESELECTS..SECTORS) = self.fault else {
-            return Ok(self.run_script(loan, script, room));
-        };
-        let taken = wrong_deselect::script_taken(fault - DESELECTS, script);
-        let answer = self.run_script(loan, &taken.bytes, room);
-        Ok(wrong_deselect::run_answer(fault - DESELECTS, script, &taken, answer))
+        Ok(match self.fault {
+            Some(fault @ DESELECTS..READS) => {
+                let taken = wrong_deselect::script_taken(fault - DESELECTS, script);
+                let answer = self.run_script(loan, &taken.bytes, room);
+                wrong_deselect::run_answer(fault - DESELECTS, script, &taken, answer)
+            }
+            Some(fault @ READS..SECTORS) => {
+                let room = wrong_reads::room_taken(fault - READS, script, room);
+                let taken = wrong_reads::script_taken(fault - READS, script);
+                let answer = self.run_script(loan, taken, room);
+                wrong_reads::answered(fault - READS, script, answer)
+            }
+            _ => self.run_script(loan, script, room),
+        })
     }
 
     fn run_report(

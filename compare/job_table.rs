@@ -4,7 +4,7 @@
 use crate::case::LENGTHS;
 use crate::class::Class;
 use crate::model::Job;
-use crate::tally::mark;
+use crate::tally::{count_required, mark};
 use std::collections::BTreeSet;
 
 /// The kinds of job, rows of the tables.
@@ -74,6 +74,7 @@ impl JobTable {
 
 /// Prints how many numbers of steps a cell has of how many, and gives 1 if it is not as it should be.
 fn print_cell(seen: usize, wanted: usize) -> usize {
+    count_required(wanted > 0);
     let bad = seen < wanted || (wanted == 0 && seen > 0);
     let cell = if wanted == 0 { "-".to_string() } else { format!("{seen}/{wanted}") };
     print!("{:>10}", cell + mark(bad));

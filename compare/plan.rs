@@ -18,6 +18,7 @@ impl Session<'_> {
     pub fn planned(&mut self) -> Outcome {
         self.fresh_states()?;
         self.enable()?;
+        self.reads()?;
         self.deselects()?;
         self.stamps()?;
         self.reports()?;
@@ -43,6 +44,7 @@ impl Session<'_> {
         for length in &LENGTHS[1..] {
             self.broken_states(*length)?;
         }
+        self.all_reads()?;
         self.scripts_run()?;
         self.limits(LENGTHS[0])?;
         self.limits(LENGTHS[5])

@@ -7,7 +7,7 @@ use crate::model::Chip;
 use crate::programming::{Programming, MOST_PIECES, REFUSALS};
 use crate::protection::ends;
 use crate::protection_coverage::SECTORS;
-use crate::tally::{mark, print_cells, print_head, Tally};
+use crate::tally::{print_cells, print_head, print_seen, Tally};
 use std::collections::BTreeSet;
 
 /// The numbers that the writer answers with.
@@ -274,9 +274,7 @@ impl ProgrammingCoverage {
         }
         println!("\noffsets in a page, of 256, at which so many bytes began");
         for (count, offsets) in COUNTS.iter().zip(&self.offsets) {
-            let (name, seen) = (count_words(*count), offsets.len());
-            println!("  {name:48}{seen:>8}{}", mark(seen < 256));
-            faults += usize::from(seen < 256);
+            faults += print_seen(&count_words(*count), offsets.len(), 256);
         }
         faults
     }

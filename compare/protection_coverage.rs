@@ -6,7 +6,7 @@ use crate::event::{kind, room_of, Event};
 use crate::model::{Chip, Record};
 use crate::protection::{ends, target_sector, Ends};
 use crate::side::{record_bytes, verdict_of};
-use crate::tally::{mark, print_cells, print_head, print_line, Tally};
+use crate::tally::{count_required, mark, print_cells, print_head, print_line, Tally};
 
 /// The jobs that can have a protected target, as `LONG_JOBS` has them.
 const TARGETS: [&str; 4] = ["a program", "a small sector erase", "a sector erase", "a chip erase"];
@@ -262,6 +262,7 @@ impl ProtectionCoverage {
                 print!("{:24}", format!("TB {tb}, S = {sectors}"));
                 for asked in by_level {
                     let bad = asked.count_ones() != u32::from(*sectors);
+                    count_required(true);
                     print!("{:>8}", asked.count_ones().to_string() + mark(bad));
                     faults += usize::from(bad);
                 }

@@ -245,8 +245,7 @@ impl WaitCoverage {
         println!("{:24}{:>8}{:>8}{:>8}", "", ENDS[0], ENDS[1], ENDS[2]);
         let mut faults = 0;
         for (command, counts) in COMMANDS.iter().zip(&self.frames) {
-            let opcode = command.opcode.map_or("  ".to_string(), |opcode| format!("{opcode:02X}"));
-            print!("{opcode}h {:20}", command.name);
+            print!("{}", command.head());
             faults += print_cells(counts, |_| true);
         }
         faults
