@@ -49,7 +49,7 @@ pub data Reading (T : Setting) (s m : List ℕ) (at : ℕ) (c : Chip) (out : Lis
 
 -- a row of exchanges, as long as it is
 abbrev pub Known : List ℕ → Row → Type 0
-Known s r = (r .count ≡ exchangesFrom s (r .at)) × (r .at ≤ length s)
+Known s r = r .count ≡ exchangesFrom s (r .at)
 
 -- S sectors that are a memory of n cells
 pub record WholePart (S n : ℕ) : Type 0 where

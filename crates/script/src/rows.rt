@@ -41,16 +41,13 @@ struct Place {
     pos: usize,
 }
 
-// How many exchanges stand in a row at an offset: those of the longest row have been counted.
+// How many exchanges stand in a row at an offset: the longest row has been counted.
 fn row_from(script: &[u8], at: usize, longest: Row) -> usize
     requires { ⌜ Known (now script) longest ⌝ }
     ensures { λ r. ⌜ r ≡ exchangesFrom (now (script .entry)) at ⌝ }
 {
-    if longest.at <= at {
-        let passed = at - longest.at;
-        if (passed % 2 == 0) & (passed / 2 < longest.count) {
-            return longest.count - passed / 2;
-        }
+    if at == longest.at {
+        return longest.count;
     }
     kinds::exchanges_from(script, at)
 }

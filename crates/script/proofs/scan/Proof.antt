@@ -1,4 +1,5 @@
 -- `script::scan` meets its contract. No event passed was bad by the clock that it found, so the first bad one lies ahead; the room counted and the room ahead are the whole. A row of exchanges is never bad (`row-clean`) and is given its room (`row-room`); other frequent events that are good are passed one by one (`passed`). The longest row is one that was counted.
+-- `script::scan` meets its contract. No event passed was bad by the clock that it found, so the first bad one lies ahead; the room counted and the room ahead are the whole. A row of exchanges is never bad (`row-clean`) and is given its room (`row-room`); other frequent events that are good are passed one by one (`passed`). The longest row is one that was counted.
 use Prim.Native.Nat.{ℕ, _≤_, _<_, _+_, _*_, _-_}
 use native.Mathlib.Nat.{add-zero, add-assoc, zero-add}
 use native.Mathlib.Omega.{arith}
@@ -36,7 +37,7 @@ no-stamp-requires : tie.Need-no-stamp-requires Inv-loop μ-loop
 no-stamp-requires c κs = search needs
 
 loop-holds : tie.Need-loop-holds Inv-loop μ-loop
-loop-holds c = (search needs, search needs, ap (λ (k : Clock). firstBad k (eventsFrom (c .before .before .args .s .now) 0)) (sym (c .no-stamp .ensures)), sym (zero-add _), (sym (row-past (c .before .before .args .s .now) (length (c .before .before .args .s .now)) (omega arith)), omega arith))
+loop-holds c = (search needs, search needs, ap (λ (k : Clock). firstBad k (eventsFrom (c .before .before .args .s .now) 0)) (sym (c .no-stamp .ensures)), sym (zero-add _), sym (row-past (c .before .before .args .s .now) (length (c .before .before .args .s .now)) (omega arith)))
 
 shared-slice-read-if1 : tie.Need-shared-slice-read-if1 Inv-loop μ-loop
 shared-slice-read-if1 c = search needs
@@ -89,7 +90,7 @@ loop-again c =
       omega (arith, c .before .before .before .before .before .before .loop .inv .1, ap (λ (r : ℕ). r * n) (c .before .room-of .ensures .0)),
       c .before .before .before .before .before .before .loop .inv .2 ∙ row-clean s (λ i. c .before .before .before .before .shared-slice-known2 .given i .fits) at (c .before .before .before .before .before .before .loop .inv .0) (c .before .before .before .before .before .before .loop .clock) n is,
       c .before .before .before .before .before .before .loop .inv .3 ∙ ap (λ (r : ℕ). c .before .before .before .before .before .before .loop .space + r) (row-room s (λ i. c .before .before .before .before .shared-slice-known2 .given i .fits) at (c .before .before .before .before .before .before .loop .inv .0) n is) ∙ rw (c .before .room-of .ensures .0) (sym (add-assoc _ _ _)),
-      ⊎-elim (λ e. subst (Known s) (sym e) (c .before .before .before .before .before .before .loop .inv .4)) (λ e. subst (Known s) (sym e) (c .before .before .exchanges-from .ensures, c .before .before .before .before .before .before .loop .inv .0)) (c .longer .ensures),
+      ⊎-elim (λ e. subst (Known s) (sym e) (c .before .before .before .before .before .before .loop .inv .4)) (λ e. subst (Known s) (sym e) (c .before .before .exchanges-from .ensures)) (c .longer .ensures),
     )
 
 is-good-requires : tie.Need-is-good-requires Inv-loop μ-loop

@@ -10,7 +10,7 @@ refuse-requires : tie.Need-refuse-requires
 refuse-requires c κs = search needs
 
 returns : tie.Need-returns
-returns c = (c .refuse .ensures, (sym (row-past _ _ (omega arith)), search needs))
+returns c = (c .refuse .ensures, sym (row-past _ _ (omega arith)))
 
 pub turned-down-spec : {M : Type 1} → statement M
 turned-down-spec = tie.close (tie.spec refuse-requires returns)
