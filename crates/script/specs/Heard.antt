@@ -89,11 +89,12 @@ abbrev pub firstCell : ℕ → List ℕ → ℕ → ℕ
 firstCell S s at = reduced S (getD s (at + 4) 0 * 65536 + getD s (at + 6) 0 * 256 + getD s (at + 8) 0)
 
 -- such a frame at an offset: a select, n exchanges, as many as its header has or more, and a deselect
-pub record WholeRead (s : List ℕ) (at n : ℕ) : Type 0 where
+pub record WholeRead (s : List ℕ) (at header n : ℕ) : Type 0 where
   pub is-select : getD s at 0 ≡ SELECT
   pub row : n ≡ exchangesFrom s (at + 1)
-  pub headed : 0 < headerOf (getD s (at + 2) 0)
-  pub long : headerOf (getD s (at + 2) 0) ≤ n
+  pub is-header : header ≡ headerOf (getD s (at + 2) 0)
+  pub headed : 0 < header
+  pub long : header ≤ n
   pub closed : getD s (at + 1 + 2 * n) 0 ≡ DESELECT
   pub ends : at + 1 + 2 * n + 2 ≤ length s
 
@@ -102,6 +103,5 @@ abbrev pub canRead : Core → Frame → Bool
 canRead k f = not (f .selected) && eqb (f .count) 0 && not (k .deep) && not (k .armed) && not (running k)
 
 -- what it says: its header floats, then come the cells, then verdict 0
-abbrev pub frameRecords : ℕ → List ℕ → List ℕ → ℕ → ℕ → List ℕ
-frameRecords S s m at n =
-    floats (headerOf (getD s (at + 2) 0)) ++ cellsOn m (length m) (firstCell S s at) (n - headerOf (getD s (at + 2) 0)) ++ recordBytes (Verdict 0)
+abbrev pub frameRecords : ℕ → List ℕ → List ℕ → ℕ → ℕ → ℕ → List ℕ
+frameRecords S s m at header n = floats header ++ cellsOn m (length m) (firstCell S s at) (n - header) ++ recordBytes (Verdict 0)

@@ -89,25 +89,30 @@ shifted-three A a b c p q r = omega arith
 -- ---- its records
 
 -- a header has four bytes, or five
-pub header-least : (opcode : ℕ) → 0 < headerOf opcode → 4 ≤ headerOf opcode
-header-least opcode =
-    cond-either (λ (n : ℕ). 0 < n → 4 ≤ n) (eqb opcode lowPowerRead) _ _ (λ _ _. omega arith)
-    (λ _. cond-either (λ (n : ℕ). 0 < n → 4 ≤ n) (eqb opcode highSpeedRead) _ _ (λ _ _. omega arith) (λ _ less. absurd (omega arith)))
+pub header-sizes : (s : List ℕ) (at header n : ℕ) → WholeRead s at header n → (4 ≤ header) × (header ≤ 5)
+header-sizes s at header n w = subst (λ (h : ℕ). 0 < h → (4 ≤ h) × (h ≤ 5)) (sym (w .is-header)) sizes (w .headed)
+  where
+    opcode : ℕ
+    opcode = getD s (at + 2) 0
+
+    sizes : 0 < headerOf opcode → (4 ≤ headerOf opcode) × (headerOf opcode ≤ 5)
+    sizes =
+        cond-either (λ (h : ℕ). 0 < h → (4 ≤ h) × (h ≤ 5)) (eqb opcode lowPowerRead) _ _ (λ _ _. (omega arith, omega arith))
+        (λ _. cond-either (λ (h : ℕ). 0 < h → (4 ≤ h) × (h ≤ 5)) (eqb opcode highSpeedRead) _ _ (λ _ _. (omega arith, omega arith)) (λ _ less. absurd (omega arith)))
 
 pub floats-length : (n : ℕ) → length (floats n) ≡ n
 unfolding floats
 floats-length zero = refl
 floats-length (suc n) = length-append (floats n) _ ∙ omega (arith, floats-length n)
 
-pub records-length : (S : ℕ) (s m : List ℕ) (at n : ℕ) → length (frameRecords S s m at n) ≡ headerOf (getD s (at + 2) 0) + 2 * (n - headerOf (getD s (at + 2) 0)) + 2
-records-length S s m at n =
-    let h : ℕ = headerOf (getD s (at + 2) 0) in
-    let cells : List ℕ = cellsOn m (length m) (firstCell S s at) (n - h) in
-    omega (arith, length-append (floats h ++ cells) (recordBytes (Verdict 0)), length-append (floats h) cells, floats-length h, cells-length m (length m) (firstCell S s at) (n - h))
+pub records-length : (S : ℕ) (s m : List ℕ) (at header n : ℕ) → length (frameRecords S s m at header n) ≡ header + 2 * (n - header) + 2
+records-length S s m at header n =
+    let cells : List ℕ = cellsOn m (length m) (firstCell S s at) (n - header) in
+    omega (arith, length-append (floats header ++ cells) (recordBytes (Verdict 0)), length-append (floats header) cells, floats-length header, cells-length m (length m) (firstCell S s at) (n - header))
 
 -- ---- the frame
 
-module _ (T : Setting) (s m : List ℕ) (bytes : Bytes s) (at n : ℕ) (whole-read : WholeRead s at n) (k : Core) (f : Frame) (load held : List ℕ) (can : canRead k f ≡ true) where
+module _ (T : Setting) (s m : List ℕ) (bytes : Bytes s) (at header n : ℕ) (whole-read : WholeRead s at header n) (k : Core) (f : Frame) (load held : List ℕ) (can : canRead k f ≡ true) where
   abbrev o : ℕ
   o = getD s (at + 2) 0
 
@@ -197,7 +202,7 @@ module _ (T : Setting) (s m : List ℕ) (bytes : Bytes s) (at n : ℕ) (whole-re
   records count = floats count ++ cellsOn m (length m) (firstCell (T .sectors) s at) (n - count) ++ recordBytes (Verdict 0)
 
   pub heard-frame : lengthOf (T .sectors) ≡ length m
-      → Heard T s m at (whole k f load held) (at + 3 + 2 * n) (whole k emptyFrame blankLoad held) (frameRecords (T .sectors) s m at n)
+      → Heard T s m at (whole k f load held) (at + 3 + 2 * n) (whole k emptyFrame blankLoad held) (frameRecords (T .sectors) s m at header n)
   unfolding floats exchanged taken isProgram
   heard-frame part = go (ℕ-discrete o lowPowerRead) (ℕ-discrete o highSpeedRead)
     where
@@ -210,14 +215,14 @@ module _ (T : Setting) (s m : List ℕ) (bytes : Bytes s) (at n : ℕ) (whole-re
           subst (λ (cells : List ℕ). Heard T s m at (whole k f load held) (at + 3 + 2 * n) (whole k emptyFrame blankLoad held) (floats count ++ cells ++ recordBytes (Verdict 0)))
           (λ i. cellsOn m (part i) (reduced (T .sectors) (shifted-three (f .address) (getD s (at + 4) 0) (getD s (at + 6) 0) (getD s (at + 8) 0) (bytes (at + 4)) (bytes (at + 6)) (bytes (at + 8)) i)) (n - count))
 
-      go : Dec (o ≡ lowPowerRead) → Dec (o ≡ highSpeedRead) → Told (headerOf o)
+      go : Dec (o ≡ lowPowerRead) → Dec (o ≡ highSpeedRead) → Told header
       go (yes e) other =
-          let four : headerOf o ≡ 4 = ap headerOf e in
+          let four : header ≡ 4 = whole-read .is-header ∙ ap headerOf e in
           let h : Header o = subst Header (sym e) low in
           let long : 4 ≤ n = omega (arith, whole-read .long, four) in
           subst Told (sym four) (told 4 (heard-rest h long 4 (at + 9) (omega arith) long (ap (λ (q : ℕ). streams (inHeader q address (reduced (T .sectors) address) (getD s (at + 8) 0) 4)) e) (heard-address h long)))
       go (no not-low) (yes e) =
-          let five : headerOf o ≡ 5 = ap headerOf e in
+          let five : header ≡ 5 = whole-read .is-header ∙ ap headerOf e in
           let h : Header o = subst Header (sym e) high in
           let long : 5 ≤ n = omega (arith, whole-read .long, five) in
           subst Told (sym five)
@@ -229,9 +234,9 @@ module _ (T : Setting) (s m : List ℕ) (bytes : Bytes s) (at n : ℕ) (whole-re
           dummy e =
               subst (λ (q : ℕ). exchanged T k (inHeader q address (reduced (T .sectors) address) (getD s (at + 8) 0) 4) load m (getD s (at + 9 + 1) 0)
               ≡ exchange Floating (inHeader q address (reduced (T .sectors) address) (getD s (at + 8) 0) 5) load) (sym e) refl
-      go (no not-low) (no not-high) = absurd (headless (whole-read .headed) (cond-no (eqb o lowPowerRead) _ _ (ne-eqb _ _ not-low) ∙ cond-no (eqb o highSpeedRead) _ _ (ne-eqb _ _ not-high)))
+      go (no not-low) (no not-high) = absurd (headless (whole-read .headed) (whole-read .is-header ∙ cond-no (eqb o lowPowerRead) _ _ (ne-eqb _ _ not-low) ∙ cond-no (eqb o highSpeedRead) _ _ (ne-eqb _ _ not-high)))
         where
-          headless : 0 < headerOf o → headerOf o ≡ 0 → ⊥
+          headless : 0 < header → header ≡ 0 → ⊥
           headless headed z = omega arith
 
 -- ---- frames one behind the other
@@ -247,26 +252,26 @@ can-again k f can =
 
 module _ (T : Setting) (s m : List ℕ) (bytes : Bytes s) (part : lengthOf (T .sectors) ≡ length m) where
   -- the records of a frame find room, and so do those behind it: as on any chip, on one that is fresh
-  pub frame-rooms : (at n : ℕ) → WholeRead s at n → length (frameRecords (T .sectors) s m at n) + room (eventsFrom s (at + 3 + 2 * n)) ≤ room (eventsFrom s at)
-  frame-rooms at n w = heard-frame T s m bytes at n w resting emptyFrame blankLoad blankLoad refl part .roomy
+  pub frame-rooms : (at header n : ℕ) → WholeRead s at header n → length (frameRecords (T .sectors) s m at header n) + room (eventsFrom s (at + 3 + 2 * n)) ≤ room (eventsFrom s at)
+  frame-rooms at header n w = heard-frame T s m bytes at header n w resting emptyFrame blankLoad blankLoad refl part .roomy
 
   -- one frame more, behind those that were read
   pub reads-more : {at : ℕ} {k : Core} {f : Frame} {load held out : List ℕ} {pos here : ℕ} {out′ : List ℕ} {end : ℕ} → canRead k f ≡ true
-      → Reading T s m at (whole k f load held) out pos here (whole k emptyFrame blankLoad held) out′ end → (n : ℕ) → WholeRead s here n → {out″ : List ℕ} {end′ : ℕ} → Put out′ end (frameRecords (T .sectors) s m here n) end′ out″
+      → Reading T s m at (whole k f load held) out pos here (whole k emptyFrame blankLoad held) out′ end → (header n : ℕ) → WholeRead s here header n → {out″ : List ℕ} {end′ : ℕ} → Put out′ end (frameRecords (T .sectors) s m here header n) end′ out″
       → Went T s m at (whole k f load held) out pos (here + 3 + 2 * n) (whole k emptyFrame blankLoad held) out″ end′
-  reads-more {at} {k} {f} {load} {held} {out} {pos} {here} {out′} {end} can (none a p o) n w {out″} {end′} put =
+  reads-more {at} {k} {f} {load} {held} {out} {pos} {here} {out′} {end} can (none a p o) header n w {out″} {end′} put =
       record {
-        said = frameRecords (T .sectors) s m here n;
+        said = frameRecords (T .sectors) s m here header n;
         heard =
-            subst (λ (q : ℕ). Heard T s m q (whole k f load held) (here + 3 + 2 * n) (whole k emptyFrame blankLoad held) (frameRecords (T .sectors) s m here n)) a
-            (heard-frame T s m bytes here n w k f load held can part);
-        stored = subst (λ (q : ℕ). Put out q (frameRecords (T .sectors) s m here n) end′ out″) p (subst (λ (l : List ℕ). Put l end (frameRecords (T .sectors) s m here n) end′ out″) o put);
+            subst (λ (q : ℕ). Heard T s m q (whole k f load held) (here + 3 + 2 * n) (whole k emptyFrame blankLoad held) (frameRecords (T .sectors) s m here header n)) a
+            (heard-frame T s m bytes here header n w k f load held can part);
+        stored = subst (λ (q : ℕ). Put out q (frameRecords (T .sectors) s m here header n) end′ out″) p (subst (λ (l : List ℕ). Put l end (frameRecords (T .sectors) s m here header n) end′ out″) o put);
         further = omega (arith, a);
       }
-  reads-more {at} {k} {f} {load} {held} can (some went) n w put =
+  reads-more {at} {k} {f} {load} {held} can (some went) header n w put =
       record {
-        said = went .said ++ frameRecords (T .sectors) s m _ n;
-        heard = heard-then (went .heard) (heard-frame T s m bytes _ n w k emptyFrame blankLoad held (can-again k f can) part);
+        said = went .said ++ frameRecords (T .sectors) s m _ header n;
+        heard = heard-then (went .heard) (heard-frame T s m bytes _ header n w k emptyFrame blankLoad held (can-again k f can) part);
         stored = put-then (went .stored) put;
         further = omega (arith, went .further);
       }

@@ -41,6 +41,12 @@ struct Place {
     pos: usize,
 }
 
+// A whole frame of a read: the bytes of its header, and all its exchanges; 0 of these for no such frame.
+struct WholeFrame {
+    header: usize,
+    count: usize,
+}
+
 // How many exchanges stand in a row at an offset: the longest row has been counted.
 fn row_from(script: &[u8], at: usize, longest: Row) -> usize
     requires { ⌜ Known (now script) longest ⌝ }
@@ -136,27 +142,39 @@ fn can_read(core: Core, frame: Frame) -> bool
     !frame.selected & (frame.count == 0) & !core.deep & !core.armed & !runs
 }
 
-// The exchanges of the whole frame of a read that stands at an offset; 0 where there is none. Its opcode is looked at first: most frames read no cells.
-fn whole_read(script: &[u8], at: usize, longest: Row) -> usize
+fn no_read() -> WholeFrame
+    ensures { λ r. ⌜ r .count ≡ 0 ⌝ }
+{
+    WholeFrame {
+        header: 0,
+        count: 0,
+    }
+}
+
+// The whole frame of a read that stands at an offset. Its opcode is looked at first: most frames read no cells.
+fn whole_read(script: &[u8], at: usize, longest: Row) -> WholeFrame
     requires { ⌜ (at ≤ length (now script)) × (length (now script) ≤ 65536) × Known (now script) longest ⌝ }
-    ensures { λ r. ⌜ (0 < r → WholeRead (now (script .entry)) at r) ⌝ }
+    ensures { λ r. ⌜ (0 < r .count → WholeRead (now (script .entry)) at (r .header) (r .count)) ⌝ }
 {
     if script.len() < at + 3 {
-        return 0;
+        return no_read();
     }
     let header = header_of(script[at + 2]);
     if (script[at] as u64 != Kind::SELECT) | (header == 0) {
-        return 0;
+        return no_read();
     }
     let n = row_from(script, at + 1, longest);
     let end = at + 1 + 2 * n;
     if (n < header) | (script.len() < end + 2) {
-        return 0;
+        return no_read();
     }
     if script[end] as u64 != Kind::DESELECT {
-        return 0;
+        return no_read();
     }
-    n
+    WholeFrame {
+        header: header,
+        count: n,
+    }
 }
 
 // The cell at which a read begins, by the address in its header.
@@ -186,7 +204,7 @@ fn put_header(out: &mut [u8], pos: usize, n: usize) -> usize
     pos + 4
 }
 
-// Stores the records of a whole frame of a read, n exchanges and a deselect; the answer is the place behind them.
+// Stores the records of a whole frame of a read at an offset; the answer is the place behind them.
 fn put_frame(
     out: &mut [u8],
     pos: usize,
@@ -194,14 +212,19 @@ fn put_frame(
     sectors: u8,
     script: &[u8],
     at: usize,
-    n: usize,
+    frame: WholeFrame,
 ) -> usize
-    requires { ⌜ WholeRead (now script) at n × (lengthOf sectors ≡ length (now mem)) × (0 < length (now mem)) × (n ≤ length (now mem)) × (pos + length (frameRecords sectors (now script) (now mem) at n) ≤ length (now out)) ⌝ }
-    ensures { λ r. ⌜ Put (now (out .entry)) pos (frameRecords sectors (now (script .entry)) (now (mem .entry)) at n) r (now (out .exit)) ⌝ }
+    requires { ⌜ WholeRead (now script) at (frame .header) (frame .count) × (lengthOf sectors ≡ length (now mem)) × (0 < length (now mem)) × (frame .count ≤ length (now mem)) × (pos + length (frameRecords sectors (now script) (now mem) at (frame .header) (frame .count)) ≤ length (now out)) ⌝ }
+    ensures { λ r. ⌜ Put (now (out .entry)) pos (frameRecords sectors (now (script .entry)) (now (mem .entry)) at (frame .header) (frame .count)) r (now (out .exit)) ⌝ }
 {
-    let header = header_of(script[at + 2]);
-    let data = put_header(out, pos, header);
-    let end = put_row(out, data, mem, first_cell(sectors, script, at), n - header);
+    let data = put_header(out, pos, frame.header);
+    let end = put_row(
+        out,
+        data,
+        mem,
+        first_cell(sectors, script, at),
+        frame.count - frame.header,
+    );
     out[end] = VERDICT;
     out[end + 1] = 0;
     end + 2
@@ -223,11 +246,11 @@ fn read_frames(
 {
     let mut here = at;
     let mut end = pos;
-    let mut n = whole_read(script, here, longest);
-    while 0 < n {
-        end = put_frame(out, end, mem, sectors, script, here, n);
-        here = here + 3 + 2 * n;
-        n = whole_read(script, here, longest);
+    let mut found = whole_read(script, here, longest);
+    while 0 < found.count {
+        end = put_frame(out, end, mem, sectors, script, here, found);
+        here = here + 3 + 2 * found.count;
+        found = whole_read(script, here, longest);
     }
     Place { at: here, pos: end }
 }

@@ -1,7 +1,7 @@
 -- `script::rows::read_frames` meets its contract. What was read so far is a stretch or nothing, and one frame more makes it a longer stretch (`reads-more`).
+use Prim.Native.Nat.{ℕ, _+_, _-_, _<_, _≤_}
 use mathlib.Core.Bool.{true}
 use mathlib.Core.List.{List, []}
-use Prim.Native.Nat.{ℕ, _+_, _-_, _<_, _≤_}
 use mathlib.Core.Path.{_≡_, refl, _∙_}
 use native.Mathlib.Omega.{arith}
 use lib.ListN.{length}
@@ -17,10 +17,10 @@ use Rattle.script.proofs.rows.read_frames.Statement.{statement}
 use Rattle.script.proofs.rows.read_frames.Tie as tie
 
 abbrev Inv-loop : tie.InvT-loop
-Inv-loop mem sectors script at out₀ pos longest here₀ end₀ n₀ out here end n = (here ≤ length script) × (end + room (eventsFrom script here) ≤ length out) × (length out ≡ length out₀) × (0 < n → WholeRead script here n) × ((area load held : List ℕ) (k : Core) (f : Frame) → canRead k f ≡ true → Reading (setting sectors area) script mem at (whole k f load held) out₀ pos here (whole k emptyFrame blankLoad held) out end)
+Inv-loop mem sectors script at out₀ pos longest here₀ end₀ found₀ out here end found = (here ≤ length script) × (end + room (eventsFrom script here) ≤ length out) × (length out ≡ length out₀) × (0 < found .count → WholeRead script here (found .header) (found .count)) × ((area load held : List ℕ) (k : Core) (f : Frame) → canRead k f ≡ true → Reading (setting sectors area) script mem at (whole k f load held) out₀ pos here (whole k emptyFrame blankLoad held) out end)
 
 abbrev μ-loop : tie.MeasureT-loop
-μ-loop mem sectors script at out₀ pos longest here₀ end₀ n₀ out here end n = length script - here
+μ-loop mem sectors script at out₀ pos longest here₀ end₀ found₀ out here end found = length script - here
 
 whole-read-requires : tie.Need-whole-read-requires Inv-loop μ-loop
 whole-read-requires c κs = (omega (arith, c .before .before .before .pre .more), c .before .before .before .pre .short, c .before .before .before .pre .known)
@@ -30,39 +30,39 @@ loop-holds c = (omega (arith, c .before .before .before .before .pre .more), c .
 
 put-frame-requires : tie.Need-put-frame-requires Inv-loop μ-loop
 put-frame-requires c κs =
-    let there = c .before .before .loop .inv .3 (c .before .loop-test .taken) in
-    (there, c .before .before .before .before .before .before .before .pre .part .sectors, omega (arith, c .before .before .before .before .before .before .before .pre .part .some), omega (arith, there .ends, c .before .before .before .before .before .before .before .pre .short, c .before .before .before .before .before .before .before .pre .part .some), omega (arith, c .before .before .loop .inv .1, frame-rooms (setting (c .before .before .before .before .before .before .before .args .sectors) []) (c .before .before .before .before .before .before .before .args .script .now) (c .before .before .before .before .before .before .before .args .mem .now) (λ i. c .before .before .before .before .before .shared-slice-known2 .given i .fits) (c .before .before .before .before .before .before .before .pre .part .sectors) (c .before .before .loop .here) (c .before .before .loop .n) there))
+    let there = c .before .before .before .loop .inv .3 (c .before .if1 .taken) in
+    (there, c .before .before .before .before .before .before .before .before .pre .part .sectors, omega (arith, c .before .before .before .before .before .before .before .before .pre .part .some), omega (arith, there .ends, c .before .before .before .before .before .before .before .before .pre .short, c .before .before .before .before .before .before .before .before .pre .part .some), omega (arith, c .before .before .before .loop .inv .1, frame-rooms (setting (c .before .before .before .before .before .before .before .before .args .sectors) []) (c .before .before .before .before .before .before .before .before .args .script .now) (c .before .before .before .before .before .before .before .before .args .mem .now) (λ i. c .before .before .before .before .before .before .shared-slice-known2 .given i .fits) (c .before .before .before .before .before .before .before .before .pre .part .sectors) (c .before .before .before .loop .here) (c .before .before .before .loop .found .header) (c .before .before .before .loop .found .count) there))
 
 add-here : tie.Need-add-here Inv-loop μ-loop
-add-here c = omega (arith, c .before .before .before .before .before .loop .inv .3 (c .before .before .before .before .loop-test .taken) .ends, c .before .before .before .before .before .before .before .before .before .before .pre .short)
+add-here c = omega (arith, c .before .before .before .before .before .before .loop .inv .3 (c .before .before .before .before .if1 .taken) .ends, c .before .before .before .before .before .before .before .before .before .before .before .pre .short)
 
 mul-here : tie.Need-mul-here Inv-loop μ-loop
-mul-here c = omega (arith, c .before .before .before .before .before .loop .inv .3 (c .before .before .before .before .loop-test .taken) .ends, c .before .before .before .before .before .before .before .before .before .before .pre .short)
+mul-here c = omega (arith, c .before .before .before .before .before .before .before .loop .inv .3 (c .before .before .before .before .before .if1 .taken) .ends, c .before .before .before .before .before .before .before .before .before .before .before .before .pre .short)
 
 add-here-2 : tie.Need-add-here-2 Inv-loop μ-loop
-add-here-2 c = omega (arith, c .before .before .before .before .before .loop .inv .3 (c .before .before .before .before .loop-test .taken) .ends, c .before .before .before .before .before .before .before .before .before .before .pre .short)
+add-here-2 c = omega (arith, c .before .before .before .before .before .before .before .loop .inv .3 (c .before .before .before .before .before .if1 .taken) .ends, c .before .before .before .before .before .before .before .before .before .before .before .before .pre .short)
 
 whole-read-requires-2 : tie.Need-whole-read-requires-2 Inv-loop μ-loop
-whole-read-requires-2 c κs = (omega (arith, c .before .before .before .before .before .loop .inv .3 (c .before .before .before .before .loop-test .taken) .ends), c .before .before .before .before .before .before .before .before .before .before .pre .short, c .before .before .before .before .before .before .before .before .before .before .pre .known)
+whole-read-requires-2 c κs = (omega (arith, c .before .before .before .before .before .before .before .loop .inv .3 (c .before .before .before .before .before .if1 .taken) .ends), c .before .before .before .before .before .before .before .before .before .before .before .before .pre .short, c .before .before .before .before .before .before .before .before .before .before .before .before .pre .known)
 
 loop-less : tie.Need-loop-less Inv-loop μ-loop
-loop-less c = omega (arith, c .before .before .before .before .before .before .loop .inv .3 (c .before .before .before .before .before .loop-test .taken) .ends)
+loop-less c = omega (arith, c .before .before .before .before .before .before .before .before .loop .inv .3 (c .before .before .before .before .before .before .if1 .taken) .ends)
 
 loop-again : tie.Need-loop-again Inv-loop μ-loop
 loop-again c =
-    let there = c .before .before .before .before .before .before .loop .inv .3 (c .before .before .before .before .before .loop-test .taken) in (
+    let there = c .before .before .before .before .before .before .before .before .loop .inv .3 (c .before .before .before .before .before .before .if1 .taken) in (
       omega (arith, there .ends),
-      omega (arith, c .before .before .before .before .before .before .loop .inv .1, c .before .before .before .put-frame .ensures .end, put-length (c .before .before .before .put-frame .ensures), frame-rooms (setting (c .before .before .before .before .before .before .before .before .before .before .before .args .sectors) []) (c .before .before .before .before .before .before .before .before .before .before .before .args .script .now) (c .before .before .before .before .before .before .before .before .before .before .before .args .mem .now) (λ i. c .before .before .before .before .before .before .before .before .before .shared-slice-known2 .given i .fits) (c .before .before .before .before .before .before .before .before .before .before .before .pre .part .sectors) (c .before .before .before .before .before .before .loop .here) (c .before .before .before .before .before .before .loop .n) there),
-      put-length (c .before .before .before .put-frame .ensures) ∙ c .before .before .before .before .before .before .loop .inv .2,
+      omega (arith, c .before .before .before .before .before .before .before .before .loop .inv .1, c .before .before .before .before .put-frame .ensures .end, put-length (c .before .before .before .before .put-frame .ensures), frame-rooms (setting (c .before .before .before .before .before .before .before .before .before .before .before .before .before .args .sectors) []) (c .before .before .before .before .before .before .before .before .before .before .before .before .before .args .script .now) (c .before .before .before .before .before .before .before .before .before .before .before .before .before .args .mem .now) (λ i. c .before .before .before .before .before .before .before .before .before .before .before .shared-slice-known2 .given i .fits) (c .before .before .before .before .before .before .before .before .before .before .before .before .before .pre .part .sectors) (c .before .before .before .before .before .before .before .before .loop .here) (c .before .before .before .before .before .before .before .before .loop .found .header) (c .before .before .before .before .before .before .before .before .loop .found .count) there),
+      put-length (c .before .before .before .before .put-frame .ensures) ∙ c .before .before .before .before .before .before .before .before .loop .inv .2,
       c .whole-read2 .ensures,
-      λ area load held k f can. some (reads-more (setting (c .before .before .before .before .before .before .before .before .before .before .before .args .sectors) area) (c .before .before .before .before .before .before .before .before .before .before .before .args .script .now) (c .before .before .before .before .before .before .before .before .before .before .before .args .mem .now) (λ i. c .before .before .before .before .before .before .before .before .before .shared-slice-known2 .given i .fits) (c .before .before .before .before .before .before .before .before .before .before .before .pre .part .sectors) can (c .before .before .before .before .before .before .loop .inv .4 area load held k f can) (c .before .before .before .before .before .before .loop .n) there (c .before .before .before .put-frame .ensures)),
+      λ area load held k f can. some (reads-more (setting (c .before .before .before .before .before .before .before .before .before .before .before .before .before .args .sectors) area) (c .before .before .before .before .before .before .before .before .before .before .before .before .before .args .script .now) (c .before .before .before .before .before .before .before .before .before .before .before .before .before .args .mem .now) (λ i. c .before .before .before .before .before .before .before .before .before .before .before .shared-slice-known2 .given i .fits) (c .before .before .before .before .before .before .before .before .before .before .before .before .before .pre .part .sectors) can (c .before .before .before .before .before .before .before .before .loop .inv .4 area load held k f can) (c .before .before .before .before .before .before .before .before .loop .found .header) (c .before .before .before .before .before .before .before .before .loop .found .count) there (c .before .before .before .before .put-frame .ensures)),
     )
 
 same-length : tie.Need-same-length Inv-loop μ-loop
-same-length c = c .before .loop .inv .2
+same-length c = c .before .before .loop .inv .2
 
 returns : tie.Need-returns Inv-loop μ-loop
-returns c = c .before .loop .inv .4
+returns c = c .before .before .loop .inv .4
 
 pub read-frames-spec : {M : Type 1} → statement M
 read-frames-spec =
