@@ -397,11 +397,11 @@ fn watch_ticks(
 }
 
 // Runs a script that nothing refuses, on a chip in its parts: the two loads are lent.
-// Data bytes are most of a script: those of a read go a row at a time, and a whole frame of a read that
-// stands there in one go (`rows`). Ticks go by the core alone. Whether ticks matter, because a job runs or one is followed, is kept beside the core, so that
-// ticks that find neither copy nothing; it is read off the answers, since a core that is only handed
-// on stays in one piece. The other calls get a copy of the frame, so that it need not lie in memory
-// from one data byte to the next. Where no report is wanted no job is followed.
+// Data bytes are most of a script: they go a row at a time, and whole frames of reads in one go
+// (`rows`). Ticks go by the core alone. Whether ticks matter, because a job runs or one is followed,
+// is kept beside the core, so that ticks that find neither copy nothing; it is read off the answers,
+// since a core that is only handed on stays in one piece. The calls get a copy of the frame, so that
+// it need not lie in memory from one event to the next. Where no report is wanted no job is followed.
 fn play(
     first_core: Core,
     first_frame: Frame,
@@ -536,7 +536,7 @@ fn refuse(number: u8) -> Refused
     }
 }
 
-// A refusal before the script is looked at.
+// A refusal without an offset: no row matters then, and the one at the script's end has no exchange.
 fn turned_down(number: u8, script: &[u8]) -> Checked
     ensures { λ r. ⌜ (r .no ≡ record { number = number; offset = 0 }) × Known (now (script .entry)) (r .longest) ⌝ }
 {
