@@ -69,14 +69,15 @@ pub fn cell_of(sectors: u8, address: u32) -> usize
     ensures { λ r. ⌜ r ≡ reduced sectors address ⌝ }
 {
     let n = length_of(sectors);
+    let cell = address as usize;
     // Most addresses are cells: these need no division.
-    if (address as usize) < n {
-        return address as usize;
+    if cell < n {
+        return cell;
     }
     if n == 0 {
         return address as usize;
     }
-    (address as usize) % n
+    cell % n
 }
 
 // Byte i of the identity that 9Fh drives.
