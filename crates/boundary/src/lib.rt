@@ -5,6 +5,8 @@
 // what is only read); a slice's pointer must not be null, also where its length is 0; it must point to that
 // many bytes, which nobody else writes during the call. Nothing here can check that, and nothing is
 // promised where it does not hold. Any number may stand in any field: what is no state is refused by 2.
+#![tactic(auto)]
+
 ghost use Rattle.std.specs.Prelude.{◌≡◌};
 ghost use Rattle.part.specs.Area.{own_area};
 ghost use Rattle.chip.specs.Chip.{fresh};

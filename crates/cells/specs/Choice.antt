@@ -2,7 +2,7 @@
 use Rattle.std.specs.Prelude.{Bool, true, false, cond, not, ◌&&◌, ◌||◌, ◌≡◌, refl, ◌↔◌, ℕ, ◌<◌, ◌≤◌, eqb, ltb, leb}
 use Rattle.std.proofs.Common.{true≢false, sym, ap, ◌∙◌, arith, eqb-true, ltb-true, ltb-false, leb-true, leb-false}
 use Rattle.std.proofs.lemmas.Bool.{false≢true, eqb-false}
-use Rattle.std.proofs.Math.Logic.{Iff·trans}
+use Rattle.std.proofs.Math.Logic.Iff
 
 -- two answers that are equal to one thing are equal
 pub same : {A : Type 0} {a r r' : A} → r ≡ a → r' ≡ a → r ≡ r'
@@ -120,7 +120,7 @@ chain_tests {A} {number} {b} {P} {Q} {later} {has} {When} own d rest other = rec
 -- the last test before the end, with no fact for the end itself
 pub chain_last : {A : Type 0} {number : A → ℕ} {b : Bool} {P Q : Type 0} (own end : A)
     → Decides b P Q → eqb (number end) (number own) ≡ false → Chain number (cond b own end) (λ n. eqb (number own) n || eqb (number end) n) (λ n. cond (eqb (number own) n) P (cond (eqb (number end) n) Q ⊥))
-chain_last {A} {number} {b} {P} {Q} own end d other = record { exactly = λ n. Iff·trans (all.exactly n) (drop n (eqb (number own) n) (eqb (number end) n) refl); never = all.never }
+chain_last {A} {number} {b} {P} {Q} own end d other = record { exactly = λ n. Iff.trans (all.exactly n) (drop n (eqb (number own) n) (eqb (number end) n) refl); never = all.never }
   where
     all : Chain number (cond b own end) (λ n. eqb (number own) n || eqb (number end) n) (λ n. cond (eqb (number own) n) P (Q × (number end ≡ n)))
     all = chain_tests own d (chain_ends number end) other

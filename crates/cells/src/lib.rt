@@ -1,4 +1,6 @@
 // The cells of the array: what the steps of a job write, each function with the whole memory in its contract.
+#![tactic(auto)]
+
 ghost use Rattle.std.specs.Prelude.{◌≡◌, min, ◌-◌, get_or};
 ghost use Rattle.cells.specs.Cells.{sweep, blanked, anded, later};
 

@@ -2,4 +2,3 @@ pub mod Fields
 pub mod Job
 pub mod Chip
 pub mod Record
-pub mod Laws

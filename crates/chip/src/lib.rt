@@ -1,4 +1,6 @@
 // The chip's state: what it is made of, a fresh one, its status byte; and what an event says.
+#![tactic(auto)]
+
 ghost use Rattle.std.specs.Prelude.{◌≡◌, cond, ◌≤◌, length};
 ghost use Rattle.chip.specs.Job.{is_job, has_cells, total, no_job};
 ghost use Rattle.chip.specs.Chip.{fresh, empty_frame, with_bits, running, suspendable, status_byte};

@@ -1,4 +1,6 @@
 // The clock of a run: what the bench's counter showed last, and how far a stamp says that it moved on.
+#![tactic(auto)]
+
 ghost use Rattle.std.specs.Prelude.{◌≡◌, ◌≤◌};
 ghost use Rattle.clock.specs.Clock.{moved_on, went_back};
 

@@ -1,4 +1,6 @@
 // The commands of the LE25S161: their opcodes by name, and the table of what each may do.
+#![tactic(auto)]
+
 ghost use Rattle.std.specs.Prelude.{◌≡◌, [], ◌<◌, length, get_or};
 ghost use Rattle.commands.specs.Table.{rows, row_of, fits_rule, is_read, is_program};
 

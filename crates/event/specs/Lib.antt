@@ -1,7 +1,2 @@
 pub mod Event
 pub mod Alone
-pub mod Laws
-pub mod Legality
-pub mod Keeps
-pub mod Said
-pub mod Leftovers

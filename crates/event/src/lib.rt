@@ -1,4 +1,6 @@
 // One event: on the parts of a legal chip, and alone, with its refusals.
+#![tactic(auto)]
+
 ghost use Rattle.std.specs.Prelude.{◌≡◌, true, List, ℕ};
 ghost use Rattle.part.specs.Part.{setting};
 ghost use Rattle.chip.specs.Fields.{with_selected, with_wp};

@@ -11,7 +11,7 @@ use Rattle.chip.specs.declared.Frame.{Frame}
 use Rattle.chip.specs.declared.Record.TheVariants.{Floating, Driven}
 use Rattle.chip.specs.Chip.{running, status_byte}
 use Rattle.legal.specs.Legal.{judgement_known, read_places, is_empty, is_blank, tidy}
-use Rattle.legal.specs.Legality.{LegalFrame, unbegun_empty}
+use Rattle.legal.proofs.Legality.{LegalFrame, unbegun_empty}
 use Rattle.frame.specs.Frame.{judge, counted, shifted, next_place, opened, counting, reading, loading, first_place, addressing, reads_cell, takes_data, reads_area, Exchange, exchange, taken, exchanged}
 use Rattle.frame.specs.Laws.{cell_each}
 

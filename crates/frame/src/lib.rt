@@ -1,4 +1,6 @@
 // A frame: the judgement at its opcode byte, and one exchange.
+#![tactic(auto)]
+
 ghost use Rattle.std.specs.Prelude.{◌≡◌, ◌%◌, ◌*◌, ◌+◌, ◌<◌};
 ghost use Rattle.part.specs.Part.{setting};
 ghost use Rattle.chip.specs.declared.Record.{Record};

@@ -1,4 +1,6 @@
 // Runs a script from standard input on a blank one-sector part, and prints its records and its answer.
+#![tactic(auto)]
+
 use libc::{STDIN_FILENO, STDOUT_FILENO};
 
 fn main() {

@@ -1,4 +1,6 @@
 // Ticks: n of them in one go, as far as the job has steps left.
+#![tactic(auto)]
+
 ghost use Rattle.std.specs.Prelude.{◌≡◌, cond, ◌+◌, ◌*◌, ◌≤◌, ◌<◌, ◌^◌, max, ◌-◌};
 ghost use Rattle.cells.specs.Cells.{sweep, blanked};
 ghost use Rattle.chip.specs.declared.JobKind.{JobKind};

@@ -1,5 +1,3 @@
 pub mod Kinds
 pub mod Body
-pub mod Laws
 pub mod Row
-pub mod RowLaws

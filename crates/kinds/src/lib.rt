@@ -1,4 +1,6 @@
 // The kinds of events: their names, their bodies, what they can say; and where in a script a body stands.
+#![tactic(auto)]
+
 ghost use Rattle.std.specs.Prelude.{◌≡◌, ◌+◌, ◌*◌, ◌<◌, ◌≤◌, min, leb, length};
 ghost use Rattle.kinds.specs.Kinds.{known_kind, known_in_script, body_length, in_range, yields, room_of, most_room};
 ghost use Rattle.kinds.specs.Body.{body_at, step_to};

@@ -1,3 +1,1 @@
 pub mod Legal
-pub mod Laws
-pub mod Legality

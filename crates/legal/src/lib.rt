@@ -1,4 +1,6 @@
 // Whether a chip's state is legal for a memory.
+#![tactic(auto)]
+
 ghost use Rattle.std.specs.Prelude.{◌≡◌, ◌≤◌, ◌<◌};
 ghost use Rattle.legal.specs.Legal.{placed, aligned_to, legal_job, legal_core, legal_frame, read_places, judgement_known, is_empty, is_blank, legal};
 

@@ -4,7 +4,7 @@ use Rattle.std.proofs.Common.{ap, ◌∙◌}
 use Rattle.chip.specs.declared.Chip.{Chip}
 use Rattle.event.specs.declared.Answer.{Answer}
 use Rattle.event.specs.Alone.{refusal, answer_of, memory_of}
-use Rattle.event.specs.Laws.{answer_refused, memory_refused}
+use Rattle.event.proofs.Laws.{answer_refused, memory_refused}
 
 pub refused-chip_as_lent : (c : Chip) (m area : List ℕ) (kind body : ℕ) (d : Chip) → d ≡ (answer_of c m area kind body).chip → (refusal c (length m) (length area) kind body ≡ 0 → ⊥) → d ≡ c
 refused-chip_as_lent c m area kind body d e h = e ∙ ap (λ (r : Answer). r.chip) (answer_refused c m area kind body h)

@@ -1,4 +1,6 @@
 // One event on a chip that the caller lends.
+#![tactic(auto)]
+
 ghost use Rattle.std.specs.Prelude.{◌≡◌};
 ghost use Rattle.chip.specs.Record.{record_bytes};
 ghost use Rattle.event.specs.Alone.{answer_of, memory_of, said_of};

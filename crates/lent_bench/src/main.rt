@@ -1,5 +1,7 @@
 // The worked example P9 and a byte of the SFDP area twice over, event by event: on a chip that is lent, and on one
 // passed by value.
+#![tactic(auto)]
+
 use chip::{Chip, Core, Frame, JobKind, Record};
 use event::Answer;
 

@@ -11,12 +11,12 @@ use Rattle.cells.specs.Put.{Put}
 use Rattle.cells.specs.PutLaws.{put_none, put_then, put_as, put_length}
 use Rattle.kinds.specs.Kinds.{yields}
 use Rattle.kinds.specs.Body.{next_at, step_to}
-use Rattle.kinds.specs.Laws.{step_inside}
+use Rattle.kinds.proofs.Laws.{step_inside}
 use Rattle.chip.specs.declared.Record.{Record}
 use Rattle.chip.specs.Record.{record_bytes, longest_record}
-use Rattle.chip.specs.Laws.{record_bytes-most}
+use Rattle.chip.proofs.Laws.{record_bytes-most}
 use Rattle.script.specs.Script.{Event, events_from, events}
-use Rattle.script.specs.Laws.{events-none, events-more}
+use Rattle.script.proofs.Laws.{events-none, events-more}
 use Rattle.listing.specs.Text.{line_of}
 use Rattle.listing.specs.Output.{record_at, read_lines}
 

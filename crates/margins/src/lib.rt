@@ -1,4 +1,6 @@
 // The margin report: a line for each kind of job, and what one more margin does to it.
+#![tactic(auto)]
+
 ghost use Rattle.std.specs.Prelude.{◌≡◌, min, ◌+◌};
 ghost use Rattle.margins.specs.Margins.{allowed, allowance_of, lesser, greater, joined, tidy_line, tidied, counted};
 

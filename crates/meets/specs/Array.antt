@@ -2,14 +2,14 @@
 use Rattle.std.specs.Prelude.{ℕ, ◌*◌, ◌/◌, ◌<◌, ◌≤◌, ◌-◌, Bool, true, false, ◌&&◌, List, ◌≡◌, refl, ◌↔◌, leb, length}
 use Rattle.std.proofs.Common.{zero-le, sym, ap, subst, ◌∙◌, arith, le-leb, leb-true}
 use Rattle.std.proofs.lemmas.Bool.{false≢true}
-use Rattle.std.proofs.Math.Logic.{Iff·trans}
+use Rattle.std.proofs.Math.Logic.Iff
 use Rattle.std.proofs.Math.Decide.{ℕ_discrete}
 use Rattle.cells.specs.Choice.{and_left, and_right, and_both}
 use Rattle.part.specs.Part.{permitted, sectors_in, setting_of, length_of}
 use Rattle.part.specs.declared.Protected.{Protected}
 use Rattle.part.specs.declared.Protected.TheVariants.{Sectors}
 use Rattle.part.specs.Protection.{protected_count, first_end, last_end, protected_sectors, protects, is_protected}
-use Rattle.part.specs.Laws.{permitted-whole, no_ends, two_ends, ends-inside, ends-small}
+use Rattle.part.proofs.Laws.{permitted-whole, no_ends, two_ends, ends-inside, ends-small}
 use Rattle.chip.specs.declared.Core.{Core}
 use Rattle.demands.specs.Demand2.{first_protected, last_protected}
 use Rattle.demands.specs.Words.{ProtectionInNumbers}
@@ -57,12 +57,12 @@ protection_in_numbers =
     at_bottom : (L S cell : ℕ) → Dec (protected_count L S ≡ 0) → (is_protected L true S (cell / 65536) ≡ true) ↔ (cell < protected_count L S * 65536)
     at_bottom L S cell (yes none) = (λ h. absurd (false≢true (sym (none_protected L true S none (cell / 65536)) ∙ h)), λ h. absurd (omega (arith, h, none)))
     at_bottom L S cell (no some) =
-        Iff·trans (protected_between L true S some (cell / 65536)) (λ h. omega (arith, h.1, some), λ h. (zero-le, omega (arith, h)))
+        Iff.trans (protected_between L true S some (cell / 65536)) (λ h. omega (arith, h.1, some), λ h. (zero-le, omega (arith, h)))
 
     at_top : (L S cell : ℕ) → cell < S * 65536 → Dec (protected_count L S ≡ 0) → (is_protected L false S (cell / 65536) ≡ true) ↔ ((S - protected_count L S) * 65536 ≤ cell)
     at_top L S cell inside (yes none) = (λ h. absurd (false≢true (sym (none_protected L false S none (cell / 65536)) ∙ h)), λ h. absurd (omega (arith, h, none, inside)))
     at_top L S cell inside (no some) =
-        Iff·trans (protected_between L false S some (cell / 65536)) (λ h. omega (arith, h.0), λ h. (omega (arith, h), omega (arith, inside)))
+        Iff.trans (protected_between L false S some (cell / 65536)) (λ h. omega (arith, h.0), λ h. (omega (arith, h), omega (arith, inside)))
 
     in_order : (n : ℕ) (k : Core) → permitted n ≡ true → (protected_count k.level (sectors_in n) ≡ 0 → ⊥)
         → protected_sectors k.level k.tb (sectors_in n) ≡ Sectors (first_protected (sectors_in n) k) (last_protected (sectors_in n) k)

@@ -16,7 +16,7 @@ use Rattle.chip.specs.Fields.{with_suspended, with_waiting, with_job}
 use Rattle.chip.specs.Job.{is_job, no_job}
 use Rattle.chip.specs.Chip.{whole, empty_frame, blank_load, status_byte, NoLeftovers}
 use Rattle.legal.specs.Legal.{is_blank, legal}
-use Rattle.legal.specs.Legality.{LegalCore, chip-facts}
+use Rattle.legal.proofs.Legality.{LegalCore, chip-facts}
 use Rattle.job.specs.Tick.{tick_core, ticks_core, worked}
 use Rattle.frame.specs.Frame.{judge, taken, exchanged}
 use Rattle.verdict.specs.Verdict.{job_of, job_verdict, command_verdict, listed, verdict, record_of}

@@ -8,7 +8,7 @@ use Rattle.std.proofs.Math.ListN.{get_or}
 use Rattle.std.proofs.lemmas.Bool.{lt-leb}
 use Rattle.cells.specs.Choice.{cond_yes, cond_no, and_left}
 use Rattle.part.specs.Part.{sectors_in, length_of, setting_of}
-use Rattle.part.specs.Laws.{permitted-whole}
+use Rattle.part.proofs.Laws.{permitted-whole}
 use Rattle.commands.specs.Table.{is_program}
 use Rattle.chip.specs.declared.Chip.{Chip}
 use Rattle.chip.specs.declared.Frame.{Frame}
@@ -16,7 +16,7 @@ use Rattle.chip.specs.Fields.{with_address, with_place, with_slot, with_count}
 use Rattle.chip.specs.Chip.{whole, status_byte}
 use Rattle.chip.specs.Record.{record_bytes}
 use Rattle.legal.specs.Legal.{read_places}
-use Rattle.legal.specs.Legality.{LegalChip, chip-facts}
+use Rattle.legal.proofs.Legality.{LegalChip, chip-facts}
 use Rattle.frame.specs.Frame.{counted, next_place, counting, reading, first_place, addressing, Exchange, taken, exchanged}
 use Rattle.frame.specs.Laws.{exchanged_judged, exchanged_taken}
 use Rattle.demands.specs.Model.{Reply, reply, ours, Fit}

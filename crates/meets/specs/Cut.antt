@@ -21,13 +21,13 @@ use Rattle.legal.specs.Legal.{legal}
 use Rattle.event.specs.Event.{Outcome, applied}
 use Rattle.event.specs.Alone.{body_used}
 use Rattle.event.specs.Alone as Alone
-use Rattle.event.specs.Laws.{answer_done, memory_done, happens-as}
-use Rattle.event.specs.Legality.{legal-applied}
-use Rattle.event.specs.Keeps.{length-applied}
-use Rattle.event.specs.Leftovers.{no_leftovers_applied}
+use Rattle.event.proofs.Laws.{answer_done, memory_done, happens-as}
+use Rattle.event.proofs.Legality.{legal-applied}
+use Rattle.event.proofs.Keeps.{length-applied}
+use Rattle.event.proofs.Leftovers.{no_leftovers_applied}
 use Rattle.script.specs.Script.{Event, fault_at, event_at, walk, events_from, events, is_stamp, clock_after, clock_over, ticks_given, given, timed, played, Refusal, refusal_of, fault_by, first_bad, room}
 use Rattle.script.specs.Run.{World, world, does, onward, runs, world_after}
-use Rattle.script.specs.Laws.{events-none, events-more, no_fault, clean-later, clean-event, good_event, first_bad-none, first_bad-here, first_bad-later, NoStamp, timed-unstamped, clock_unstamped, timed-add, runs-add}
+use Rattle.script.proofs.Laws.{events-none, events-more, no_fault, clean-later, clean-event, good_event, first_bad-none, first_bad-here, first_bad-later, NoStamp, timed-unstamped, clock_unstamped, timed-add, runs-add}
 use Rattle.meets.specs.Refusals.{known_event, event-refused_when, bad_behind}
 
 -- ---- events further on

@@ -17,9 +17,9 @@ use Rattle.chip.specs.declared.Job.{Job}
 use Rattle.chip.specs.Chip.{whole, running, bits_of}
 use Rattle.chip.specs.Job.{is_job}
 use Rattle.legal.specs.Legal.{judgement_known, legal}
-use Rattle.legal.specs.Legality.{chip-facts}
+use Rattle.legal.proofs.Legality.{chip-facts}
 use Rattle.kinds.specs.Kinds.{known_kind, kind_row, kind_row_in, in_range}
-use Rattle.kinds.specs.Laws.{kind_each, none_known}
+use Rattle.kinds.proofs.Laws.{kind_each, none_known}
 use Rattle.script.specs.Script.{Event}
 use Rattle.script.specs.Run.{World, world}
 use Rattle.demands.specs.Model.{Reply, Model, event, Good, AllGood, Fit, onward_by, runs_by, working_ticks, worked_by}

@@ -4,7 +4,7 @@ use Rattle.std.proofs.Common.{zero-le, sym, ◌∙◌, arith, le-leb, eqb-true, 
 use Rattle.std.proofs.Math.Path.{refl, ap}
 use Rattle.cells.specs.Choice.{and_left, and_right, and_both, and_four}
 use Rattle.part.specs.Part.{Setting, sectors_in, length_of, setting_of, rounded_down}
-use Rattle.part.specs.Laws.{permitted-whole}
+use Rattle.part.proofs.Laws.{permitted-whole}
 use Rattle.commands.specs.Table.{is_program}
 use Rattle.chip.specs.declared.Chip.{Chip}
 use Rattle.chip.specs.declared.Core.{Core}
@@ -14,16 +14,16 @@ use Rattle.chip.specs.declared.JobKind.TheVariants.{Program, SmallErase, SectorE
 use Rattle.chip.specs.Fields.{with_suspended, with_waiting, with_armed, with_job, with_selected, with_wp}
 use Rattle.chip.specs.Chip.{whole, empty_frame, blank_load}
 use Rattle.legal.specs.Legal.{is_empty}
-use Rattle.legal.specs.Legality.{LegalChip, chip-facts, unbegun_empty}
+use Rattle.legal.proofs.Legality.{LegalChip, chip-facts, unbegun_empty}
 use Rattle.kinds.specs.Kinds.{known_kind, known_in_script, kind_row, kind_row_in}
-use Rattle.kinds.specs.Laws.{deselect-range}
+use Rattle.kinds.proofs.Laws.{deselect-range}
 use Rattle.frame.specs.Frame.{judge, opened, Exchange, exchanged}
 use Rattle.frame.specs.Laws.{exchanged_unselected, exchanged_opcode}
 use Rattle.verdict.specs.Verdict.{job_of, start_of, verdict}
 use Rattle.verdict.specs.Effect.{instantly, acted, settled, held_after}
-use Rattle.verdict.specs.Laws.{nine_finds, acted-nothing, held_stays}
+use Rattle.verdict.proofs.Laws.{nine_finds, acted-nothing, held_stays}
 use Rattle.event.specs.Event.{settle_exchange, closes, deselect, applied}
-use Rattle.event.specs.Laws.{deselect-unselected, deselect-selected}
+use Rattle.event.proofs.Laws.{deselect-unselected, deselect-selected}
 use Rattle.demands.specs.Model.{Reply, reply, ours, event, Good, Fit}
 use Rattle.demands.specs.Demand2.{stop_of, says_verdict, Ending, After, DoneAtOnce, rounded, Begun, JobsBegun, OtherVerdicts, Closes, powered_up}
 use Rattle.meets.specs.Ours.{told, done_as}

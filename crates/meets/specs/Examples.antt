@@ -3,7 +3,7 @@ use Rattle.std.specs.Prelude.{ℕ, zero, suc, ◌+◌, ◌%◌, ◌<◌, ◌≤�
 use Rattle.std.proofs.Common.{sym, ap, subst, ◌∙◌, inr, zero-add, add-zero, arith}
 use Rattle.std.specs.Int.Bits.{bit_and}
 use Rattle.cells.specs.Cells.{sweep, later, blanked, anded}
-use Rattle.cells.specs.Laws.{sweep-changes, sweep-outside}
+use Rattle.cells.proofs.Laws.{sweep-changes, sweep-outside}
 use Rattle.part.specs.Part.{Setting, setting}
 use Rattle.kinds.specs.Kinds.{SELECT, EXCHANGE, DESELECT, TICK, TICKS, STAMP, known_in_script, kind_row_in, known_kind, kind_row}
 use Rattle.commands.specs.Table.{row_of, row_in, fits_rule, is_read, is_program}
@@ -22,7 +22,7 @@ use Rattle.event.specs.Event.{applied}
 use Rattle.clock.specs.Clock.{unset, moved_on}
 use Rattle.script.specs.Script.{Event, fault_at, walk, events_from, events, timed, room}
 use Rattle.script.specs.Run.{World, world, runs}
-use Rattle.script.specs.Laws.{runs-add}
+use Rattle.script.proofs.Laws.{runs-add}
 use Rattle.chip.specs.declared.JobKind.TheVariants.{Program, SmallErase}
 use Rattle.demands.specs.Demand2.{Rows}
 use Rattle.meets.specs.Stepwise.{UnderWay, AllSpare, worked_by, k_steps}

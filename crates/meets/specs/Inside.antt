@@ -13,10 +13,10 @@ use Rattle.chip.specs.declared.Core.{Core}
 use Rattle.chip.specs.declared.Frame.{Frame}
 use Rattle.chip.specs.Fields.{with_selected}
 use Rattle.chip.specs.Chip.{running}
-use Rattle.job.specs.Laws.{ticks-rest, ticks_memory-rest}
+use Rattle.job.proofs.Laws.{ticks-rest, ticks_memory-rest}
 use Rattle.frame.specs.Frame.{exchanged}
 use Rattle.event.specs.Event.{Outcome, select, exchange_byte, tick, set_wp, applied}
-use Rattle.event.specs.Laws.{applied-each}
+use Rattle.event.proofs.Laws.{applied-each}
 use Rattle.script.specs.Script.{Event}
 use Rattle.script.specs.Run.{World, onward, runs}
 use Rattle.demands.specs.Model.{AllGood}

@@ -19,7 +19,7 @@ use Rattle.chip.specs.Chip.{whole}
 use Rattle.frame.specs.Frame.{judge, loading, Exchange, exchange, taken}
 use Rattle.frame.specs.Laws.{exchanged_taken}
 use Rattle.verdict.specs.Verdict.{job_of, start_of, job_asked, target_protected, pointless, job_verdict, listed, verdict}
-use Rattle.verdict.specs.Laws.{command_as}
+use Rattle.verdict.proofs.Laws.{command_as}
 use Rattle.verdict.specs.Effect.{acted, settled}
 use Rattle.event.specs.Event.{settle_exchange, applied}
 use Rattle.script.specs.Run.{world, after, onward, runs}

@@ -13,12 +13,12 @@ use Rattle.chip.specs.declared.Core.{Core}
 use Rattle.chip.specs.declared.JobKind.{JobKind}
 use Rattle.chip.specs.Chip.{running}
 use Rattle.event.specs.Event.{Outcome, exchange_byte, applied}
-use Rattle.event.specs.Laws.{applied-each, says-its_kind}
+use Rattle.event.proofs.Laws.{applied-each, says-its_kind}
 use Rattle.script.specs.Script.{Event, played}
 use Rattle.script.specs.Run.{World, world, does, onward, runs}
 use Rattle.script.specs.Jobs.{tick_by_tick, Finished, Followed, nothing, follows, tick_more, is_two, stands, followed_after, finished, ended_by, jobs}
-use Rattle.script.specs.Laws.{runs-add}
-use Rattle.script.specs.WatchLaws.{line-not_two}
+use Rattle.script.proofs.Laws.{runs-add}
+use Rattle.script.proofs.WatchLaws.{line-not_two}
 use Rattle.demands.specs.Lives.{ticks_in, Undisturbed, Since, Lived, AllJobs, Told, ToldJobsInNumbers}
 use Rattle.meets.specs.Reports.{jobs_each, script_job_ticks, run_tick_by_tick}
 

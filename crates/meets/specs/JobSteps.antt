@@ -20,12 +20,12 @@ use Rattle.chip.specs.Fields.{with_done}
 use Rattle.chip.specs.Job.{is_job, total, steps, no_job}
 use Rattle.chip.specs.Chip.{Bits, bits_of, running, blank_load}
 use Rattle.job.specs.Tick.{steps_left, ticks_left, ticks_core, worked, ended_as, suspends, advanced}
-use Rattle.job.specs.Laws.{Stop, pauses, ends, stop-of, waits_one, left_most}
-use Rattle.job.specs.Laws.{steps-none, steps-add, ticks-rest, ticks_load-rest, ticks_memory-rest, worked-rest, ticks_go, ticks_load_go, ticks_memory_go, worked_go, ended-none, ticks_memory_over, worked_over, ticks_pause, ticks_load_pause, ticks_end, ticks_load_end}
+use Rattle.job.proofs.Laws.{Stop, pauses, ends, stop-of, waits_one, left_most}
+use Rattle.job.proofs.Laws.{steps-none, steps-add, ticks-rest, ticks_load-rest, ticks_memory-rest, worked-rest, ticks_go, ticks_load_go, ticks_memory_go, worked_go, ended-none, ticks_memory_over, worked_over, ticks_pause, ticks_load_pause, ticks_end, ticks_load_end}
 use Rattle.verdict.specs.Verdict.{verdict}
-use Rattle.verdict.specs.Laws.{settled_same, held_stays}
+use Rattle.verdict.proofs.Laws.{settled_same, held_stays}
 use Rattle.event.specs.Event.{Outcome, closes, deselect, tick, applied}
-use Rattle.event.specs.Laws.{applied-each}
+use Rattle.event.proofs.Laws.{applied-each}
 use Rattle.script.specs.Script.{Event}
 use Rattle.script.specs.Run.{World, does, onward}
 use Rattle.demands.specs.Demand3.{bits_after}

@@ -2,7 +2,7 @@
 use Rattle.std.specs.Prelude.{ℕ, ◌+◌, ◌*◌, List, ◌≡◌, refl, get_or}
 use Rattle.std.proofs.Common.{sym, ap, ◌∙◌, mul-zero, arith}
 use Rattle.cells.specs.Cells.{Rule, sweep, later, image}
-use Rattle.cells.specs.Laws.{sweep-changes, sweep-outside, sweep-image, image-outside}
+use Rattle.cells.proofs.Laws.{sweep-changes, sweep-outside, sweep-image, image-outside}
 use Rattle.chip.specs.declared.JobKind.{JobKind}
 use Rattle.chip.specs.declared.JobKind.TheVariants.{Program, SmallErase, SectorErase, ChipErase}
 use Rattle.chip.specs.Job.{total, span, steps, whole_image}

@@ -5,9 +5,9 @@ use Rattle.std.proofs.Common.{sym, ap, subst, ◌∙◌, mul-one, mul-zero, arit
 use Rattle.std.proofs.Math.Decide.{ℕ_discrete}
 use Rattle.cells.specs.Choice.{cond_yes, cond_no, and_left, and_right, and_both}
 use Rattle.part.specs.Part.{permitted, sectors_in, length_of}
-use Rattle.part.specs.Laws.{permitted-whole, permitted-some}
-use Rattle.job.specs.Legality.{running-awake}
-use Rattle.chip.specs.Laws.{cells-job}
+use Rattle.part.proofs.Laws.{permitted-whole, permitted-some}
+use Rattle.job.proofs.Legality.{running-awake}
+use Rattle.chip.proofs.Laws.{cells-job}
 use Rattle.chip.specs.declared.Chip.{Chip}
 use Rattle.chip.specs.declared.Frame.{Frame}
 use Rattle.chip.specs.declared.Job.{Job}
@@ -16,8 +16,8 @@ use Rattle.chip.specs.declared.JobKind.TheVariants.{Idle, WriteStatus, Program, 
 use Rattle.chip.specs.Job.{is_job, total, has_cells}
 use Rattle.chip.specs.Chip.{status_byte, fresh, running, suspendable}
 use Rattle.legal.specs.Legal.{is_empty, is_blank, placed, tidy, judgement_known, legal}
-use Rattle.legal.specs.Legality.{LegalCore, LegalChip, chip-facts, chip-legal, idle-legal, empty_legal}
-use Rattle.legal.specs.Legality as Legality
+use Rattle.legal.proofs.Legality.{LegalCore, LegalChip, chip-facts, chip-legal, idle-legal, empty_legal}
+use Rattle.legal.proofs.Legality as Legality
 use Rattle.demands.specs.Demand2.{among}
 use Rattle.demands.specs.States.{Placed, JobFits, places_of, AllBlank, EmptyFrame, LegalState, FreshState}
 use Rattle.meets.specs.Verdicts.{five_tests}

@@ -9,7 +9,7 @@ use Rattle.cells.specs.Choice.{cond_yes, cond_no, cond_either, and_right, not_so
 use Rattle.part.specs.Part.{Setting, setting_of}
 use Rattle.commands.specs.Table.{write_enable, reset_enable}
 use Rattle.kinds.specs.Kinds.{DESELECT, TICK, TICKS, Says, KindRow, kind_row_in, kind_row, says_of, is_said}
-use Rattle.kinds.specs.Laws.{kind_each}
+use Rattle.kinds.proofs.Laws.{kind_each}
 use Rattle.chip.specs.declared.Chip.{Chip}
 use Rattle.chip.specs.declared.Core.{Core}
 use Rattle.chip.specs.declared.Frame.{Frame}
@@ -22,13 +22,13 @@ use Rattle.chip.specs.Job.{is_job}
 use Rattle.chip.specs.Chip.{bits_of, blank_load, running}
 use Rattle.legal.specs.Legal.{judgement_known}
 use Rattle.job.specs.Tick.{ticks_core, ticks_memory, worked, ticks_left, ended_as}
-use Rattle.job.specs.Laws.{Stop, pauses, ends, stop-of, left_some, ticks-rest, ticks_go, ticks_pause, ticks_end, ticks_memory-rest, worked_go, worked_over, ended-each}
+use Rattle.job.proofs.Laws.{Stop, pauses, ends, stop-of, left_some, ticks-rest, ticks_go, ticks_pause, ticks_end, ticks_memory-rest, worked_go, worked_over, ended-each}
 use Rattle.verdict.specs.Verdict.{verdict, record_of}
 use Rattle.verdict.specs.Effect.{begins, instantly, acted, settled}
-use Rattle.verdict.specs.Laws.{verdict_two, record_plain, record_tells, acted-nothing, instantly-each, held_reset}
+use Rattle.verdict.proofs.Laws.{verdict_two, record_plain, record_tells, acted-nothing, instantly-each, held_reset}
 use Rattle.event.specs.Event.{Outcome, closes, deselect, tick, applied, sort_of}
-use Rattle.event.specs.Laws.{applied-each, says-its_kind}
-use Rattle.event.specs.Keeps.{cells_stay}
+use Rattle.event.proofs.Laws.{applied-each, says-its_kind}
+use Rattle.event.proofs.Keeps.{cells_stay}
 use Rattle.script.specs.Script.{Event}
 use Rattle.script.specs.Run.{World, does, onward}
 use Rattle.demands.specs.Model.{Reply, ours, Good, AllGood, Fit, does_by}

@@ -24,7 +24,7 @@ use Rattle.verdict.specs.Verdict.{job_of, job_verdict, command_verdict, listed, 
 use Rattle.verdict.specs.Effect.{instantly, acted, settled, held_after}
 use Rattle.legal.specs.Legal.{legal}
 use Rattle.event.specs.Event.{applied}
-use Rattle.event.specs.Keeps.{length-applied}
+use Rattle.event.proofs.Keeps.{length-applied}
 use Rattle.script.specs.Script.{Event, event_at, fault_at, walk, events_from, events, timed, played, first_bad}
 use Rattle.script.specs.Run.{World, world, does, onward, runs}
 use Rattle.demands.specs.Model.{ours, Good, AllGood, Fit, does_by, onward_by, runs_by, worked_by}

@@ -4,7 +4,7 @@ use Rattle.std.proofs.lemmas.Bool.{false≢true}
 use Rattle.std.proofs.Common.{sym, subst, ◌∙◌, arith, ne_eqb}
 use Rattle.std.proofs.Math.Decide.{ℕ_discrete}
 use Rattle.chip.specs.declared.Chip.{Chip}
-use Rattle.script.specs.Laws as ScriptLaws
+use Rattle.script.proofs.Laws as ScriptLaws
 use Rattle.demands.specs.Model.{Model, ours}
 use Rattle.demands.specs.Demand1.{Demand1Run, Runner, RunReply, RunRefusedWhen, our_run}
 use Rattle.meets.specs.Refusals.{run_numbers_lem}

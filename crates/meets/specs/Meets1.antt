@@ -11,13 +11,13 @@ use Rattle.kinds.specs.Kinds.{kind_row, kind_row_in, known_kind}
 use Rattle.clock.specs.declared.Clock.{Clock}
 use Rattle.clock.specs.Clock.{unset, moved_on}
 use Rattle.clock.specs.Laws.{moved-most}
-use Rattle.event.specs.Laws as EventLaws
-use Rattle.event.specs.Keeps.{length-applied}
+use Rattle.event.proofs.Laws as EventLaws
+use Rattle.event.proofs.Keeps.{length-applied}
 use Rattle.script.specs.declared.Ran.{Ran}
 use Rattle.script.specs.Script.{Event, Refusal, refusal_of, events, is_stamp, clock_after, ticks_given, given, timed, played}
 use Rattle.script.specs.Run.{World, world}
 use Rattle.script.specs.Run as Run
-use Rattle.script.specs.Laws as ScriptLaws
+use Rattle.script.proofs.Laws as ScriptLaws
 use Rattle.demands.specs.Model.{Reply, replied, ours, event, AllGood, Fit, runs_by}
 use Rattle.demands.specs.Demand1.{RefusedWhen, Demand1, RunReply, ran, our_run, Sound, AllSound, RunRefusedWhen, Demand1Run}
 use Rattle.meets.specs.Refusals.{known_event, event-refused_when, event-refused_keeps, run_refused_when, run_refused_keeps}

@@ -10,7 +10,7 @@ use Rattle.std.proofs.Math.ListN.{length}
 use Rattle.cells.specs.Choice.{cond_yes, and_left}
 use Rattle.part.specs.Part.{Setting, setting_of, sectors_in, length_of, rounded_down}
 use Rattle.part.specs.Protection.{is_protected}
-use Rattle.part.specs.Laws.{permitted-some, any_by_level}
+use Rattle.part.proofs.Laws.{permitted-some, any_by_level}
 use Rattle.kinds.specs.Kinds.{known_in_script, known_kind, kind_row_in, kind_row}
 use Rattle.commands.specs.Table.{row_of, row_in, fits_rule, is_program}
 use Rattle.chip.specs.declared.Chip.{Chip}
@@ -21,12 +21,12 @@ use Rattle.chip.specs.declared.JobKind.TheVariants.{WriteStatus, Program, SmallE
 use Rattle.chip.specs.Fields.{with_suspended, with_waiting, with_armed, with_job}
 use Rattle.chip.specs.Job.{has_cells}
 use Rattle.chip.specs.Chip.{whole, empty_frame, blank_load}
-use Rattle.legal.specs.Legality.{chip-facts}
+use Rattle.legal.proofs.Legality.{chip-facts}
 use Rattle.frame.specs.Frame.{judge, loading}
 use Rattle.verdict.specs.Verdict.{start_of, target_protected, start_protected, verdict, record_of}
 use Rattle.verdict.specs.Effect.{held_after}
 use Rattle.event.specs.Event.{closes, applied}
-use Rattle.event.specs.Laws.{deselect-selected}
+use Rattle.event.proofs.Laws.{deselect-selected}
 use Rattle.script.specs.Run.{World, world, after, runs}
 use Rattle.demands.specs.Model.{ours, event, sends, address, AllGood, Fit}
 use Rattle.demands.specs.Demand2.{among, AllBytes, Quiet, Ready, opened, LoadOf, Loads, framed, Begins, FreeAt, JobsFromBytes}

@@ -5,14 +5,14 @@ use Rattle.std.proofs.Math.Path.{refl, sym, ap}
 use Rattle.std.proofs.Common.{subst, ◌∙◌, add-zero, zero-add, mul-one, mul-zero, mod-eq_of_lt}
 use native.Mathlib.Omega.{arith}
 use Rattle.part.specs.Part.{Setting, setting_of, sectors_in, length_of, jedec_byte}
-use Rattle.part.specs.Laws.{permitted-some}
+use Rattle.part.proofs.Laws.{permitted-some}
 use Rattle.commands.specs.Table.{row_of, row_in}
 use Rattle.chip.specs.declared.Chip.{Chip}
 use Rattle.chip.specs.declared.Core.{Core}
 use Rattle.chip.specs.declared.Frame.{Frame}
 use Rattle.chip.specs.Chip.{running, status_byte}
 use Rattle.chip.specs.Record.{record_bytes}
-use Rattle.legal.specs.Legality.{chip-facts}
+use Rattle.legal.proofs.Legality.{chip-facts}
 use Rattle.frame.specs.Frame.{judge, Exchange}
 use Rattle.event.specs.Event.{applied}
 use Rattle.script.specs.Script.{Event}

@@ -13,9 +13,9 @@ use Rattle.frame.specs.Laws.{exchanged_judged}
 use Rattle.legal.specs.Legal.{judgement_known}
 use Rattle.frame.specs.Legality.{judge-known}
 use Rattle.verdict.specs.Verdict.{verdict, record_of}
-use Rattle.verdict.specs.Laws.{record_plain}
+use Rattle.verdict.proofs.Laws.{record_plain}
 use Rattle.event.specs.Event.{Outcome, applied}
-use Rattle.event.specs.Laws.{deselect-selected}
+use Rattle.event.proofs.Laws.{deselect-selected}
 use Rattle.script.specs.Run.{World, does}
 use Rattle.demands.specs.Model.{Reply, ours, event, runs_by}
 use Rattle.demands.specs.Demand2.{AllBytes, bytes_of, opened, stop_of, StoppedFrame}

@@ -12,7 +12,7 @@ use Rattle.chip.specs.declared.JobKind.{JobKind}
 use Rattle.chip.specs.Record.{record_bytes}
 use Rattle.chip.specs.Job.{is_job, total, steps}
 use Rattle.chip.specs.Chip.{whole, empty_frame, blank_load, bits_of}
-use Rattle.legal.specs.Legality.{chip-facts, LegalCore}
+use Rattle.legal.proofs.Legality.{chip-facts, LegalCore}
 use Rattle.event.specs.Event.{applied}
 use Rattle.script.specs.Script.{Event}
 use Rattle.script.specs.Run.{World, world, does, runs}

@@ -22,7 +22,7 @@ use Rattle.event.specs.Event.{applied}
 use Rattle.event.specs.Alone.{body_used, refusal, happens, answer_of, memory_of, said_of}
 use Rattle.script.specs.Run.{world, runs}
 use Rattle.script.specs.Run as Run
-use Rattle.script.specs.Laws.{NoStamp}
+use Rattle.script.proofs.Laws.{NoStamp}
 use Rattle.script.specs.Script.{Event, fault_at, event_at, walk, events_from, events, timed, played, refusal_of, first_bad, room}
 use Rattle.demands.specs.Model.{ours, event, AllGood, runs_by}
 use Rattle.demands.specs.Suspension.{Reached}

@@ -8,7 +8,7 @@ use Rattle.std.proofs.Common.{sym, subst, ◌∙◌, mod-eq_of_lt, eqb-true, leb
 use native.Mathlib.Omega.{arith}
 use Rattle.cells.specs.Choice.{cond_no, and_left, and_right, not_so}
 use Rattle.part.specs.Part.{Setting, sectors_in, setting_of}
-use Rattle.chip.specs.Laws.{cells-job}
+use Rattle.chip.proofs.Laws.{cells-job}
 use Rattle.chip.specs.declared.Chip.{Chip}
 use Rattle.chip.specs.declared.Core.{Core}
 use Rattle.chip.specs.declared.Frame.{Frame}
@@ -19,7 +19,7 @@ use Rattle.chip.specs.Fields.{with_count, with_selected}
 use Rattle.chip.specs.Job.{is_job, has_cells}
 use Rattle.chip.specs.Chip.{whole, empty_frame, running}
 use Rattle.legal.specs.Legal.{legal, is_empty, is_blank, tidy}
-use Rattle.legal.specs.Legality.{chip-facts}
+use Rattle.legal.proofs.Legality.{chip-facts}
 use Rattle.commands.specs.Table.{row_of, is_program, low_power_read, high_speed_read, wake, read_sfdp}
 use Rattle.frame.specs.Frame.{judge, shifted, first_place, addressing, exchange, taken, exchanged}
 use Rattle.frame.specs.Laws.{taken_address, exchanged_taken}

@@ -11,17 +11,17 @@ use Rattle.chip.specs.Job.{total}
 use Rattle.chip.specs.Chip.{running}
 use Rattle.chip.specs.Record.{record_bytes}
 use Rattle.legal.specs.Legal.{legal}
-use Rattle.legal.specs.Legality.{chip-facts, LegalCore}
+use Rattle.legal.proofs.Legality.{chip-facts, LegalCore}
 use Rattle.kinds.specs.Kinds.{kind_row, kind_row_in, known_kind, in_range}
-use Rattle.kinds.specs.Laws.{kind_each, none_known}
+use Rattle.kinds.proofs.Laws.{kind_each, none_known}
 use Rattle.job.specs.Tick.{worked, ticks_left}
-use Rattle.job.specs.Laws.{worked-rest, worked_go, worked_over}
-use Rattle.job.specs.Legality.{running-job}
+use Rattle.job.proofs.Laws.{worked-rest, worked_go, worked_over}
+use Rattle.job.proofs.Legality.{running-job}
 use Rattle.event.specs.Event.{Outcome, applied}
 use Rattle.event.specs.Alone.{body_used, refusal, happens}
-use Rattle.event.specs.Laws.{answer_done, memory_done, said_done}
-use Rattle.event.specs.Legality.{legal-applied}
-use Rattle.event.specs.Keeps.{length-applied, works_none}
+use Rattle.event.proofs.Laws.{answer_done, memory_done, said_done}
+use Rattle.event.proofs.Legality.{legal-applied}
+use Rattle.event.proofs.Keeps.{length-applied, works_none}
 use Rattle.script.specs.Script.{Event}
 use Rattle.script.specs.Run.{World, world, does, onward, runs}
 use Rattle.meets.specs.Refusals.{event-refused_when}

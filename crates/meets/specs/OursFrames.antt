@@ -3,11 +3,11 @@ use Rattle.std.specs.Prelude.{ℕ, ◌/◌, ◌%◌, ◌^◌, ◌<◌, ◌≤◌
 use Rattle.std.proofs.Common.{sym, ap, subst, ◌∙◌, arith, le-leb}
 use Rattle.part.specs.Part.{Setting, setting_of, sectors_in, length_of}
 use Rattle.kinds.specs.Kinds.{known_in_script, known_kind, kind_row_in, kind_row}
-use Rattle.kinds.specs.Laws.{exchange-range}
+use Rattle.kinds.proofs.Laws.{exchange-range}
 use Rattle.chip.specs.declared.Chip.{Chip}
 use Rattle.chip.specs.declared.Frame.{Frame}
 use Rattle.chip.specs.Chip.{whole, running}
-use Rattle.legal.specs.Legality.{chip-facts}
+use Rattle.legal.proofs.Legality.{chip-facts}
 use Rattle.script.specs.Script.{Event}
 use Rattle.script.specs.Run.{World, world, does, runs}
 use Rattle.demands.specs.Model.{Model, ours, event, sends, Good, AllGood, Fit, does_by, onward_by, runs_by}

@@ -9,7 +9,7 @@ use Rattle.clock.specs.declared.Clock.{Clock}
 use Rattle.clock.specs.Clock.{unset}
 use Rattle.script.specs.Script.{Event, fault_at, walk, events_from, events, clock_over, timed, played, Refusal, first_bad, room}
 use Rattle.script.specs.Run.{World, runs}
-use Rattle.script.specs.Laws.{runs-add, exchange-good}
+use Rattle.script.proofs.Laws.{runs-add, exchange-good}
 use Rattle.writer.specs.Writer.{exchanges_of, frame_of}
 use Rattle.demands.specs.Model.{event, sends}
 use Rattle.demands.specs.Demand2.{AllBytes}

@@ -23,12 +23,12 @@ use Rattle.frame.specs.Frame.{judge}
 use Rattle.verdict.specs.Verdict.{job_of, command_verdict, listed, verdict, record_of}
 use Rattle.verdict.specs.Effect.{instantly, acted, settled, held_after}
 use Rattle.job.specs.Tick.{gone}
-use Rattle.job.specs.Laws.{ticks_end, ticks_load_end, ticks_memory_go, worked_go, length-steps}
+use Rattle.job.proofs.Laws.{ticks_end, ticks_load_end, ticks_memory_go, worked_go, length-steps}
 use Rattle.event.specs.Event.{closes, applied}
-use Rattle.event.specs.Laws.{deselect-selected}
+use Rattle.event.proofs.Laws.{deselect-selected}
 use Rattle.script.specs.Script.{Event}
 use Rattle.script.specs.Run.{World, world, after, runs}
-use Rattle.script.specs.Laws.{runs-add}
+use Rattle.script.proofs.Laws.{runs-add}
 use Rattle.demands.specs.Model.{event, sends, address}
 use Rattle.demands.specs.Demand2.{AllBytes, LoadOf, Ready, FreeAt, powered_up}
 use Rattle.demands.specs.Programming.{page_says}

@@ -10,23 +10,23 @@ use Rattle.std.specs.Int.Bits.{bit_and}
 use Rattle.cells.specs.Choice.{cond_no, cond_either}
 use Rattle.part.specs.Part.{Setting, sectors_in, setting_of}
 use Rattle.part.specs.Protection.{is_protected}
-use Rattle.part.specs.Laws.{permitted-length}
+use Rattle.part.proofs.Laws.{permitted-length}
 use Rattle.kinds.specs.Kinds.{kind_row, kind_row_in}
 use Rattle.chip.specs.declared.Chip.{Chip}
 use Rattle.chip.specs.Chip.{whole, empty_frame, blank_load}
 use Rattle.legal.specs.Legal.{legal}
-use Rattle.legal.specs.Legality.{chip-facts}
+use Rattle.legal.proofs.Legality.{chip-facts}
 use Rattle.clock.specs.Clock.{unset}
 use Rattle.script.specs.Script.{Event, events, played, room}
 use Rattle.script.specs.Run.{World, world, runs}
 use Rattle.script.specs.Run as Run
 use Rattle.script.specs.declared.Ran.{Ran}
-use Rattle.script.specs.Laws.{runs-add}
+use Rattle.script.proofs.Laws.{runs-add}
 use Rattle.writer.specs.Writer.{Piece, piece, pieces, exchanges_of, address_bytes, piece_script, script_of, program_script, script_room}
 use Rattle.writer.specs.declared.Written.{Written}
 use Rattle.writer.specs.Writer as Writer
-use Rattle.writer.specs.Laws.{pieces_none, pieces_more, count_more, longest_is}
-use Rattle.writer.specs.Refusals as WriterLaws
+use Rattle.writer.proofs.Laws.{pieces_none, pieces_more, count_more, longest_is}
+use Rattle.writer.proofs.Refusals as WriterLaws
 use Rattle.demands.specs.Model.{event, sends, address, Fit}
 use Rattle.demands.specs.Demand1.{RunReply, Runner, AllSound, room_needed, ran, our_run, runner_is_ours}
 use Rattle.demands.specs.Demand2.{AllBytes, Ready, FreeAt, powered_up}

@@ -4,7 +4,7 @@ use Rattle.std.specs.Prelude.{ℕ, zero, suc, ◌+◌, ◌<◌, ◌≤◌, Bool,
 use Rattle.std.proofs.Common.{zero-le, true≢false, sym, ap, subst, ◌∙◌, arith, eq-eqb, ne_eqb, eqb-true, le-leb, leb-true}
 use Rattle.std.proofs.lemmas.Bool.{false≢true, eqb-false, not-true}
 use Rattle.std.proofs.Math.Path.{refl}
-use Rattle.std.proofs.Math.Logic.{Iff·trans}
+use Rattle.std.proofs.Math.Logic.Iff
 use Rattle.std.proofs.Math.Decide.{ℕ_discrete}
 use Rattle.cells.specs.Choice.{cond_yes, cond_no, cond_either, and_left, and_right, and_both, either_false, Decides, decides_not, decides_less, Chain, chain_tests, chain_last, flat_three, flat_four, flat_five}
 use Rattle.part.specs.Part.{permitted}
@@ -13,14 +13,14 @@ use Rattle.chip.specs.declared.Record.TheVariants.{Nothing}
 use Rattle.legal.specs.Legal.{legal}
 use Rattle.kinds.specs.Kinds.{STAMP, kind_row, kind_row_in, known_kind, known_in_script, body_length, in_range}
 use Rattle.kinds.specs.Body.{body_at, next_at}
-use Rattle.kinds.specs.Laws.{room_as, script_as, stamp-range}
+use Rattle.kinds.proofs.Laws.{room_as, script_as, stamp-range}
 use Rattle.clock.specs.declared.Clock.{Clock}
 use Rattle.clock.specs.Clock.{unset, went_back}
 use Rattle.event.specs.Alone as Alone
-use Rattle.event.specs.Laws as EventLaws
+use Rattle.event.proofs.Laws as EventLaws
 use Rattle.script.specs.Script.{Event, fault_at, event_at, Refusal, refusal_of, events, events_from, walk, is_stamp, clock_after, clock_over, timed, fault_by, first_bad, room}
 use Rattle.script.specs.Run as Run
-use Rattle.script.specs.Laws as ScriptLaws
+use Rattle.script.proofs.Laws as ScriptLaws
 use Rattle.demands.specs.Demand1.{RefusedWhen, Sound, AllSound, FirstAt, clock_at, BackAt, room_needed, Heard, RunRefusedWhen}
 
 -- ---- one event alone
@@ -33,10 +33,10 @@ event-refused_when c n extent kind body =
     record {
       one = lines.exactly 1;
       thirteen = lines.exactly 13;
-      two = Iff·trans (lines.exactly 2) flat_three;
-      five = Iff·trans (lines.exactly 5) flat_four;
-      six = Iff·trans (lines.exactly 6) flat_five;
-      none = Iff·trans (lines.exactly 0) flat_five;
+      two = Iff.trans (lines.exactly 2) flat_three;
+      five = Iff.trans (lines.exactly 5) flat_four;
+      six = Iff.trans (lines.exactly 6) flat_five;
+      none = Iff.trans (lines.exactly 0) flat_five;
     }
 
 -- A refused event leaves chip and memory as they were, says nothing and works no tick.
@@ -136,7 +136,7 @@ sound_event s k e is = subst (λ (x : Event). (fault_by k x ≡ 0) ↔ Sound s k
     sound_at : (at : ℕ) → (fault_by k (event_at s at) ≡ 0) ↔ Sound s k (event_at s at)
     sound_at at =
         let forward = forward_when k (get_or s at 0) (body_at s at) in
-        Iff·trans ((fault_when k s at).exactly 0)
+        Iff.trans ((fault_when k s at).exactly 0)
         (λ p. record { known = p.0; whole = p.1.0; ranged = p.1.1.0; forward = forward.0 p.1.1.1 }, λ g. (g.known, (g.whole, (g.ranged, forward.1 g.forward))))
 
 -- none of some events is bad exactly when the first is not and none of the others is, by the clock that the first leaves
@@ -153,7 +153,7 @@ clean-more k e es = go (eqb (fault_by k e) 0) refl
 clean-sound : (s : List ℕ) (k : Clock) (es : List Event) → AllAt s es → ((first_bad k es).number ≡ 0) ↔ AllSound s k es
 unfolding first_bad AllAt AllSound
 clean-sound s k [] a = (λ _. tt, λ _. refl)
-clean-sound s k (e ∷ es) a = Iff·trans (clean-more k e es) (both (sound_event s k e a.0) (clean-sound s (clock_after k e) es a.1))
+clean-sound s k (e ∷ es) a = Iff.trans (clean-more k e es) (both (sound_event s k e a.0) (clean-sound s (clock_after k e) es a.1))
 
 -- So a script is sound where no event of it is bad.
 pub sound_script : (s : List ℕ) → (first_bad unset (events s)).number ≡ 0 → AllSound s unset (events s)
@@ -337,8 +337,8 @@ module _ (c : Chip) (n extent : ℕ) (s : List ℕ) (space : ℕ) where
   when_clean : (v : ℕ) (W : ℕ → Type 0) → (told.number ≡ v) ↔ HeardAnd (rest.number ≡ v) → ((bad.number ≡ 0 → ⊥) → bad.number ≡ v → ⊥) → (lacking.number ≡ v) ↔ W (room (events s))
       → (told.number ≡ v) ↔ (Heard c n extent s × AllSound s unset (events s) × W (room_needed (events s)))
   when_clean v W gate other w =
-      let all = Iff·trans (rest_clean v other) (both (clean-sound s unset (events s) (events-at s)) (subst (λ (r : ℕ). (lacking.number ≡ v) ↔ W r) (room-needed (events s)) w)) in
-      Iff·trans gate (λ p. (heard p, (all.0 p.1.1.1.1).0, (all.0 p.1.1.1.1).1), λ q. (q.0.length_permitted, (q.0.area_short, (q.0.state_legal, (q.0.script_short, all.1 (q.1, q.2))))))
+      let all = Iff.trans (rest_clean v other) (both (clean-sound s unset (events s) (events-at s)) (subst (λ (r : ℕ). (lacking.number ≡ v) ↔ W r) (room-needed (events s)) w)) in
+      Iff.trans gate (λ p. (heard p, (all.0 p.1.1.1.1).0, (all.0 p.1.1.1.1).1), λ q. (q.0.length_permitted, (q.0.area_short, (q.0.state_legal, (q.0.script_short, all.1 (q.1, q.2))))))
 
   -- a script that is heard is refused by its first bad event
   bad_tells : Heard c n extent s → (bad.number ≡ 0 → ⊥) → told ≡ bad
@@ -390,12 +390,12 @@ module _ (c : Chip) (n extent : ℕ) (s : List ℕ) (space : ℕ) where
       record {
         one = heard_when.exactly 1;
         thirteen = heard_when.exactly 13;
-        two = Iff·trans (heard_when.exactly 2) flat_three;
-        three = Iff·trans (heard_when.exactly 3) flat_four;
-        five = λ at. Iff·trans (when_bad 5 at (heard_when.exactly 5) (λ z. omega arith) (λ z. omega arith)) flat_three;
-        four = λ at. Iff·trans (when_bad 4 at (heard_when.exactly 4) (λ z. omega arith) (λ z. omega arith)) flat_four;
-        six = λ at. Iff·trans (when_bad 6 at (heard_when.exactly 6) (λ z. omega arith) (λ z. omega arith)) flat_five;
-        eight = λ at. Iff·trans (when_bad 8 at (heard_when.exactly 8) (λ z. omega arith) (λ z. omega arith)) (both (λ h. h, λ h. h) (back_when s at));
+        two = Iff.trans (heard_when.exactly 2) flat_three;
+        three = Iff.trans (heard_when.exactly 3) flat_four;
+        five = λ at. Iff.trans (when_bad 5 at (heard_when.exactly 5) (λ z. omega arith) (λ z. omega arith)) flat_three;
+        four = λ at. Iff.trans (when_bad 4 at (heard_when.exactly 4) (λ z. omega arith) (λ z. omega arith)) flat_four;
+        six = λ at. Iff.trans (when_bad 6 at (heard_when.exactly 6) (λ z. omega arith) (λ z. omega arith)) flat_five;
+        eight = λ at. Iff.trans (when_bad 8 at (heard_when.exactly 8) (λ z. omega arith) (λ z. omega arith)) (both (λ h. h, λ h. h) (back_when s at));
         seven = when_clean 7 (λ r. space < r) (heard_when.exactly 7) (λ _. bad_never s 7 refl) (lacks.exactly 7);
         none = when_clean 0 (λ r. r ≤ space) (heard_when.exactly 0) (λ some z. some z) (lacks.exactly 0);
         no_offset = no_offset;

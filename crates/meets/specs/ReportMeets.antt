@@ -15,10 +15,10 @@ use Rattle.margins.specs.declared.Report.{Report}
 use Rattle.margins.specs.Margins.{allowed, allowance_of, margin, line, lesser, greater, most_jobs, joined, tidy_line, tidied, counted}
 use Rattle.margins.specs.Laws.{joined-first, joined-later, tidy-empty, tidy-kept, allowed-each}
 use Rattle.script.specs.Run as Run
-use Rattle.script.specs.Laws as ScriptLaws
+use Rattle.script.proofs.Laws as ScriptLaws
 use Rattle.script.specs.Jobs.{Finished, jobs_of}
 use Rattle.script.specs.Report.{report_after}
-use Rattle.script.specs.ReportLaws as ReportLaws
+use Rattle.script.proofs.ReportLaws as ReportLaws
 use Rattle.demands.specs.Demand1.{RunReply, ran, our_run}
 use Rattle.demands.specs.Reporting.{ReportReply, Reporter, our_report, place, allowance_at, line_at, Over, margins_at, OneOf, AtMostEach, AtLeastEach, LineIs, Counts, Reporting}
 use Rattle.meets.specs.Refusals.{run_numbers_lem}

@@ -16,7 +16,7 @@ use Rattle.part.specs.Protection.{protected_sectors}
 use Rattle.commands.specs.Table.{reset}
 use Rattle.kinds.specs.Kinds.{EXCHANGE, TICK, TICKS, STAMP, kind_row, kind_row_in, known_in_script, body_length, in_range}
 use Rattle.kinds.specs.Body.{body_at, next_at}
-use Rattle.kinds.specs.Laws.{kind_each, none_in_script, range_small}
+use Rattle.kinds.proofs.Laws.{kind_each, none_in_script, range_small}
 use Rattle.clock.specs.declared.Clock.{Clock}
 use Rattle.clock.specs.Clock.{unset, moved_on}
 use Rattle.clock.specs.Laws.{moved-most}
@@ -32,24 +32,24 @@ use Rattle.margins.specs.declared.Report.{Report}
 use Rattle.margins.specs.Margins.{allowed, allowance_of, margin, tidied}
 use Rattle.margins.specs.Laws.{allowed-most, margin-fits, tidied-tidied}
 use Rattle.legal.specs.Legal.{legal, judgement_known}
-use Rattle.legal.specs.Legality.{LegalCore, chip-facts}
+use Rattle.legal.proofs.Legality.{LegalCore, chip-facts}
 use Rattle.job.specs.Tick.{suspends, advanced, ended, tick_core, ticks_core, ticks_load, ticks_memory, worked}
-use Rattle.job.specs.Laws.{tick-rests, tick-moves, ended-none, ticks-add, ticks_load-add, ticks_memory-add, worked-add}
+use Rattle.job.proofs.Laws.{tick-rests, tick-moves, ended-none, ticks-add, ticks_load-add, ticks_memory-add, worked-add}
 use Rattle.verdict.specs.Verdict.{verdict, record_of, in_the_way}
 use Rattle.verdict.specs.Effect.{acted, settled}
-use Rattle.verdict.specs.Laws.{record_plain, settled_same}
+use Rattle.verdict.proofs.Laws.{record_plain, settled_same}
 use Rattle.event.specs.Event.{Outcome, closes, exchange_byte, tick, applied}
-use Rattle.event.specs.Laws.{applied-each, applied-ticks, says-its_kind}
-use Rattle.event.specs.Keeps.{length-applied}
-use Rattle.event.specs.Leftovers.{reset_leaves_nothing}
-use Rattle.script.specs.Script.{Event, fault_at, event_at, events_from, events, clock_after, ticks_given, given, timed, played, first_bad}
+use Rattle.event.proofs.Laws.{applied-each, applied-ticks, says-its_kind}
+use Rattle.event.proofs.Keeps.{length-applied}
+use Rattle.event.proofs.Leftovers.{reset_leaves_nothing}
+use Rattle.script.specs.Script.{Event, fault_at, event_at, events_from, events, clock_after, ticks_given, given, timed, played, first_bad, Good}
 use Rattle.script.specs.Run.{World, world, after, onward, runs, refusal, world_after}
 use Rattle.script.specs.Jobs.{one_tick, singly, tick_by_tick, Finished, Followed, nothing, follows, tick_more, is_two, stands, followed_after, finished, ended_by, jobs, jobs_of}
 use Rattle.script.specs.Report.{report_after, report_of}
 use Rattle.script.specs.Watch.{most_used}
-use Rattle.script.specs.Laws.{no_fault, clean-later, clean-event, Good, good_event, timed-none, timed-more, runs-add}
-use Rattle.script.specs.WatchLaws.{line-not_two, used_by}
-use Rattle.script.specs.ReportLaws.{report_done, report_add, report_tidy}
+use Rattle.script.proofs.Laws.{no_fault, clean-later, clean-event, good_event, timed-none, timed-more, runs-add}
+use Rattle.script.proofs.WatchLaws.{line-not_two, used_by}
+use Rattle.script.proofs.ReportLaws.{report_done, report_add, report_tidy}
 use Rattle.demands.specs.Lives.{ticks_in, AllJobs, Accounted}
 use Rattle.meets.specs.Verdicts.{settled-acts}
 use Rattle.meets.specs.Cut.{length_runs, legal_runs}

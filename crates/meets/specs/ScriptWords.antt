@@ -5,12 +5,12 @@ use Rattle.std.proofs.lemmas.Bool.{false≢true, lt-leb}
 use Rattle.cells.specs.Choice.{cond_yes, and_left, and_right, and_both}
 use Rattle.kinds.specs.Kinds.{known_in_script, kind_row_in, known_kind, kind_row, body_length}
 use Rattle.kinds.specs.Body.{number_at, body_at}
-use Rattle.kinds.specs.Laws.{kind_each, not-kind, none_known, none_in_script, body_one, body_two}
+use Rattle.kinds.proofs.Laws.{kind_each, not-kind, none_known, none_in_script, body_one, body_two}
 use Rattle.clock.specs.declared.Clock.{Clock}
 use Rattle.clock.specs.Clock.{unset, shows, moved_on, went_back}
 use Rattle.clock.specs.Laws.{moved_as, first_stamp}
 use Rattle.script.specs.Script.{Event, is_stamp, clock_over, ticks_given, timed}
-use Rattle.script.specs.Laws.{events-none, events-more, clock_stays}
+use Rattle.script.proofs.Laws.{events-none, events-more, clock_stays}
 use Rattle.demands.specs.Demand2.{among}
 use Rattle.demands.specs.Scripts.{KindsInNumbers, EventsInNumbers, StampsInNumbers}
 

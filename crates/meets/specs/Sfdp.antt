@@ -4,7 +4,7 @@ use Rattle.std.proofs.Common.{sym, ap, subst, ◌∙◌, mod-eq_of_lt, arith, eq
 use Rattle.std.proofs.Math.Decide.{ℕ_discrete}
 use Rattle.cells.specs.Choice.{cond_yes, cond_no}
 use Rattle.part.specs.Area.{area_byte}
-use Rattle.part.specs.Laws.{area_byte-inside}
+use Rattle.part.proofs.Laws.{area_byte-inside}
 use Rattle.commands.specs.Table.{row_of, row_in, is_read}
 use Rattle.chip.specs.declared.Chip.{Chip}
 use Rattle.chip.specs.declared.Core.{Core}
@@ -14,7 +14,7 @@ use Rattle.frame.specs.Frame.{judge}
 use Rattle.verdict.specs.Verdict.{listed, verdict}
 use Rattle.script.specs.Script.{Event}
 use Rattle.sfdp.specs.Reader as Reader
-use Rattle.sfdp.specs.Laws as ReaderLaws
+use Rattle.sfdp.proofs.Laws as ReaderLaws
 use Rattle.demands.specs.Model.{ours, address, runs_by}
 use Rattle.demands.specs.Demand2.{AllInside, bytes_of, Ready, opened, said_next}
 use Rattle.meets.specs.Meets2Reads.{ours_other_reads}

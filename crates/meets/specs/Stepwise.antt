@@ -5,7 +5,7 @@ use mathlib.Core.List.{List, [], ◌∷◌}
 use Rattle.std.proofs.Math.Path.{refl, ap, fun_ext}
 use Rattle.std.proofs.Common.{subst, ◌∙◌, inl, inr, ⊎_elim, add-zero, zero-add, zero-mul, add-mul, mul-le-mul_right, arith}
 use Rattle.cells.specs.Cells.{Rule, sweep, later}
-use Rattle.cells.specs.Laws.{sweep-image, sweep-outside}
+use Rattle.cells.proofs.Laws.{sweep-image, sweep-outside}
 use Rattle.cells.specs.Stepping.{Stands, stands}
 use Rattle.cells.specs.Stepping as Stepping
 use Rattle.part.specs.Part.{Setting}

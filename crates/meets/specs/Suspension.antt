@@ -16,11 +16,11 @@ use Rattle.chip.specs.declared.Record.TheVariants.{Nothing, Floating, Driven, Ve
 use Rattle.chip.specs.Job.{is_job}
 use Rattle.chip.specs.Chip.{status_byte}
 use Rattle.chip.specs.Record.{record_bytes}
-use Rattle.chip.specs.Laws.{cells-job}
+use Rattle.chip.proofs.Laws.{cells-job}
 use Rattle.legal.specs.Legal.{legal}
-use Rattle.legal.specs.Legality.{LegalChip, chip-facts, suspended-enabled}
+use Rattle.legal.proofs.Legality.{LegalChip, chip-facts, suspended-enabled}
 use Rattle.event.specs.Event.{applied}
-use Rattle.event.specs.Said.{Told, said_told}
+use Rattle.event.proofs.Said.{Told, said_told}
 use Rattle.script.specs.Script.{Event, played}
 use Rattle.script.specs.Run.{World, world}
 use Rattle.demands.specs.Model.{Model, Reply, ours, Fit, onward_by, runs_by}

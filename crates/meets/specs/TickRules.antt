@@ -10,10 +10,10 @@ use Rattle.chip.specs.declared.Core.{Core}
 use Rattle.chip.specs.declared.JobKind.{JobKind}
 use Rattle.chip.specs.Job.{has_cells, total}
 use Rattle.chip.specs.Chip.{whole, running}
-use Rattle.legal.specs.Legality.{LegalCore, chip-facts}
+use Rattle.legal.proofs.Legality.{LegalCore, chip-facts}
 use Rattle.kinds.specs.Kinds.{known_kind, known_in_script, kind_row, kind_row_in}
 use Rattle.job.specs.Tick.{advanced, steps_left, ticks_left, ticks_core, worked, ended_as}
-use Rattle.job.specs.Laws.{Stop, pauses, ends, stop-of, waits_one, ticks-rest, ticks_load-rest, ticks_memory-rest, worked-rest, ticks_go, ticks_pause, ticks_end, ended-each, ticks-add, ticks_load-add, ticks_memory-add, worked-add}
+use Rattle.job.proofs.Laws.{Stop, pauses, ends, stop-of, waits_one, ticks-rest, ticks_load-rest, ticks_memory-rest, worked-rest, ticks_go, ticks_pause, ticks_end, ended-each, ticks-add, ticks_load-add, ticks_memory-add, worked-add}
 use Rattle.event.specs.Event.{tick, applied}
 use Rattle.script.specs.Run.{World, world, runs}
 use Rattle.demands.specs.Model.{reply, ours, event, Good, AllGood, Fit, runs_by}

@@ -6,7 +6,7 @@ use Rattle.std.proofs.Math.Decide.{ℕ_discrete}
 use Rattle.cells.specs.Choice.{cond_yes, cond_no, not_so}
 use Rattle.part.specs.Part.{permitted, sectors_in, length_of, page, small_sector, sector, rounded_down}
 use Rattle.part.specs.Protection.{protected_count, protected_sectors, protects_any, is_protected}
-use Rattle.part.specs.Laws.{permitted-whole, permitted-some, any_by_level}
+use Rattle.part.proofs.Laws.{permitted-whole, permitted-some, any_by_level}
 use Rattle.commands.specs.Table.{row_of, fits_rule, is_read, is_program}
 use Rattle.chip.specs.declared.Core.{Core}
 use Rattle.chip.specs.declared.Frame.{Frame}
@@ -17,7 +17,7 @@ use Rattle.chip.specs.Record.{record_bytes}
 use Rattle.frame.specs.Frame.{judge}
 use Rattle.verdict.specs.Verdict.{job_of, start_of, job_verdict, command_verdict, listed, verdict, record_of}
 use Rattle.verdict.specs.Effect.{acted, settled}
-use Rattle.verdict.specs.Laws.{record_plain, record_nine}
+use Rattle.verdict.proofs.Laws.{record_plain, record_nine}
 use Rattle.demands.specs.Demand2.{among, in_one_sector, of_the_chip, begins_job, verdict_of, says_verdict}
 
 -- ---- the commands that begin a job

@@ -10,9 +10,9 @@ use Rattle.chip.specs.declared.Chip.{Chip}
 use Rattle.chip.specs.declared.Job.{Job}
 use Rattle.chip.specs.Job.{total, whole_image, no_job}
 use Rattle.chip.specs.Chip.{bits_of}
-use Rattle.legal.specs.Legality.{chip-facts}
+use Rattle.legal.proofs.Legality.{chip-facts}
 use Rattle.kinds.specs.Kinds.{in_range}
-use Rattle.kinds.specs.Laws.{deselect-range}
+use Rattle.kinds.proofs.Laws.{deselect-range}
 use Rattle.clock.specs.Clock.{unset}
 use Rattle.script.specs.Script.{Event, events, played}
 use Rattle.script.specs.declared.Ran.{Ran}

@@ -1,4 +1,6 @@
 // The LE25S161: its sizes, its identity and its protection, each named here once; its SFDP area has a file of its own.
+#![tactic(auto)]
+
 ghost use Rattle.std.specs.Prelude.{◌≡◌, cond, ◌≤◌, min};
 ghost use Rattle.part.specs.Part.{permitted, reduced, sectors_in, length_of, jedec_byte};
 ghost use Rattle.part.specs.Area.{area_byte, own_area};

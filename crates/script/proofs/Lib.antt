@@ -1,1 +1,7 @@
+pub mod Laws
+pub mod WatchLaws
+pub mod ReportLaws
+pub mod HeardLaws
+pub mod RowLaws
+pub mod ReadLaws
 pub mod Playing

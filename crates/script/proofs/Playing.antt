@@ -25,19 +25,19 @@ use Rattle.chip.specs.Record.{record_bytes}
 use Rattle.margins.specs.declared.Allowances.{Allowances}
 use Rattle.margins.specs.declared.Report.{Report}
 use Rattle.job.specs.Tick.{TicksAnswer, worked}
-use Rattle.job.specs.Laws.{answer_rests}
+use Rattle.job.proofs.Laws.{answer_rests}
 use Rattle.event.specs.Event.{Outcome, outcome, applied, tick}
-use Rattle.event.specs.Laws.{said_room}
+use Rattle.event.proofs.Laws.{said_room}
 use Rattle.script.specs.declared.Watch.{Watch}
 use Rattle.script.specs.declared.rows.Row.{Row}
-use Rattle.script.specs.Script.{Event, event_at, events_from, played, timed, clock_after, is_stamp, first_bad, room}
+use Rattle.script.specs.Script.{Event, event_at, events_from, played, timed, clock_after, is_stamp, first_bad, room, Good}
 use Rattle.script.specs.Run.{World, world, after, runs, Stored, Playable, Played, finished, done}
 use Rattle.script.specs.Jobs.{Finished, Followed, nothing, jobs, jobs_of, tick_by_tick, one_tick, stands}
 use Rattle.script.specs.Report.{report_after}
 use Rattle.script.specs.Watch.{ticking, ticks_of, clock_by, watch, after_event, after_ticks, Reports}
 use Rattle.script.specs.Heard.{Heard, Went, Known, WholePart, Ready}
-use Rattle.script.specs.Laws.{no_fault, clean-later, clean-event, good_event, Good, room-more, stored-none, timed-none, runs-more, runs_none, clock_stays}
-use Rattle.script.specs.WatchLaws.{clock_as, plain-ticking, plain-clock, ticks-most, ticks-few, runs-ticking, jobs-ticking, jobs-plain, not-ticking, watch_ticks, watch_event, event-wanted, event-modest, ticks-wanted, ticks-modest, unwatched_ticks, Watches}
+use Rattle.script.proofs.Laws.{no_fault, clean-later, clean-event, good_event, room-more, stored-none, timed-none, runs-more, runs_none, clock_stays}
+use Rattle.script.proofs.WatchLaws.{clock_as, plain-ticking, plain-clock, ticks-most, ticks-few, runs-ticking, jobs-ticking, jobs-plain, not-ticking, watch_ticks, watch_event, event-wanted, event-modest, ticks-wanted, ticks-modest, unwatched_ticks, Watches}
 
 -- ---- the run
 

@@ -14,11 +14,9 @@ use Rattle.chip.specs.Chip.{running}
 use Rattle.chip.specs.Record.{record_bytes}
 use Rattle.frame.specs.Stream.{slot_on, cells_on}
 use Rattle.script.specs.declared.rows.Row.{Row}
-use Rattle.script.specs.Script.{events_from, timed, first_bad, room}
+use Rattle.script.specs.Script.{events_from, timed, first_bad, room, Good}
 use Rattle.script.specs.Run.{world, runs}
-use Rattle.script.specs.Jobs.{Followed, tick_by_tick, stands, jobs}
-use Rattle.script.specs.Laws.{Good}
-use Rattle.script.specs.WatchLaws.{is_on}
+use Rattle.script.specs.Jobs.{Followed, tick_by_tick, stands, jobs, is_on}
 
 -- from one offset and chip to another, saying these bytes: the run, the jobs that are told, the faults and the room go on from there
 pub record Heard (T : Setting) (s m : List ℕ) (at : ℕ) (c : Chip) (at' : ℕ) (c' : Chip) (said : List ℕ) : Type 0 where

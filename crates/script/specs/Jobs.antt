@@ -1,5 +1,5 @@
 -- The jobs that a run begins and ends, with the ticks that each used: read off its events one by one, tick by tick (RULES, The margin report).
-use Rattle.std.specs.Prelude.{ℕ, ◌+◌, Bool, false, cond, not, ◌&&◌, List, [], ◌∷◌, ◌++◌, eqb, replicate}
+use Rattle.std.specs.Prelude.{ℕ, ◌+◌, Bool, true, false, cond, not, ◌&&◌, List, [], ◌∷◌, ◌++◌, eqb, replicate}
 use Rattle.part.specs.Part.{Setting}
 use Rattle.kinds.specs.Kinds.{TICK, TICKS}
 use Rattle.chip.specs.declared.Chip.{Chip}
@@ -42,6 +42,11 @@ pub record Finished : Type 0 where
 pub data Followed : Type 0 where
   nothing : Followed
   follows : (begin used working suspended : ℕ) → Followed
+
+-- whether there is one
+abbrev pub is_on : Followed → Bool
+is_on nothing = false
+is_on (follows begin used working suspended) = true
 
 -- one tick more, which finds this core
 abbrev pub tick_more : Core → Followed → Followed

@@ -3,10 +3,4 @@ pub mod Run
 pub mod Jobs
 pub mod Report
 pub mod Watch
-pub mod Laws
-pub mod WatchLaws
-pub mod ReportLaws
 pub mod Heard
-pub mod HeardLaws
-pub mod RowLaws
-pub mod ReadLaws

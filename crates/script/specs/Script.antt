@@ -1,5 +1,5 @@
 -- A script: its events with their offsets, the first bad one and why, the room that its records need, and what its stamps stand for (RULES, Events; Stamps; Refusals).
-use Rattle.std.specs.Prelude.{ℕ, zero, suc, ◌+◌, Bool, cond, not, ◌&&◌, List, [], ◌∷◌, ◌++◌, eqb, ltb, leb, length, get_or}
+use Rattle.std.specs.Prelude.{ℕ, zero, suc, ◌+◌, ◌≤◌, ◌≡◌, Bool, true, cond, not, ◌&&◌, List, [], ◌∷◌, ◌++◌, eqb, ltb, leb, length, get_or}
 use Rattle.kinds.specs.Kinds.{TICKS, STAMP, known_in_script, in_range, room_of}
 use Rattle.kinds.specs.Body.{body_at, next_at}
 use Rattle.clock.specs.declared.Clock.{Clock}
@@ -20,6 +20,12 @@ fault_at s at =
     cond (not (known_in_script (get_or s at 0))) 5
     (cond (ltb (length s) (next_at s at)) 4
     (cond (not (in_range (get_or s at 0) (body_at s at))) 6 0))
+
+-- what no fault as it is written says: a kind that a script has, all of the body, and in its range
+pub record Good (s : List ℕ) (at : ℕ) : Type 0 where
+  pub known : known_in_script (get_or s at 0) ≡ true
+  pub inside : next_at s at ≤ length s
+  pub ranged : in_range (get_or s at 0) (body_at s at) ≡ true
 
 -- the event at an offset, with what is wrong with it
 abbrev pub event_at : List ℕ → ℕ → Event

@@ -1,4 +1,6 @@
 // A script run, plain or with a margin report: one pass that finds what is wrong with the script, and one that runs it.
+#![tactic(auto)]
+
 ghost use Rattle.std.specs.Prelude.{true, false, ◌&&◌, ◌≡◌, ◌⊎◌, ◌+◌, ◌≤◌, ◌<◌, eqb, length, get_or};
 ghost use Rattle.part.specs.Part.{setting};
 ghost use Rattle.kinds.specs.Kinds.{STAMP, known_in_script};

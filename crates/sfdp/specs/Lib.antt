@@ -1,5 +1,1 @@
 pub mod Reader
-pub mod Laws
-pub mod Headers
-pub mod Unique
-pub mod Examples

@@ -1,4 +1,6 @@
 // The reader of an SFDP area: which parameter table a header of an identity points at.
+#![tactic(auto)]
+
 ghost use Rattle.std.specs.Prelude.{◌≡◌, ◌≤◌, ◌<◌, length};
 ghost use Rattle.sfdp.specs.Reader.{signed, header_count, header_at, table_length, table_place, header_of, refusal, found_of, table_of};
 

@@ -1,4 +1,2 @@
 pub mod Verdict
 pub mod Effect
-pub mod Laws
-pub mod Legality

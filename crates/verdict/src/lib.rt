@@ -1,4 +1,6 @@
 // The verdict at a deselect, and what it does to the core.
+#![tactic(auto)]
+
 ghost use Rattle.std.specs.Prelude.{◌≡◌, ◌%◌, ◌<◌};
 ghost use Rattle.part.specs.Part.{rounded_down, reduced};
 ghost use Rattle.part.specs.Protection.{protected_sectors};

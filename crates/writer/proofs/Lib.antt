@@ -1,1 +1,5 @@
+pub mod Laws
+pub mod Refusals
+pub mod Unique
+pub mod Examples
 pub mod Writing

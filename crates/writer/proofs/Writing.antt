@@ -9,7 +9,7 @@ use lib.Seq.{sets, length-sets, drop-drop}
 use Rattle.cells.specs.Put.{Put}
 use Rattle.cells.specs.PutLaws.{put_none, put_then, put_as, put_length}
 use Rattle.writer.specs.Writer.{piece, left_in_page, piece_script, script_of, program_script, script_length}
-use Rattle.writer.specs.Laws.{pieces_none, pieces_more, length-piece, length-script}
+use Rattle.writer.proofs.Laws.{pieces_none, pieces_more, length-piece, length-script}
 
 pub record Writing (A : ℕ) (bs t₀ t : List ℕ) (p done : ℕ) : Type 0 where
   pub so_far : done ≤ length bs

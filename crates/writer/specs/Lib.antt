@@ -1,5 +1,1 @@
 pub mod Writer
-pub mod Laws
-pub mod Refusals
-pub mod Unique
-pub mod Examples

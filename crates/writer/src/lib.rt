@@ -1,4 +1,6 @@
 // The script writer: from bytes and an address to the events that program them.
+#![tactic(auto)]
+
 ghost use Rattle.std.specs.Prelude.{◌≡◌, [], ◌∷◌, ◌++◌, ◌+◌, ◌*◌, ◌≤◌, min, length};
 ghost use Rattle.cells.specs.Put.{Put};
 ghost use Rattle.writer.specs.Writer.{piece, left_in_page, exchanges_of, clean_deselect, frame_of, ticks_of, piece_script, program_script, piece_count, script_length, longest_data, refusal, answer_of, output_of};

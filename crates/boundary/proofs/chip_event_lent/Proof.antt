@@ -3,7 +3,7 @@ use mathlib.Core.Path.{sym, ◌∙◌, ◌≡◌}
 use mathlib.Core.Bool.{true, false}
 use borrow.Author.Tests.{not-true, not-false}
 use Rattle.boundary.specs.Numbers.{is_state}
-use Rattle.boundary.specs.Laws.{event_refused, event_done, event_no_state, event_memory_no_state, event_state, event_memory_state}
+use Rattle.boundary.proofs.Laws.{event_refused, event_done, event_no_state, event_memory_no_state, event_state, event_memory_state}
 use borrow.Author.Rules.{rules}
 use Rattle.boundary.proofs.chip_event_lent.Statement.{statement}
 use Rattle.boundary.proofs.chip_event_lent.Tie as tie

@@ -1,7 +1,7 @@
 -- `boundary::chip_legal` meets its contract. Numbers that are no state are not legal; otherwise the chip that they mean is asked.
 use mathlib.Core.Path.{sym, ◌∙◌}
 use borrow.Author.Tests.{not-true, not-false}
-use Rattle.boundary.specs.Laws.{legal-no_state, legal-state}
+use Rattle.boundary.proofs.Laws.{legal-no_state, legal-state}
 use borrow.Author.Rules.{rules}
 use Rattle.boundary.proofs.chip_legal.Statement.{statement}
 use Rattle.boundary.proofs.chip_legal.Tie as tie

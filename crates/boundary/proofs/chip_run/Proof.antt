@@ -3,7 +3,7 @@ use mathlib.Core.Path.{sym, ◌∙◌, ◌≡◌}
 use mathlib.Core.Bool.{true, false}
 use borrow.Author.Tests.{not-true, not-false}
 use Rattle.boundary.specs.Numbers.{is_state}
-use Rattle.boundary.specs.Laws.{run_refused, run_done, run_no_state, run_memory_no_state, run_output_no_state, run_state, run_memory_state, run_output_state}
+use Rattle.boundary.proofs.Laws.{run_refused, run_done, run_no_state, run_memory_no_state, run_output_no_state, run_state, run_memory_state, run_output_state}
 use borrow.Author.Rules.{rules}
 use Rattle.boundary.proofs.chip_run.Statement.{statement}
 use Rattle.boundary.proofs.chip_run.Tie as tie

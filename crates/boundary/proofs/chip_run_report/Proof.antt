@@ -3,7 +3,7 @@ use mathlib.Core.Path.{sym, ◌∙◌, ◌≡◌}
 use mathlib.Core.Bool.{true, false}
 use borrow.Author.Tests.{not-true, not-false}
 use Rattle.boundary.specs.Numbers.{is_state}
-use Rattle.boundary.specs.Laws.{run_refused, run_done, report_run_no_state, report_memory_no_state, report_output_no_state, report_no_state, report_run_state, report_memory_state, report_output_state, report_state}
+use Rattle.boundary.proofs.Laws.{run_refused, run_done, report_run_no_state, report_memory_no_state, report_output_no_state, report_no_state, report_run_state, report_memory_state, report_output_state, report_state}
 use borrow.Author.Rules.{rules}
 use Rattle.boundary.proofs.chip_run_report.Statement.{statement}
 use Rattle.boundary.proofs.chip_run_report.Tie as tie

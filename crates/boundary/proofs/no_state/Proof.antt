@@ -1,6 +1,6 @@
 -- `no_state` is right: a memory has 0 sectors exactly if its length is not permitted, and 13 comes after that.
 use borrow.Author.Tests.{lt-ltb, le-ltb}
-use Rattle.part.specs.Laws.{no_sectors, some-sectors}
+use Rattle.part.proofs.Laws.{no_sectors, some-sectors}
 use Rattle.boundary.specs.Answers.{no_state}
 use borrow.Author.Rules.{rules}
 use Rattle.boundary.proofs.no_state.Statement.{statement}

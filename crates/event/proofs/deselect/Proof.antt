@@ -4,7 +4,7 @@ use mathlib.Core.Bool.{true, false}
 use borrow.Author.Tests.{not-true, not-false}
 use Rattle.part.specs.Part.{setting}
 use Rattle.chip.specs.Chip.{whole}
-use Rattle.event.specs.Laws.{deselect-unselected, deselect-selected}
+use Rattle.event.proofs.Laws.{deselect-unselected, deselect-selected}
 use borrow.Author.Rules.{rules}
 use Rattle.event.proofs.deselect.Statement.{statement}
 use Rattle.event.proofs.deselect.Tie as tie

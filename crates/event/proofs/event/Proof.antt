@@ -6,7 +6,7 @@ use Rattle.cells.specs.Choice.{cond_yes}
 use Rattle.part.specs.Part.{sectors_in}
 use Rattle.event.specs.Event.{Outcome}
 use Rattle.event.specs.Alone.{refusal, refused, done}
-use Rattle.event.specs.Laws.{answer_refused, memory_refused, answer_done, memory_done, said_bytes, accepted, used_small, happens-as}
+use Rattle.event.proofs.Laws.{answer_refused, memory_refused, answer_done, memory_done, said_bytes, accepted, used_small, happens-as}
 use borrow.Author.Rules.{rules}
 use Rattle.event.proofs.event.Statement.{statement}
 use Rattle.event.proofs.event.Tie as tie

@@ -1,6 +1,6 @@
 -- `event::refuses` meets its contract. 1, 13, 2, 5, 6 in that order, each early return after the ones before it passed.
 use borrow.Author.Tests.{lt-ltb, le-ltb}
-use Rattle.part.specs.Laws.{no_sectors, some-sectors}
+use Rattle.part.proofs.Laws.{no_sectors, some-sectors}
 use Rattle.event.specs.Alone.{refusal}
 use borrow.Author.Rules.{rules}
 use Rattle.event.proofs.refuses.Statement.{statement}

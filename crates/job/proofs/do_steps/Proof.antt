@@ -1,6 +1,6 @@
 -- `job::do_steps` meets its contract. By the kind: the kinds without cells change none (`steps-no_cells`), the others sweep their cells.
 use mathlib.Core.Path.{sym, ap}
-use Rattle.job.specs.Laws.{steps-no_cells}
+use Rattle.job.proofs.Laws.{steps-no_cells}
 use Rattle.chip.specs.Job.{unit}
 use borrow.Author.Rules.{rules}
 use Rattle.job.proofs.do_steps.Statement.{statement}

@@ -7,7 +7,7 @@ use native.Mathlib.Omega.{arith}
 use mathlib.Core.Path.{◌≡◌, sym, ap, ◌∙◌}
 use Rattle.chip.specs.Chip.{running}
 use Rattle.job.specs.Tick.{suspends, steps_left, ticks_left, TicksAnswer}
-use Rattle.job.specs.Laws.{left_most, answer_rests, answer_goes, answer_pauses, answer_ends}
+use Rattle.job.proofs.Laws.{left_most, answer_rests, answer_goes, answer_pauses, answer_ends}
 use borrow.Author.Rules.{rules}
 use Rattle.job.proofs.ticks.Statement.{statement}
 use Rattle.job.proofs.ticks.Tie as tie

@@ -5,7 +5,7 @@ use mathlib.Core.Path.{◌≡◌, sym, ◌∙◌, ap}
 use native.Mathlib.Omega.{arith}
 use lib.Dec.{eqb, leb}
 use Rattle.kinds.specs.Row.{exchanges_from}
-use Rattle.kinds.specs.RowLaws.{pair_longer}
+use Rattle.kinds.proofs.RowLaws.{pair_longer}
 use borrow.Author.Rules.{rules}
 use Rattle.kinds.proofs.all_at.Statement.{statement}
 use Rattle.kinds.proofs.all_at.Tie as tie

@@ -5,7 +5,7 @@ use native.Mathlib.Omega.{arith}
 use lib.ListN.{length}
 use borrow.Author.Tests.{leb-true, leb-false, not-true, not-false}
 use Rattle.kinds.specs.Row.{exchanges_from}
-use Rattle.kinds.specs.RowLaws.{row-part, row_inside, row-stops}
+use Rattle.kinds.proofs.RowLaws.{row-part, row_inside, row-stops}
 use borrow.Author.Rules.{rules}
 use Rattle.kinds.proofs.blocks_from.Statement.{statement}
 use Rattle.kinds.proofs.blocks_from.Tie as tie

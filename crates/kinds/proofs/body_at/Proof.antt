@@ -3,7 +3,7 @@ use Prim.Native.Nat.{◌+◌}
 use native.Mathlib.Omega.{arith}
 use mathlib.Core.Path.{sym, ap, ◌∙◌, ◌≡◌}
 use Rattle.kinds.specs.Body.{number_at}
-use Rattle.kinds.specs.Laws.{body_past, body_one, body_two}
+use Rattle.kinds.proofs.Laws.{body_past, body_one, body_two}
 use borrow.Author.Rules.{rules}
 use Rattle.kinds.proofs.body_at.Statement.{statement}
 use Rattle.kinds.proofs.body_at.Tie as tie

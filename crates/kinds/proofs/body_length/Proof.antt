@@ -1,6 +1,6 @@
 -- `kinds::body_length` meets its contract. By the kind; no other number has a body (`no_body`).
 use Rattle.kinds.specs.Kinds.{kind_row, kind_row_in}
-use Rattle.kinds.specs.Laws.{no_body}
+use Rattle.kinds.proofs.Laws.{no_body}
 use mathlib.Core.Path.{sym}
 use borrow.Author.Rules.{rules}
 use Rattle.kinds.proofs.body_length.Statement.{statement}

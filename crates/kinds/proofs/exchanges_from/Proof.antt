@@ -1,7 +1,7 @@
 -- `kinds::exchanges_from` meets its contract. Each count goes on from the one before; fewer than sixteen are left for the last.
 use mathlib.Core.Path.{sym}
 use native.Mathlib.Omega.{arith}
-use Rattle.kinds.specs.RowLaws.{row-past, row_inside}
+use Rattle.kinds.proofs.RowLaws.{row-past, row_inside}
 use borrow.Author.Rules.{rules}
 use Rattle.kinds.proofs.exchanges_from.Statement.{statement}
 use Rattle.kinds.proofs.exchanges_from.Tie as tie

@@ -4,7 +4,7 @@ use mathlib.Core.Path.{refl}
 use native.Mathlib.Omega.{arith}
 use lib.ListN.{length}
 use Rattle.kinds.specs.Row.{exchanges_from}
-use Rattle.kinds.specs.RowLaws.{row-reach, row-stops, row_inside}
+use Rattle.kinds.proofs.RowLaws.{row-reach, row-stops, row_inside}
 use borrow.Author.Rules.{rules}
 use Rattle.kinds.proofs.few_from.Statement.{statement}
 use Rattle.kinds.proofs.few_from.Tie as tie

@@ -1,6 +1,6 @@
 -- `kinds::is_in_range` meets its contract. By the kind: a range where the row has a body, and none elsewhere (`no_body`).
 use Rattle.kinds.specs.Kinds.{kind_row, kind_row_in}
-use Rattle.kinds.specs.Laws.{no_body, exchange-range, deselect-range, wp_range, stamp-range}
+use Rattle.kinds.proofs.Laws.{no_body, exchange-range, deselect-range, wp_range, stamp-range}
 use mathlib.Core.Path.{sym}
 use Rattle.kinds.proofs.is_in_range.Statement.{statement}
 use Rattle.kinds.proofs.is_in_range.Tie as tie

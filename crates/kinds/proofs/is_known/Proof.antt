@@ -1,7 +1,7 @@
 -- `kinds::is_known` meets its contract. By the number: each of the seven kinds, and any other.
 use mathlib.Core.Path.{sym}
 use Rattle.kinds.specs.Kinds.{known_kind, kind_row, kind_row_in}
-use Rattle.kinds.specs.Laws.{not-event}
+use Rattle.kinds.proofs.Laws.{not-event}
 use Rattle.kinds.proofs.is_known.Statement.{statement}
 use Rattle.kinds.proofs.is_known.Tie as tie
 

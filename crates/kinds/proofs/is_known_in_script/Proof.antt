@@ -1,6 +1,6 @@
 -- `kinds::is_known_in_script` meets its contract. The two tests joined are what the rows say (`script_as`).
 use mathlib.Core.Path.{sym}
-use Rattle.kinds.specs.Laws.{script_as}
+use Rattle.kinds.proofs.Laws.{script_as}
 use borrow.Author.Rules.{rules}
 use Rattle.kinds.proofs.is_known_in_script.Statement.{statement}
 use Rattle.kinds.proofs.is_known_in_script.Tie as tie

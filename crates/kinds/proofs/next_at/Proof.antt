@@ -3,7 +3,7 @@ use native.Mathlib.Omega.{arith}
 use mathlib.Core.Path.{sym}
 use borrow.Author.Tests.{le-ltb}
 use Rattle.cells.specs.Choice.{cond_no}
-use Rattle.kinds.specs.Laws.{step_inside}
+use Rattle.kinds.proofs.Laws.{step_inside}
 use borrow.Author.Rules.{rules}
 use Rattle.kinds.proofs.next_at.Statement.{statement}
 use Rattle.kinds.proofs.next_at.Tie as tie

@@ -1,6 +1,6 @@
 -- `kinds::room_of` meets its contract. By the kind: an exchange, a deselect, and any other (`room_as`).
 use Rattle.kinds.specs.Kinds.{kind_row, kind_row_in}
-use Rattle.kinds.specs.Laws.{room_as}
+use Rattle.kinds.proofs.Laws.{room_as}
 use mathlib.Core.Path.{sym, ◌∙◌}
 use borrow.Author.Tests.{ne_eqb}
 use Rattle.cells.specs.Choice.{cond_no}

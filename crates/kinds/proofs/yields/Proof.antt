@@ -1,6 +1,6 @@
 -- `kinds::yields` meets its contract. The two tests joined are what the rows say (`yields-as`).
 use mathlib.Core.Path.{sym}
-use Rattle.kinds.specs.Laws.{yields-as}
+use Rattle.kinds.proofs.Laws.{yields-as}
 use Rattle.kinds.proofs.yields.Statement.{statement}
 use Rattle.kinds.proofs.yields.Tie as tie
 

@@ -4,7 +4,7 @@ use mathlib.Core.Path.{◌≡◌, refl, sym, ◌∙◌}
 use mathlib.Core.Bool.{◌&&◌}
 use lib.ListN.{drop, length}
 use Rattle.legal.specs.Legal.{is_blank}
-use Rattle.legal.specs.Laws.{is_blank-more, is_blank-ends}
+use Rattle.legal.proofs.Laws.{is_blank-more, is_blank-ends}
 use borrow.Author.Rules.{rules}
 use Rattle.legal.proofs.is_blank.Statement.{statement}
 use Rattle.legal.proofs.is_blank.Tie as tie

@@ -2,9 +2,9 @@
 use mathlib.Core.Path.{◌≡◌, sym}
 use mathlib.Core.Bool.{true}
 use Rattle.part.specs.Part.{permitted, sectors_in}
-use Rattle.part.specs.Laws.{no_sectors, some-sectors, sectors_are}
+use Rattle.part.proofs.Laws.{no_sectors, some-sectors, sectors_are}
 use Rattle.legal.specs.Legal.{legal}
-use Rattle.legal.specs.Legality.{legal_begun, legal_empty}
+use Rattle.legal.proofs.Legality.{legal_begun, legal_empty}
 use borrow.Author.Rules.{rules}
 use Rattle.legal.proofs.is_legal.Statement.{statement}
 use Rattle.legal.proofs.is_legal.Tie as tie

@@ -4,7 +4,7 @@ use native.Mathlib.Omega.{arith}
 use lib.ListN.{length-append}
 use Rattle.listing.specs.Text.{line_of}
 use Rattle.cells.specs.PutLaws.{put_then, put_as, room-then}
-use Rattle.listing.specs.TextLaws.{line-nine}
+use Rattle.listing.proofs.TextLaws.{line-nine}
 use borrow.Author.Rules.{rules}
 use Rattle.listing.proofs.put_line.Statement.{statement}
 use Rattle.listing.proofs.put_line.Tie as tie

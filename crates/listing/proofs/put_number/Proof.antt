@@ -3,7 +3,7 @@ use mathlib.Core.Path.{◌∙◌}
 use native.Mathlib.Omega.{arith}
 use lib.ListN.{length-append, length-set}
 use Rattle.cells.specs.PutLaws.{put_then, put_byte, room-then}
-use Rattle.listing.specs.TextLaws.{digits_decimal}
+use Rattle.listing.proofs.TextLaws.{digits_decimal}
 use borrow.Author.Rules.{rules}
 use Rattle.listing.proofs.put_number.Statement.{statement}
 use Rattle.listing.proofs.put_number.Tie as tie

@@ -4,7 +4,7 @@ use lib.ListN.{length-append}
 use Rattle.listing.specs.Text.{part_line}
 use Rattle.cells.specs.PutLaws.{put_as, put_then}
 use Rattle.listing.specs.Report.{run_text}
-use Rattle.listing.specs.ReportLaws.{text_run}
+use Rattle.listing.proofs.ReportLaws.{text_run}
 use borrow.Author.Rules.{rules}
 use Rattle.listing.proofs.put_run.Statement.{statement}
 use Rattle.listing.proofs.put_run.Tie as tie

@@ -1,8 +1,8 @@
 -- `report` goes by the script's length: too long, only that line, else the run's text, for which there is room (`report_fits`); either stands at the start of the text.
 use native.Mathlib.Omega.{arith}
-use Rattle.listing.specs.TextLaws.{text_start}
-use Rattle.listing.specs.ReportLaws.{report_long, report_run}
-use Rattle.listing.specs.RoomLaws.{report_fits}
+use Rattle.listing.proofs.TextLaws.{text_start}
+use Rattle.listing.proofs.ReportLaws.{report_long, report_run}
+use Rattle.listing.proofs.RoomLaws.{report_fits}
 use borrow.Author.Rules.{rules}
 use Rattle.listing.proofs.report.Statement.{statement}
 use Rattle.listing.proofs.report.Tie as tie

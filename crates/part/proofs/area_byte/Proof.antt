@@ -1,7 +1,7 @@
 -- `part::area_byte` meets its contract. Inside the area it is the byte that was read; at and past its end the list's default, FFh.
 use mathlib.Core.Path.{sym}
 use lib.ListN.{get_or-eq_default}
-use Rattle.part.specs.Laws.{area_byte-inside}
+use Rattle.part.proofs.Laws.{area_byte-inside}
 use borrow.Author.Rules.{rules}
 use Rattle.part.proofs.area_byte.Statement.{statement}
 use Rattle.part.proofs.area_byte.Tie as tie

@@ -5,7 +5,7 @@ use mathlib.Core.Path.{sym, ◌∙◌}
 use native.Mathlib.Omega.{arith}
 use borrow.Author.Tests.{eq-eqb, ne_eqb}
 use Rattle.part.specs.Protection.{protected_sectors}
-use Rattle.part.specs.Laws.{protected_count-le}
+use Rattle.part.proofs.Laws.{protected_count-le}
 use borrow.Author.Rules.{rules}
 use Rattle.part.proofs.protected_sectors.Statement.{statement}
 use Rattle.part.proofs.protected_sectors.Tie as tie

@@ -2,8 +2,8 @@
 use mathlib.Core.Path.{sym, ap, ◌∙◌}
 use native.Mathlib.Omega.{arith}
 use borrow.Author.Tests.{not-true, not-false}
-use Rattle.kinds.specs.Laws.{step_inside}
-use Rattle.script.specs.Laws.{fault_five, fault_four, fault_six, fault_eight, fault_none_forward, fault_none_other}
+use Rattle.kinds.proofs.Laws.{step_inside}
+use Rattle.script.proofs.Laws.{fault_five, fault_four, fault_six, fault_eight, fault_none_forward, fault_none_other}
 use Rattle.kinds.specs.Kinds.{in_range}
 use Rattle.clock.specs.Clock.{went_back}
 use borrow.Author.Rules.{rules}

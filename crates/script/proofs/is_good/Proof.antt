@@ -6,8 +6,8 @@ use native.Mathlib.Omega.{arith}
 use lib.Dec.{eqb}
 use borrow.Author.Tests.{eq-eqb, ne_eqb}
 use Rattle.kinds.specs.Kinds.{known_in_script, in_range}
-use Rattle.kinds.specs.Laws.{step_inside}
-use Rattle.script.specs.Laws.{fault_four, kind_good}
+use Rattle.kinds.proofs.Laws.{step_inside}
+use Rattle.script.proofs.Laws.{fault_four, kind_good}
 use borrow.Author.Rules.{rules}
 use Rattle.script.proofs.is_good.Statement.{statement}
 use Rattle.script.proofs.is_good.Tie as tie

@@ -6,9 +6,9 @@ use native.Mathlib.Omega.{arith}
 use lib.Dec.{eqb}
 use borrow.Author.Tests.{eq-eqb, ne_eqb}
 use Rattle.kinds.specs.Kinds.{known_in_script, kind_row, kind_row_in}
-use Rattle.kinds.specs.Laws.{step_inside}
+use Rattle.kinds.proofs.Laws.{step_inside}
 use Rattle.clock.specs.Clock.{went_back}
-use Rattle.script.specs.Laws.{fault_four, stamp-good}
+use Rattle.script.proofs.Laws.{fault_four, stamp-good}
 use borrow.Author.Rules.{rules}
 use Rattle.script.proofs.is_good_stamp.Statement.{statement}
 use Rattle.script.proofs.is_good_stamp.Tie as tie

@@ -10,10 +10,10 @@ use Rattle.cells.specs.Choice.{and_left, and_right, either_false}
 use Rattle.part.specs.Part.{setting}
 use Rattle.kinds.specs.Kinds.{TICK, TICKS}
 use Rattle.kinds.specs.Body.{next_at}
-use Rattle.kinds.specs.Laws.{step_inside}
+use Rattle.kinds.proofs.Laws.{step_inside}
 use Rattle.chip.specs.Chip.{whole, running}
 use Rattle.event.specs.Event.{applied}
-use Rattle.script.specs.WatchLaws.{worked-most, not-ticking}
+use Rattle.script.proofs.WatchLaws.{worked-most, not-ticking}
 use Rattle.script.proofs.Playing.{Playing, starts, plays_on, ready, watched_on, good, finds_room, turns, ticks_turn, idle_turn, plain_idle_turn, ends, Watching, watch-starts, event_watched, modest_then, ticks_watched, idle_watched, plain_idle_watched, reports}
 use borrow.Author.Rules.{rules}
 use Rattle.script.proofs.play.Statement.{statement}

@@ -5,7 +5,7 @@ use native.Mathlib.Omega.{arith}
 use lib.ListN.{length, length-set}
 use Rattle.chip.specs.Record.{record_bytes}
 use Rattle.cells.specs.PutLaws.{put_byte, put_two, put_then, put_end}
-use Rattle.script.specs.Laws.{stored-none, stored-as}
+use Rattle.script.proofs.Laws.{stored-none, stored-as}
 use borrow.Author.Rules.{rules}
 use Rattle.script.proofs.put.Statement.{statement}
 use Rattle.script.proofs.put.Tie as tie

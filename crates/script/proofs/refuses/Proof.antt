@@ -5,11 +5,11 @@ use Prim.Native.Nat.{◌<◌, ◌≤◌}
 use native.Mathlib.Omega.{arith}
 use borrow.Author.Tests.{not-true, not-false}
 use Rattle.part.specs.Part.{permitted}
-use Rattle.part.specs.Laws.{no_sectors, some-sectors}
+use Rattle.part.proofs.Laws.{no_sectors, some-sectors}
 use Rattle.legal.specs.Legal.{legal}
 use Rattle.clock.specs.Clock.{unset}
 use Rattle.script.specs.Script.{first_bad, events, room, Refusal}
-use Rattle.script.specs.Laws.{refusal_length, refusal_area, refusal_state, refusal_long, refusal_bad, refusal_room, refusal_none}
+use Rattle.script.proofs.Laws.{refusal_length, refusal_area, refusal_state, refusal_long, refusal_bad, refusal_room, refusal_none}
 use Rattle.chip.specs.declared.Chip.{Chip}
 use borrow.Author.Rules.{rules}
 use Rattle.script.proofs.refuses.Statement.{statement}

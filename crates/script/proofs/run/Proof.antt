@@ -7,8 +7,8 @@ use Rattle.part.specs.Part.{sectors_in}
 use Rattle.margins.specs.Margins.{allowed}
 use Rattle.script.specs.Script.{Refusal}
 use Rattle.script.specs.Run.{World, refusal, refused, done}
-use Rattle.script.specs.Laws.{accepted, answer_refused, memory_refused, output_refused, answer_done, memory_done, output_done, world_after-as}
-use Rattle.script.specs.HeardLaws.{whole_part}
+use Rattle.script.proofs.Laws.{accepted, answer_refused, memory_refused, output_refused, answer_done, memory_done, output_done, world_after-as}
+use Rattle.script.proofs.HeardLaws.{whole_part}
 use borrow.Author.Rules.{rules}
 use Rattle.script.proofs.run.Statement.{statement}
 use Rattle.script.proofs.run.Tie as tie

@@ -11,9 +11,9 @@ use Rattle.script.specs.Script.{Refusal, refusal_of}
 use Rattle.script.specs.Jobs.{jobs_of}
 use Rattle.script.specs.Report.{report_after}
 use Rattle.script.specs.Run.{World, refusal, refused, done}
-use Rattle.script.specs.Laws.{accepted, answer_refused, memory_refused, output_refused, answer_done, memory_done, output_done, world_after-as}
-use Rattle.script.specs.ReportLaws.{answer_18, memory_18, output_18, report_18, answer_with_lem, memory_with_lem, output_with_lem, report_refused, report_done}
-use Rattle.script.specs.HeardLaws.{whole_part}
+use Rattle.script.proofs.Laws.{accepted, answer_refused, memory_refused, output_refused, answer_done, memory_done, output_done, world_after-as}
+use Rattle.script.proofs.ReportLaws.{answer_18, memory_18, output_18, report_18, answer_with_lem, memory_with_lem, output_with_lem, report_refused, report_done}
+use Rattle.script.proofs.HeardLaws.{whole_part}
 use borrow.Author.Rules.{rules}
 use Rattle.script.proofs.run_with_report.Statement.{statement}
 use Rattle.script.proofs.run_with_report.Tie as tie

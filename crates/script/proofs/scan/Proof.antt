@@ -6,23 +6,23 @@ use native.Mathlib.Omega.{arith}
 use lib.Dec.{eqb, ltb}
 use lib.ListN.{length, get_or}
 use Rattle.kinds.specs.Body.{next_at}
-use Rattle.kinds.specs.Laws.{step_inside}
+use Rattle.kinds.proofs.Laws.{step_inside}
 use Rattle.clock.specs.declared.Clock.{Clock}
 use Rattle.clock.specs.Clock.{unset}
 use Rattle.script.specs.Script.{events, events_from, event_at, clock_after, first_bad, room, refusal_of, fault_by}
 use Rattle.script.specs.Watch.{clock_by}
-use Rattle.script.specs.WatchLaws.{clock_as}
+use Rattle.script.proofs.WatchLaws.{clock_as}
 use Rattle.kinds.specs.Kinds.{SELECT, DESELECT, TICKS, EXCHANGE, STAMP, known_in_script, room_of, most_room, kind_row, kind_row_in}
 use mathlib.Core.Bool.{true, false, ◌&&◌, false≢true}
 use borrow.Author.Tests.{eq-eqb, eqb-true, ltb-true}
 use Rattle.cells.specs.Choice.{not_so, and_left, and_right}
-use Rattle.script.specs.Laws.{stamp-next, first_bad-none, first_bad-here, first_bad-later, clean-event, good_event, clock_stays, room-none, room-more, passed}
+use Rattle.script.proofs.Laws.{stamp-next, first_bad-none, first_bad-here, first_bad-later, clean-event, good_event, clock_stays, room-none, room-more, passed}
 use mathlib.Core.Logic.{⊎_elim}
 use mathlib.Core.Path.{subst, refl, ◌≡◌, sym, ◌∙◌, ap}
 use Rattle.kinds.specs.Row.{exchanges_from}
-use Rattle.kinds.specs.RowLaws.{row-past, row_inside}
+use Rattle.kinds.proofs.RowLaws.{row-past, row_inside}
 use Rattle.script.specs.Heard.{Known}
-use Rattle.script.specs.RowLaws.{row-some, row_clean, row_room}
+use Rattle.script.proofs.RowLaws.{row-some, row_clean, row_room}
 use borrow.Author.Rules.{rules}
 use Rattle.script.proofs.scan.Statement.{statement}
 use Rattle.script.proofs.scan.Tie as tie

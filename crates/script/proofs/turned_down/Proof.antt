@@ -1,7 +1,7 @@
 -- `script::turned_down` meets its contract. At the script's end stands a row of no exchange.
 use mathlib.Core.Path.{sym}
 use native.Mathlib.Omega.{arith}
-use Rattle.kinds.specs.RowLaws.{row-past}
+use Rattle.kinds.proofs.RowLaws.{row-past}
 use borrow.Author.Rules.{rules}
 use Rattle.script.proofs.turned_down.Statement.{statement}
 use Rattle.script.proofs.turned_down.Tie as tie

@@ -1,7 +1,7 @@
 -- `sfdp::find_table` meets its contract. What refuses is told alone; otherwise the place and the length are those of the header that counts.
 use Prim.Native.Nat.{ℕ}
 use mathlib.Core.Path.{◌≡◌, sym, ap, ◌∙◌}
-use Rattle.sfdp.specs.Laws.{found-done, found-refused}
+use Rattle.sfdp.proofs.Laws.{found-done, found-refused}
 use Rattle.sfdp.specs.Reader.{refusal, found}
 use borrow.Author.Rules.{rules}
 use Rattle.sfdp.proofs.find_table.Statement.{statement}

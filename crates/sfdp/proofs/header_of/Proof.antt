@@ -3,7 +3,7 @@ use Prim.Native.Nat.{◌≤◌, ◌<◌, ◌-◌}
 use mathlib.Core.Path.{◌≡◌, sym, ◌∙◌, ap}
 use native.Mathlib.Omega.{arith}
 use Rattle.sfdp.specs.Reader.{header_count, identity_at, first_from, header_of}
-use Rattle.sfdp.specs.Laws.{first_hit, first_miss, first_ends}
+use Rattle.sfdp.proofs.Laws.{first_hit, first_miss, first_ends}
 use borrow.Author.Rules.{rules}
 use Rattle.sfdp.proofs.header_of.Statement.{statement}
 use Rattle.sfdp.proofs.header_of.Tie as tie

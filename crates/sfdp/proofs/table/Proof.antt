@@ -3,7 +3,7 @@ use lib.ListN.{length}
 use Prim.Native.Nat.{◌+◌, ◌-◌, ◌≤◌}
 use mathlib.Core.Path.{◌≡◌}
 use native.Mathlib.Omega.{arith}
-use Rattle.sfdp.specs.Laws.{found_inside}
+use Rattle.sfdp.proofs.Laws.{found_inside}
 use Rattle.sfdp.specs.Reader.{table_of}
 use borrow.Author.Rules.{rules}
 use Rattle.sfdp.proofs.table.Statement.{statement}

@@ -1,7 +1,7 @@
 -- `verdict::command_verdict` meets its contract. 11, then a job's own verdict, then 1 (`command_as`).
 use mathlib.Core.Path.{sym, ◌∙◌}
 use Rattle.cells.specs.Choice.{cond_yes, cond_no}
-use Rattle.verdict.specs.Laws.{command_as}
+use Rattle.verdict.proofs.Laws.{command_as}
 use Rattle.verdict.specs.Verdict.{command_verdict}
 use borrow.Author.Rules.{rules}
 use Rattle.verdict.proofs.command_verdict.Statement.{statement}

@@ -7,7 +7,7 @@ use lib.Seq.{take_all}
 use Rattle.cells.specs.Put.{Put}
 use Rattle.cells.specs.PutLaws.{put_none, put_two, put_then, put_as}
 use Rattle.writer.specs.Writer.{exchanges_of}
-use Rattle.writer.specs.Laws.{exchanges-more}
+use Rattle.writer.proofs.Laws.{exchanges-more}
 use borrow.Author.Rules.{rules}
 use Rattle.writer.proofs.put_exchanges.Statement.{statement}
 use Rattle.writer.proofs.put_exchanges.Tie as tie

@@ -7,7 +7,7 @@ use lib.ListN.{length-set, length, length-append}
 use Rattle.cells.specs.PutLaws.{put_byte, put_then, put_as, put_length, room-behind}
 use Rattle.kinds.specs.Kinds.{SELECT}
 use Rattle.writer.specs.Writer.{clean_deselect}
-use Rattle.writer.specs.Laws.{length-exchanges, exchanges-append}
+use Rattle.writer.proofs.Laws.{length-exchanges, exchanges-append}
 use borrow.Author.Rules.{rules}
 use Rattle.writer.proofs.put_frame.Statement.{statement}
 use Rattle.writer.proofs.put_frame.Tie as tie

@@ -5,7 +5,7 @@ use native.Mathlib.Omega.{arith}
 use lib.ListN.{length}
 use Rattle.commands.specs.Table.{write_enable}
 use Rattle.cells.specs.PutLaws.{put_then, put_length, room-behind}
-use Rattle.writer.specs.Laws.{length-frame, length-frames}
+use Rattle.writer.proofs.Laws.{length-frame, length-frames}
 use borrow.Author.Rules.{rules}
 use Rattle.writer.proofs.put_piece.Statement.{statement}
 use Rattle.writer.proofs.put_piece.Tie as tie

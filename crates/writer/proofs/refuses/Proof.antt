@@ -1,9 +1,9 @@
 -- `writer::refuses` meets its contract. 1, 20, 21, 22, 23 in that order, each early return after the ones before it passed; the length that 23 asks for is the script's (`length-script`).
 use native.Mathlib.Omega.{arith}
 use borrow.Author.Tests.{lt-ltb, le-ltb, le-leb, lt-leb}
-use Rattle.part.specs.Laws.{no_sectors, some-sectors, permitted-length}
+use Rattle.part.proofs.Laws.{no_sectors, some-sectors, permitted-length}
 use Rattle.writer.specs.Writer.{refusal}
-use Rattle.writer.specs.Laws.{length-script}
+use Rattle.writer.proofs.Laws.{length-script}
 use borrow.Author.Rules.{rules}
 use Rattle.writer.proofs.refuses.Statement.{statement}
 use Rattle.writer.proofs.refuses.Tie as tie

@@ -2,9 +2,9 @@
 use mathlib.Core.Path.{sym, ap, ◌∙◌, ◌≡◌}
 use native.Mathlib.Omega.{arith}
 use Rattle.cells.specs.PutLaws.{put_start, put_length}
-use Rattle.part.specs.Laws.{permitted-length}
-use Rattle.writer.specs.Laws.{length-script}
-use Rattle.writer.specs.Refusals.{refused-when, answer_refused, output_refused, answer_done, output_done}
+use Rattle.part.proofs.Laws.{permitted-length}
+use Rattle.writer.proofs.Laws.{length-script}
+use Rattle.writer.proofs.Refusals.{refused-when, answer_refused, output_refused, answer_done, output_done}
 use Prim.Native.Nat.{ℕ, ◌+◌, ◌≤◌}
 use mathlib.Core.List.{◌++◌}
 use lib.ListN.{drop, length}

@@ -8,12 +8,12 @@ use Rattle.chip.specs.declared.Frame.{Frame}
 use Rattle.chip.specs.declared.Chip.{Chip}
 use Rattle.chip.specs.Chip.{whole}
 use Rattle.chip.specs.Record.{record_bytes}
-use Rattle.kinds.specs.RowLaws.{row_inside}
+use Rattle.kinds.proofs.RowLaws.{row_inside}
 use Rattle.frame.specs.Stream.{read_on, cells_on}
-use Rattle.script.specs.Laws.{exchange-next, stored-put}
+use Rattle.script.proofs.Laws.{exchange-next, stored-put}
 use Rattle.script.specs.Heard.{Heard, floats}
-use Rattle.script.specs.HeardLaws.{heard-exchange, went_as}
-use Rattle.script.specs.RowLaws.{heard_row, heard_loads, row-some, row_rooms}
+use Rattle.script.proofs.HeardLaws.{heard-exchange, went_as}
+use Rattle.script.proofs.RowLaws.{heard_row, heard_loads, row-some, row_rooms}
 use borrow.Author.Rules.{rules}
 use Rattle.script.proofs.rows.hear.Statement.{statement}
 use Rattle.script.proofs.rows.hear.Tie as tie

@@ -11,7 +11,7 @@ use Rattle.chip.specs.Record.{record_bytes}
 use Rattle.frame.specs.Stream.{cells_on}
 use Rattle.frame.specs.RowLaws.{cells-length}
 use Rattle.script.specs.Heard.{floats}
-use Rattle.script.specs.ReadLaws.{header-sizes, floats-length, records_length}
+use Rattle.script.proofs.ReadLaws.{header-sizes, floats-length, records_length}
 use Rattle.script.proofs.rows.put_frame.Statement.{statement}
 use Rattle.script.proofs.rows.put_frame.Tie as tie
 

@@ -12,7 +12,7 @@ use Rattle.chip.specs.declared.Frame.{Frame}
 use Rattle.chip.specs.Chip.{whole, empty_frame, blank_load}
 use Rattle.script.specs.Script.{events_from, room}
 use Rattle.script.specs.Heard.{Reading, none, some, WholeRead, can_read}
-use Rattle.script.specs.ReadLaws.{frame_rooms, reads_more}
+use Rattle.script.proofs.ReadLaws.{frame_rooms, reads_more}
 use Rattle.script.proofs.rows.read_frames.Statement.{statement}
 use Rattle.script.proofs.rows.read_frames.Tie as tie
 

@@ -8,8 +8,8 @@ use Rattle.cells.specs.PutLaws.{put_none}
 use Rattle.part.specs.Part.{setting}
 use Rattle.chip.specs.declared.Frame.{Frame}
 use Rattle.chip.specs.Chip.{whole, blank_load}
-use Rattle.script.specs.HeardLaws.{heard-select, went_as}
-use Rattle.script.specs.ReadLaws.{reading_none, reading_some}
+use Rattle.script.proofs.HeardLaws.{heard-select, went_as}
+use Rattle.script.proofs.ReadLaws.{reading_none, reading_some}
 use Prim.Native.Nat.{ℕ}
 use borrow.Author.Rules.{rules}
 use Rattle.script.proofs.rows.select.Statement.{statement}

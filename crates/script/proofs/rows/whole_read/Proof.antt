@@ -7,7 +7,7 @@ use lib.ListN.{length, get_or}
 use borrow.Author.Tests.{eqb-true, eqb-false, ltb-false, not-false}
 use Rattle.cells.specs.Choice.{either_false}
 use Rattle.kinds.specs.Kinds.{SELECT}
-use Rattle.kinds.specs.RowLaws.{row_inside}
+use Rattle.kinds.proofs.RowLaws.{row_inside}
 use borrow.Author.Rules.{rules}
 use Rattle.script.proofs.rows.whole_read.Statement.{statement}
 use Rattle.script.proofs.rows.whole_read.Tie as tie

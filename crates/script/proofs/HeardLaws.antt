@@ -2,7 +2,7 @@
 use Rattle.std.specs.Prelude.{ℕ, ◌+◌, ◌<◌, ◌≤◌, true, false, List, [], ◌++◌, ◌≡◌, refl, length, get_or}
 use Rattle.std.proofs.Common.{append-nil, append_assoc, sym, ap, subst, ◌∙◌, add-zero, arith, length-append}
 use Rattle.part.specs.Part.{permitted, sectors_in, Setting, length_of}
-use Rattle.part.specs.Laws.{permitted-whole, permitted-length, permitted-some}
+use Rattle.part.proofs.Laws.{permitted-whole, permitted-length, permitted-some}
 use Rattle.kinds.specs.Kinds.{SELECT, EXCHANGE, room_of, says_of, kind_row, kind_row_in}
 use Rattle.kinds.specs.Body.{body_at, next_at}
 use Rattle.clock.specs.declared.Clock.{Clock}
@@ -13,14 +13,14 @@ use Rattle.chip.specs.declared.Record.TheVariants.{Nothing}
 use Rattle.chip.specs.Chip.{whole}
 use Rattle.chip.specs.Record.{record_bytes}
 use Rattle.event.specs.Event.{Outcome, outcome, select, settle_exchange, applied, sort_of}
-use Rattle.event.specs.Laws.{applied-select, applied-exchange, says-its_kind, said_room}
+use Rattle.event.proofs.Laws.{applied-select, applied-exchange, says-its_kind, said_room}
 use Rattle.frame.specs.Frame.{exchange, exchanged}
 use Rattle.script.specs.Script.{event_at, events_from, timed, first_bad}
 use Rattle.script.specs.Run.{world, runs}
 use Rattle.script.specs.Jobs.{tick_by_tick, stands, is_two, jobs}
 use Rattle.script.specs.Watch.{ticking}
-use Rattle.script.specs.Laws.{select-next, exchange-body, exchange-next, clean-later, room-more, runs-more, clock_stays}
-use Rattle.script.specs.WatchLaws.{not-ticking, jobs-plain, jobs_stay, line-not_two}
+use Rattle.script.proofs.Laws.{select-next, exchange-body, exchange-next, clean-later, room-more, runs-more, clock_stays}
+use Rattle.script.proofs.WatchLaws.{not-ticking, jobs-plain, jobs_stay, line-not_two}
 use Rattle.script.specs.Heard.{Heard, Went, WholePart}
 
 -- a part of a permitted length

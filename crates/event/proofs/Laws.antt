@@ -12,7 +12,7 @@ use Rattle.part.specs.declared.Protected.{Protected}
 use Rattle.part.specs.declared.Protected.TheVariants.{NoSector, Sectors}
 use Rattle.part.specs.Protection.{protected_sectors}
 use Rattle.kinds.specs.Kinds.{SELECT, EXCHANGE, DESELECT, TICK, TICKS, WP, POWER, Says, KindRow, kind_row_in, kind_row, known_kind, body_length, in_range, says_of, is_said, room_of}
-use Rattle.kinds.specs.Laws.{not-kind, kind_each, none_known, unknown_silent, range_small}
+use Rattle.kinds.proofs.Laws.{not-kind, kind_each, none_known, unknown_silent, range_small}
 use Rattle.chip.specs.declared.Chip.{Chip}
 use Rattle.legal.specs.Legal.{legal}
 use Rattle.chip.specs.declared.Core.{Core}
@@ -20,13 +20,13 @@ use Rattle.chip.specs.declared.Frame.{Frame}
 use Rattle.chip.specs.declared.Record.{Record}
 use Rattle.chip.specs.declared.Record.TheVariants.{Nothing, Floating, Driven, Verdict, InTheWay}
 use Rattle.chip.specs.Record.{record_bytes}
-use Rattle.chip.specs.Laws.{record_bytes-most}
+use Rattle.chip.proofs.Laws.{record_bytes-most}
 use Rattle.frame.specs.Frame.{Exchange, exchanged, judge}
 use Rattle.frame.specs.Legality.{taken-each, exchanged-each}
 use Rattle.commands.specs.Table.{is_read}
 use Rattle.chip.specs.Chip.{empty_frame, blank_load}
 use Rattle.verdict.specs.Verdict.{verdict, in_the_way, record_of}
-use Rattle.verdict.specs.Laws.{verdict-read, settled-read, held_stays, record_plain}
+use Rattle.verdict.proofs.Laws.{verdict-read, settled-read, held_stays, record_plain}
 use Rattle.event.specs.declared.Answer.{Answer}
 use Rattle.event.specs.Event.{Outcome, outcome, as_it_was, select, exchange_byte, deselect, closes, tick, set_wp, cut_power, applied, sort_of}
 use Rattle.event.specs.Alone.{body_used, refusal, refused, done, happens, answer_of, memory_of, said_of}

@@ -10,7 +10,7 @@ use Rattle.chip.specs.declared.Frame.{Frame}
 use Rattle.chip.specs.declared.Job.{Job}
 use Rattle.chip.specs.Job.{is_job, has_cells, total, no_job}
 use Rattle.chip.specs.Chip.{empty_frame, blank_load, suspendable}
-use Rattle.chip.specs.Laws.{cells-job}
+use Rattle.chip.proofs.Laws.{cells-job}
 use Rattle.legal.specs.Legal.{placed, legal_job, job_enabled, suspended_has_cells, waiting_runs, deep_rests, legal_core, judgement_known, read_places, legal_frame, is_empty, is_blank, begun, tidy, legal}
 
 -- ---- the core

@@ -11,7 +11,7 @@ use Rattle.chip.specs.declared.Record.{Record}
 use Rattle.chip.specs.declared.Record.TheVariants.{Nothing, Floating, Driven, Verdict, InTheWay}
 use Rattle.chip.specs.Record.{record_bytes}
 use Rattle.event.specs.Event.{sort_of}
-use Rattle.event.specs.Laws.{says-its_kind}
+use Rattle.event.proofs.Laws.{says-its_kind}
 use Rattle.script.specs.Script.{Event, is_stamp, clock_after, ticks_given, timed}
 use Rattle.script.specs.Run.{World, does, onward, runs}
 use Rattle.listing.specs.Text.{line_of}

@@ -8,19 +8,19 @@ use Rattle.part.specs.Part.{sectors_in, Setting}
 use Rattle.part.specs.declared.Protected.{Protected}
 use Rattle.part.specs.declared.Protected.TheVariants.{NoSector, Sectors}
 use Rattle.part.specs.Protection.{protected_sectors}
-use Rattle.part.specs.Laws.{ends-small}
+use Rattle.part.proofs.Laws.{ends-small}
 use Rattle.chip.specs.declared.Chip.{Chip}
 use Rattle.chip.specs.declared.Core.{Core}
 use Rattle.chip.specs.declared.Record.{Record}
 use Rattle.chip.specs.declared.Record.TheVariants.{Nothing, Floating, Driven, Verdict, InTheWay}
 use Rattle.legal.specs.Legal.{legal, judgement_known}
-use Rattle.legal.specs.Legality.{LegalChip, chip-facts}
+use Rattle.legal.proofs.Legality.{LegalChip, chip-facts}
 use Rattle.frame.specs.Frame.{Exchange, exchanged}
 use Rattle.frame.specs.Legality.{taken-each, exchanged-each}
 use Rattle.verdict.specs.Verdict.{verdict, in_the_way, record_of}
-use Rattle.verdict.specs.Laws.{verdict_most, verdict_eight}
+use Rattle.verdict.proofs.Laws.{verdict_most, verdict_eight}
 use Rattle.event.specs.Event.{Outcome, deselect, applied}
-use Rattle.event.specs.Laws.{applied-each}
+use Rattle.event.proofs.Laws.{applied-each}
 
 -- a record that a legal state with this core can say
 abbrev pub Told : Core → Record → Type 0

@@ -12,7 +12,7 @@ use Rattle.part.specs.Part.{sector}
 use Rattle.part.specs.declared.Protected.{Protected}
 use Rattle.part.specs.declared.Protected.TheVariants.{NoSector, Sectors}
 use Rattle.part.specs.Protection.{protected_count, first_end, last_end, protected_sectors, protects, protects_any, is_protected}
-use Rattle.part.specs.Laws.{no_ends, two_ends}
+use Rattle.part.proofs.Laws.{no_ends, two_ends}
 use Rattle.commands.specs.Table.{row_of, fits_rule, is_read, is_program, write_enable, write_disable, suspend, resume, wake, deep_power_down, reset_enable, reset}
 use Rattle.chip.specs.declared.Core.{Core}
 use Rattle.chip.specs.declared.Frame.{Frame}

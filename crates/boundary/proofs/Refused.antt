@@ -9,16 +9,16 @@ use Rattle.part.specs.Part.{permitted}
 use Rattle.part.specs.Area.{longest_area}
 use Rattle.event.specs.declared.Answer.{Answer}
 use Rattle.event.specs.Alone as alone
-use Rattle.event.specs.Laws as alone-laws
+use Rattle.event.proofs.Laws as alone-laws
 use Rattle.script.specs.declared.Ran.{Ran}
 use Rattle.script.specs.Run as script
-use Rattle.script.specs.Laws as script-laws
+use Rattle.script.proofs.Laws as script-laws
 use Rattle.boundary.specs.declared.ChipNumbers.{ChipNumbers}
 use Rattle.boundary.specs.declared.EventNumbers.{EventNumbers}
 use Rattle.boundary.specs.declared.RunNumbers.{RunNumbers}
 use Rattle.boundary.specs.Numbers.{is_state, chip_of}
 use Rattle.boundary.specs.Answers.{no_state, refused_event, done_event, event_numbers, event_of, event_memory, refused_run, done_run, run_numbers, run_of, run_memory, run_output}
-use Rattle.boundary.specs.Laws.{event_no_state, event_state, event_refused, run_no_state, run_state, run_refused}
+use Rattle.boundary.proofs.Laws.{event_no_state, event_state, event_refused, run_no_state, run_state, run_refused}
 
 -- the number in an answer's numbers is the answer's
 event-number : (c : ChipNumbers) (a : Answer) → (event_numbers c a).refusal ≡ a.refusal

@@ -8,7 +8,7 @@ use native.Mathlib.Omega.{arith}
 use Rattle.std.proofs.Math.Decide.{dec_lt}
 use Rattle.cells.specs.Choice.{cond_yes, cond_no, cond_either}
 use Rattle.cells.specs.Cells.{Rule, sweep, later}
-use Rattle.cells.specs.Laws.{sweep-none, sweep-add, later-later, length-sweep}
+use Rattle.cells.proofs.Laws.{sweep-none, sweep-add, later-later, length-sweep}
 use Rattle.chip.specs.declared.Core.{Core}
 use Rattle.chip.specs.declared.Job.{Job}
 use Rattle.chip.specs.declared.JobKind.{JobKind}

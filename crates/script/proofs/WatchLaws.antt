@@ -22,18 +22,18 @@ use Rattle.chip.specs.declared.Record.TheVariants.{Nothing, Floating, Driven, Ve
 use Rattle.chip.specs.Job.{is_job, total}
 use Rattle.chip.specs.Chip.{whole, running}
 use Rattle.job.specs.Tick.{advanced, suspends, ended, tick_core, ticks_core, ticks_load, ticks_memory, worked}
-use Rattle.job.specs.Laws.{ticks-add, ticks_load-add, ticks_memory-add, worked-add, ticks-rest, worked-rest, ended-none}
+use Rattle.job.proofs.Laws.{ticks-add, ticks_load-add, ticks_memory-add, worked-add, ticks-rest, worked-rest, ended-none}
 use Rattle.margins.specs.declared.Allowances.{Allowances}
 use Rattle.margins.specs.declared.Report.{Report}
 use Rattle.event.specs.Event.{Outcome, applied, tick, sort_of}
 use Rattle.script.specs.declared.Watch.{Watch}
 use Rattle.script.specs.Script.{Event, event_at, events_from, is_stamp, clock_after, ticks_given, timed}
 use Rattle.script.specs.Run.{World, after, runs}
-use Rattle.script.specs.Jobs.{one_tick, tick_by_tick, Finished, Followed, nothing, follows, tick_more, is_two, stands, finished, jobs}
+use Rattle.script.specs.Jobs.{is_on, one_tick, tick_by_tick, Finished, Followed, nothing, follows, tick_more, is_two, stands, finished, jobs}
 use Rattle.script.specs.Report.{report_after}
 use Rattle.margins.specs.Margins.{allowance_of, margin, counted}
 use Rattle.script.specs.Watch.{ticking, ticks_of, clock_by, watch, after_event, after_ticks}
-use Rattle.script.specs.Laws.{timed-more, given-itself, clock_stays, runs-more, runs-stamp}
+use Rattle.script.proofs.Laws.{timed-more, given-itself, clock_stays, runs-more, runs-stamp}
 
 one_more : (n : ℕ) → suc n ≡ 1 + n
 one_more n = omega arith
@@ -341,10 +341,6 @@ module _ (T : Setting) (at : ℕ) (es : List Event) where
 -- ---- the watch
 
 -- what the code keeps of what is followed
-abbrev pub is_on : Followed → Bool
-is_on nothing = false
-is_on (follows begin used working suspended) = true
-
 abbrev pub used_by : Followed → ℕ
 used_by nothing = 0
 used_by (follows begin used working suspended) = used

@@ -14,7 +14,7 @@ use Rattle.commands.specs.Table.{row_in, row_of, is_read, is_program, low_power_
 use Rattle.kinds.specs.Kinds.{kind_row, kind_row_in}
 use Rattle.kinds.specs.Body.{body_at, next_at}
 use Rattle.kinds.specs.Row.{exchanges_from}
-use Rattle.kinds.specs.RowLaws.{row-each, row-part, row_inside}
+use Rattle.kinds.proofs.RowLaws.{row-each, row-part, row_inside}
 use Rattle.chip.specs.declared.Chip.{Chip}
 use Rattle.chip.specs.declared.Core.{Core}
 use Rattle.chip.specs.declared.Frame.{Frame}
@@ -26,13 +26,13 @@ use Rattle.frame.specs.Frame.{judge, counted, shifted, opened, exchange, taken, 
 use Rattle.frame.specs.Laws.{exchanged_opcode}
 use Rattle.frame.specs.Stream.{streams, read_on, cells_on}
 use Rattle.frame.specs.RowLaws.{cells-length}
-use Rattle.event.specs.Laws.{deselect-read, applied-deselect}
+use Rattle.event.proofs.Laws.{deselect-read, applied-deselect}
 use Rattle.script.specs.Script.{events_from, room}
 use Rattle.script.specs.Watch.{ticking}
-use Rattle.script.specs.Laws.{deselect-next}
+use Rattle.script.proofs.Laws.{deselect-next}
 use Rattle.script.specs.Heard.{Heard, Went, Reading, none, some, header_of, first_cell, WholeRead, can_read, floats, frame_records}
-use Rattle.script.specs.HeardLaws.{heard-then, heard_event, heard-select, heard-exchange}
-use Rattle.script.specs.RowLaws.{Bytes, heard_row}
+use Rattle.script.proofs.HeardLaws.{heard-then, heard_event, heard-select, heard-exchange}
+use Rattle.script.proofs.RowLaws.{Bytes, heard_row}
 
 -- ---- the header
 

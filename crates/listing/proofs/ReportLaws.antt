@@ -9,10 +9,10 @@ use Rattle.script.specs.declared.Ran.{Ran}
 use Rattle.clock.specs.Clock.{unset}
 use Rattle.script.specs.Script.{events, played}
 use Rattle.script.specs.Run.{world, refusal, world_after, answer_of, output_of}
-use Rattle.script.specs.Laws.{answer_number, output_done}
+use Rattle.script.proofs.Laws.{answer_number, output_done}
 use Rattle.listing.specs.Text.{part_line, done_line, too_long}
 use Rattle.listing.specs.Output.{read_lines}
-use Rattle.listing.specs.OutputLaws.{read-lines, read-timed}
+use Rattle.listing.proofs.OutputLaws.{read-lines, read-timed}
 use Rattle.listing.specs.Report.{lines_of, answer_text, program_area, run_text, longest_script, output_room, report_of}
 
 -- ---- the lines of a run

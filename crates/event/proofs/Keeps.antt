@@ -8,12 +8,12 @@ use Rattle.chip.specs.declared.Chip.{Chip}
 use Rattle.chip.specs.declared.Core.{Core}
 use Rattle.chip.specs.declared.Frame.{Frame}
 use Rattle.chip.specs.Chip.{status_byte}
-use Rattle.job.specs.Laws.{length-ticks}
+use Rattle.job.proofs.Laws.{length-ticks}
 use Rattle.verdict.specs.Verdict.{verdict}
 use Rattle.verdict.specs.Effect.{settled}
-use Rattle.verdict.specs.Laws.{acted-nothing}
+use Rattle.verdict.proofs.Laws.{acted-nothing}
 use Rattle.event.specs.Event.{Outcome, deselect, applied}
-use Rattle.event.specs.Laws.{applied-each}
+use Rattle.event.proofs.Laws.{applied-each}
 
 -- a deselect has the memory as it was, and no working tick
 deselect-still : (T : Setting) (c : Chip) (m : List ℕ) (loose : Bool) → ((deselect T c m loose).memory ≡ m) × ((deselect T c m loose).ticks ≡ 0)

@@ -8,9 +8,9 @@ use Rattle.chip.specs.declared.Core.{Core}
 use Rattle.chip.specs.declared.JobKind.{JobKind}
 use Rattle.chip.specs.Job.{is_job, has_cells, total}
 use Rattle.chip.specs.Chip.{with_bits, running}
-use Rattle.legal.specs.Legality.{LegalCore, idle-legal}
+use Rattle.legal.proofs.Legality.{LegalCore, idle-legal}
 use Rattle.job.specs.Tick.{advanced, suspends, moved_on, gone, ended_as, tick_core, ticks_core}
-use Rattle.job.specs.Laws.{tick-rests, tick-moves, tick-ends, ended-each}
+use Rattle.job.proofs.Laws.{tick-rests, tick-moves, tick-ends, ended-each}
 
 -- a running job is a job, and not suspended
 pub running-job : (k : Core) → running k ≡ true → is_job k.job.kind ≡ true

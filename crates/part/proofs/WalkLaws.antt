@@ -10,7 +10,7 @@ use Rattle.cells.specs.Choice.{cond_yes, cond_no, and_both}
 use Rattle.part.specs.declared.Protected.{Protected}
 use Rattle.part.specs.declared.Protected.TheVariants.{Sectors}
 use Rattle.part.specs.Protection.{protected_count, first_end, last_end, protected_sectors, protects, is_protected}
-use Rattle.part.specs.Laws.{protected_count-le, no_ends, two_ends}
+use Rattle.part.proofs.Laws.{protected_count-le, no_ends, two_ends}
 use Rattle.part.specs.Walk.{sectors_from, asks_for, take_last, taken_sectors, walk, protected_by_walk, last_of, ends_of}
 
 -- ---- the taken sectors are a row: so many from the first end on

@@ -5,18 +5,18 @@ use Rattle.std.proofs.Math.Path.{refl}
 use Rattle.std.proofs.Common.{sym, subst, arith}
 use Rattle.cells.specs.Choice.{cond_either}
 use Rattle.part.specs.Part.{sectors_in, Setting}
-use Rattle.part.specs.Laws.{permitted-some}
+use Rattle.part.proofs.Laws.{permitted-some}
 use Rattle.chip.specs.declared.Chip.{Chip}
 use Rattle.chip.specs.declared.Frame.{Frame}
 use Rattle.chip.specs.Fields.{with_selected, with_wp}
 use Rattle.legal.specs.Legal.{legal, is_empty, is_blank, tidy}
-use Rattle.legal.specs.Legality.{LegalCore, LegalFrame, LegalChip, chip-facts, chip-legal, idle-legal, empty_legal, empty_tidy}
-use Rattle.job.specs.Legality.{ticks-legal}
+use Rattle.legal.proofs.Legality.{LegalCore, LegalFrame, LegalChip, chip-facts, chip-legal, idle-legal, empty_legal, empty_tidy}
+use Rattle.job.proofs.Legality.{ticks-legal}
 use Rattle.frame.specs.Frame.{exchanged}
 use Rattle.frame.specs.Legality.{LegalExchange, exchange-legal}
-use Rattle.verdict.specs.Legality.{settled_legal}
+use Rattle.verdict.proofs.Legality.{settled_legal}
 use Rattle.event.specs.Event.{Outcome, powered_up, deselect, tick, applied}
-use Rattle.event.specs.Laws.{applied-each}
+use Rattle.event.proofs.Laws.{applied-each}
 
 -- a chip that is legal on a part of S sectors
 record LegalOn (S : ℕ) (c : Chip) : Type 0 where

@@ -13,7 +13,7 @@ use Rattle.part.specs.Part.{permitted, sectors_in, Setting, setting}
 use Rattle.part.specs.Area.{longest_area}
 use Rattle.kinds.specs.Kinds.{SELECT, EXCHANGE, DESELECT, TICKS, STAMP, kind_row_in, kind_row, known_in_script, body_length, in_range, room_of}
 use Rattle.kinds.specs.Body.{body_at, next_at}
-use Rattle.kinds.specs.Laws.{body_one, exchange-range, stamp-range}
+use Rattle.kinds.proofs.Laws.{body_one, exchange-range, stamp-range}
 use Rattle.clock.specs.declared.Clock.{Clock}
 use Rattle.clock.specs.Clock.{unset, moved_on, went_back}
 use Rattle.chip.specs.declared.Chip.{Chip}
@@ -23,7 +23,7 @@ use Rattle.chip.specs.Record.{record_bytes}
 use Rattle.script.specs.declared.Ran.{Ran}
 use Rattle.job.specs.Tick.{ticks_core, ticks_load, ticks_memory, worked}
 use Rattle.event.specs.Event.{tick, applied}
-use Rattle.script.specs.Script.{Event, fault_at, event_at, walk, events_from, events, is_stamp, clock_after, clock_over, ticks_given, given, timed, played, Refusal, refusal_of, fault_by, first_bad, room}
+use Rattle.script.specs.Script.{Event, Good, fault_at, event_at, walk, events_from, events, is_stamp, clock_after, clock_over, ticks_given, given, timed, played, Refusal, refusal_of, fault_by, first_bad, room}
 use Rattle.script.specs.Run.{World, world, after, onward, Stored, runs, Playable, refusal, world_after, refused, done, answer_of, memory_of, output_of}
 
 -- ---- a script, event by event
@@ -90,12 +90,6 @@ clean-event k e = go (eqb e.fault 0) (is_stamp e && went_back k e.body) refl ref
 
 pub clean-as : (k : Clock) (e : Event) → Clean k e → fault_by k e ≡ 0
 clean-as k e c = cond_yes (eqb e.fault 0) _ _ (eq-eqb _ _ c.as_written) ∙ cond_no (is_stamp e && went_back k e.body) _ _ c.forward
-
--- what no fault as it is written says: a kind that a script has, all of the body, and in its range
-pub record Good (s : List ℕ) (at : ℕ) : Type 0 where
-  pub known : known_in_script (get_or s at 0) ≡ true
-  pub inside : next_at s at ≤ length s
-  pub ranged : in_range (get_or s at 0) (body_at s at) ≡ true
 
 pub good_event : (s : List ℕ) (at : ℕ) → fault_at s at ≡ 0 → Good s at
 unfolding fault_at

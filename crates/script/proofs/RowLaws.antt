@@ -10,7 +10,7 @@ use Rattle.part.specs.Part.{Setting, length_of}
 use Rattle.commands.specs.Table.{is_program}
 use Rattle.kinds.specs.Kinds.{EXCHANGE, room_of, kind_row, kind_row_in}
 use Rattle.kinds.specs.Row.{exchanges_from}
-use Rattle.kinds.specs.RowLaws.{row_more, row-each, row_inside}
+use Rattle.kinds.proofs.RowLaws.{row_more, row-each, row_inside}
 use Rattle.clock.specs.declared.Clock.{Clock}
 use Rattle.chip.specs.declared.Chip.{Chip}
 use Rattle.chip.specs.declared.Frame.{Frame}
@@ -20,9 +20,9 @@ use Rattle.frame.specs.Stream.{streams, place_on, count_on, read_on, slot_on, lo
 use Rattle.frame.specs.StreamLaws.{streamed_load, streamed_cell, exchanged_stream}
 use Rattle.frame.specs.RowLaws.{streams-on, loads_on, stream_cell}
 use Rattle.script.specs.Script.{events_from, first_bad, room}
-use Rattle.script.specs.Laws.{first_bad-later, exchange-good, exchange-clock, exchange-next, exchange-room}
+use Rattle.script.proofs.Laws.{first_bad-later, exchange-good, exchange-clock, exchange-next, exchange-room}
 use Rattle.script.specs.Heard.{Heard, floats, loaded_on}
-use Rattle.script.specs.HeardLaws.{heard-none, heard-then, heard-exchange}
+use Rattle.script.proofs.HeardLaws.{heard-none, heard-then, heard-exchange}
 
 -- every byte of a script is one
 abbrev pub Bytes : List ℕ → Type 0

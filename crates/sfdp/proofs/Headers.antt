@@ -2,12 +2,12 @@
 use Rattle.std.specs.Prelude.{ℕ, zero, suc, ◌+◌, ◌≤◌, ◌<◌, true, false, not, ◌||◌, List, [], ◌∷◌, ◌≡◌, ◌↔◌, ◌⊎◌, eqb, ltb, length, get_or, take}
 use Rattle.std.proofs.Math.Path.{refl}
 use Rattle.std.proofs.Common.{sym, ap, subst, ◌∙◌, ⊎_elim, arith, length-take, get_or-take, eq-eqb, ne_eqb, eqb-true, ltb-false, le-ltb}
-use Rattle.std.proofs.Math.Logic.{Iff·trans}
+use Rattle.std.proofs.Math.Logic.Iff
 use Rattle.std.proofs.Math.Decide.{ℕ_discrete}
 use Rattle.std.proofs.lemmas.Bool.{eqb-false, not-false}
 use Rattle.cells.specs.Choice.{cond_either, and_four, four_and, either_false, Decides, decides_less, decides_absent, chain_tests, chain_last, flat_three, flat_four}
 use Rattle.sfdp.specs.Reader.{signed, header_count, header_at, identity_at, table_length, table_place, first_from, header_of, refusal, found, found_of}
-use Rattle.sfdp.specs.Laws.{first_within, found-done}
+use Rattle.sfdp.proofs.Laws.{first_within, found-done}
 
 -- ---- the header that counts
 
@@ -188,10 +188,10 @@ module _ (area : List ℕ) (identity : ℕ) where
       record {
         thirteen = lines.exactly 13;
         fourteen = lines.exactly 14;
-        fifteen = Iff·trans (lines.exactly 15) flat_three;
-        sixteen = Iff·trans (lines.exactly 16) flat_four;
-        seventeen = Iff·trans (lines.exactly 17) (gates points_past);
-        none = Iff·trans (lines.exactly 0) (gates points_inside);
+        fifteen = Iff.trans (lines.exactly 15) flat_three;
+        sixteen = Iff.trans (lines.exactly 16) flat_four;
+        seventeen = Iff.trans (lines.exactly 17) (gates points_past);
+        none = Iff.trans (lines.exactly 0) (gates points_inside);
       }
 
 -- ---- what follows

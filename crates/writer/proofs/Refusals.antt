@@ -1,7 +1,7 @@
 -- Which number refuses the writer, each exactly when the table of refusals has it, and what is left then (RULES, The script writer; Refusals).
 use Rattle.std.specs.Prelude.{ℕ, ◌+◌, ◌<◌, ◌≤◌, true, false, List, ◌++◌, ◌≡◌, ◌↔◌, length, drop}
 use Rattle.std.proofs.Math.Path.{refl}
-use Rattle.std.proofs.Math.Logic.{Iff·trans}
+use Rattle.std.proofs.Math.Logic.Iff
 use Rattle.std.proofs.Common.{eq-eqb, ne_eqb}
 use Rattle.cells.specs.Choice.{cond_yes, cond_no, chosen_number, decides_not, decides_less, decides_most, chain_tests, chain_last, flat_three, flat_four, flat_five}
 use Rattle.part.specs.Part.{permitted}
@@ -25,10 +25,10 @@ refused-when n A bs space =
     record {
       one = lines.exactly 1;
       twenty = lines.exactly 20;
-      twenty_one = Iff·trans (lines.exactly 21) flat_three;
-      twenty_two = Iff·trans (lines.exactly 22) flat_four;
-      twenty_three = Iff·trans (lines.exactly 23) flat_five;
-      none = Iff·trans (lines.exactly 0) flat_five;
+      twenty_one = Iff.trans (lines.exactly 21) flat_three;
+      twenty_two = Iff.trans (lines.exactly 22) flat_four;
+      twenty_three = Iff.trans (lines.exactly 23) flat_five;
+      none = Iff.trans (lines.exactly 0) flat_five;
     }
 
 -- ---- the answer

@@ -17,15 +17,15 @@ use Rattle.chip.specs.Fields.{with_done}
 use Rattle.chip.specs.Job.{is_job, no_job}
 use Rattle.chip.specs.Chip.{blank_load, fresh, running, NoLeftovers}
 use Rattle.legal.specs.Legal.{legal, judgement_known}
-use Rattle.legal.specs.Legality.{chip-facts}
+use Rattle.legal.proofs.Legality.{chip-facts}
 use Rattle.job.specs.Tick.{ticks_core, ticks_load, ticks_left}
-use Rattle.job.specs.Laws.{Stop, pauses, ends, stop-of, ticks-rest, ticks_load-rest, ticks_go, ticks_load_go, ticks_pause, ticks_load_pause, ticks_end, ticks_load_end, ended-none}
-use Rattle.job.specs.Legality.{running-job}
+use Rattle.job.proofs.Laws.{Stop, pauses, ends, stop-of, ticks-rest, ticks_load-rest, ticks_go, ticks_load_go, ticks_pause, ticks_load_pause, ticks_end, ticks_load_end, ended-none}
+use Rattle.job.proofs.Legality.{running-job}
 use Rattle.verdict.specs.Verdict.{job_of, job_asked, verdict}
 use Rattle.verdict.specs.Effect.{instantly, acted, settled, held_after}
-use Rattle.verdict.specs.Laws.{Begins, verdict_two, settled_same, held_begun, held_reset, held_stays}
+use Rattle.verdict.proofs.Laws.{Begins, verdict_two, settled_same, held_begun, held_reset, held_stays}
 use Rattle.event.specs.Event.{Outcome, deselect, applied}
-use Rattle.event.specs.Laws.{applied-each}
+use Rattle.event.proofs.Laws.{applied-each}
 
 -- What an event does to the job and its load: both stay; both are gone; the job moves on with its load; or another begins, and holds a load only if it is a program.
 pub data Fate (j : Job) (held : List ℕ) : Job → List ℕ → Type 0 where

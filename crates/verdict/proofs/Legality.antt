@@ -16,11 +16,11 @@ use Rattle.chip.specs.Fields.{with_wen, with_suspended, with_waiting, with_deep,
 use Rattle.chip.specs.Job.{is_job, has_cells, total}
 use Rattle.chip.specs.Chip.{running, suspendable}
 use Rattle.legal.specs.Legal.{placed, aligned_to, judgement_known}
-use Rattle.legal.specs.Legality.{LegalCore, idle-legal}
+use Rattle.legal.proofs.Legality.{LegalCore, idle-legal}
 use Rattle.frame.specs.Laws.{Allowed, allowed}
 use Rattle.verdict.specs.Verdict.{job_of, start_of, pointless, verdict}
 use Rattle.verdict.specs.Effect.{begins, resets, instantly, acted, settled}
-use Rattle.verdict.specs.Laws.{Begins, ActsAtOnce, verdict_one, verdict_two, acted-nothing, instantly-each}
+use Rattle.verdict.proofs.Laws.{Begins, ActsAtOnce, verdict_one, verdict_two, acted-nothing, instantly-each}
 
 -- ---- a job that begins
 

@@ -1,0 +1,5 @@
+pub mod Laws
+pub mod Legality
+pub mod Keeps
+pub mod Said
+pub mod Leftovers

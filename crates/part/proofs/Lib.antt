@@ -1,0 +1,3 @@
+pub mod Laws
+pub mod WalkLaws
+pub mod Examples

@@ -1,0 +1,4 @@
+pub mod Laws
+pub mod Headers
+pub mod Unique
+pub mod Examples
