@@ -23,7 +23,7 @@ use script::Ran;
 
 // The flags of a chip: 1 for true, 0 for false.
 #[repr(C)]
-#[derive(Drop)]
+#[derive(Clone, Copy)]
 pub struct FlagNumbers {
     pub tb: u8,
     pub srwp: u8,
@@ -39,7 +39,7 @@ pub struct FlagNumbers {
 // A chip: `kind`, `value`, `start` and `done` are its job, `place` is the read place and `slot` the load place of its frame.
 // Kinds: 0 no job, 1 write status of `value`, 2 program, 3 small sector erase, 4 sector erase, 5 chip erase.
 #[repr(C)]
-#[derive(Drop)]
+#[derive(Clone, Copy)]
 pub struct ChipNumbers {
     pub flags: FlagNumbers,
     pub level: u8,
@@ -59,7 +59,7 @@ pub struct ChipNumbers {
 
 // The answer to one event: the first `size` of `bytes` are its record, as a run writes it; the others are 0.
 #[repr(C)]
-#[derive(Drop)]
+#[derive(Clone, Copy)]
 pub struct EventNumbers {
     pub chip: ChipNumbers,
     pub refusal: u8,
@@ -70,7 +70,7 @@ pub struct EventNumbers {
 
 // The answer to a script run.
 #[repr(C)]
-#[derive(Drop)]
+#[derive(Clone, Copy)]
 pub struct RunNumbers {
     pub chip: ChipNumbers,
     pub refusal: u8,
@@ -81,7 +81,7 @@ pub struct RunNumbers {
 
 // The answer to a script run with a margin report, and the report afterwards.
 #[repr(C)]
-#[derive(Drop)]
+#[derive(Clone, Copy)]
 pub struct ReportedNumbers {
     pub run: RunNumbers,
     pub report: Report,
@@ -89,7 +89,7 @@ pub struct ReportedNumbers {
 
 // Where a parameter table stands in an SFDP area: its place and its length in bytes, both 0 if refused.
 #[repr(C)]
-#[derive(Drop)]
+#[derive(Clone, Copy)]
 pub struct TableNumbers {
     pub refusal: u8,
     pub place: usize,
@@ -98,14 +98,14 @@ pub struct TableNumbers {
 
 // The part's own SFDP area.
 #[repr(C)]
-#[derive(Drop)]
+#[derive(Clone, Copy)]
 pub struct AreaNumbers {
     pub bytes: [u8; 208],
 }
 
 // The answer of the script writer: what refuses it, and how many bytes of the output are the script.
 #[repr(C)]
-#[derive(Drop)]
+#[derive(Clone, Copy)]
 pub struct WrittenNumbers {
     pub refusal: u8,
     pub written: usize,

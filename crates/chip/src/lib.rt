@@ -7,7 +7,7 @@ ghost use Rattle.chip.specs.Chip.{fresh, empty_frame, with_bits, running, suspen
 ghost use Rattle.chip.specs.Record.{record_bytes, longest_record};
 
 // What a job does; a write status job holds the byte that it will set.
-#[derive(Drop)]
+#[derive(Clone, Copy)]
 pub enum JobKind {
     Idle,
     WriteStatus(u8),
@@ -18,7 +18,7 @@ pub enum JobKind {
 }
 
 // The one job: its kind, its start, which is the first cell of its range, and its steps done.
-#[derive(Drop)]
+#[derive(Clone, Copy)]
 pub struct Job {
     pub kind: JobKind,
     pub start: u32,
@@ -26,7 +26,7 @@ pub struct Job {
 }
 
 // All of the state but the frame and the two loads; `waiting` marks an accepted suspend whose tick has not come.
-#[derive(Drop)]
+#[derive(Clone, Copy)]
 pub struct Core {
     pub level: u8,
     pub tb: bool,
@@ -41,7 +41,7 @@ pub struct Core {
 }
 
 // The frame on the wire: `place` is the read place, `slot` the load place, `count` the whole bytes so far (6 meaning six or more), and `judgement` 0 for none.
-#[derive(Drop)]
+#[derive(Clone, Copy)]
 pub struct Frame {
     pub selected: bool,
     pub opcode: u8,
@@ -53,7 +53,7 @@ pub struct Frame {
 }
 
 // The chip: `load` is the frame's load, `held` the load that a program job holds.
-#[derive(Drop)]
+#[derive(Clone, Copy)]
 pub struct Chip {
     pub core: Core,
     pub frame: Frame,
@@ -66,7 +66,7 @@ pub const LONGEST_RECORD: usize = 3;
 
 // What an event says: nothing, the line left floating, the byte driven, or the verdict; verdict 9 is
 // said by the first and the last protected sector, which were in the way.
-#[derive(Drop)]
+#[derive(Clone, Copy)]
 pub enum Record {
     Nothing,
     Floating,

@@ -5,7 +5,7 @@ ghost use Rattle.std.specs.Prelude.{◌≡◌, ◌≤◌};
 ghost use Rattle.clock.specs.Clock.{moved_on, went_back};
 
 // The clock: whether there was a stamp yet, and the last one.
-#[derive(Drop)]
+#[derive(Clone, Copy)]
 pub struct Clock {
     pub set: bool,
     pub stamp: u16,

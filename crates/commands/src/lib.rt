@@ -5,11 +5,11 @@ ghost use Rattle.std.specs.Prelude.{◌≡◌, [], ◌<◌, length, get_or};
 ghost use Rattle.commands.specs.Table.{rows, row_of, fits_rule, is_read, is_program};
 
 // The opcodes are constants of this type; it holds nothing.
-#[derive(Drop)]
+#[derive(Clone, Copy)]
 pub struct Command {}
 
 // What the table says of an opcode.
-#[derive(Drop)]
+#[derive(Clone, Copy)]
 pub struct Row {
     pub known: bool,
     pub rule: u8,

@@ -14,7 +14,7 @@ use kinds::Kind;
 use part::Part;
 
 // What an event leaves of the core and the frame, what it says, and its working ticks.
-#[derive(Drop)]
+#[derive(Clone, Copy)]
 pub struct Stepped {
     pub core: Core,
     pub frame: Frame,
@@ -23,7 +23,7 @@ pub struct Stepped {
 }
 
 // The answer to one event alone.
-#[derive(Drop)]
+#[derive(Clone, Copy)]
 pub struct Answer {
     pub chip: Chip,
     pub said: Record,

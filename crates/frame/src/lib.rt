@@ -12,7 +12,7 @@ use commands::Command;
 use part::Part;
 
 // What an exchange says, and the frame that it leaves.
-#[derive(Drop)]
+#[derive(Clone, Copy)]
 pub struct Exchanged {
     pub said: Record,
     pub frame: Frame,

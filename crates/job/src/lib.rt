@@ -10,7 +10,7 @@ ghost use Rattle.job.specs.Tick.{advanced, suspends, gone, ended_as, TicksAnswer
 use chip::{Core, Job, JobKind};
 
 // What ticks leave of the core, and how many of them worked.
-#[derive(Drop)]
+#[derive(Clone, Copy)]
 pub struct Ticked {
     pub core: Core,
     pub worked: u32,

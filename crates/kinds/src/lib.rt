@@ -7,7 +7,7 @@ ghost use Rattle.kinds.specs.Body.{body_at, step_to};
 ghost use Rattle.kinds.specs.Row.{exchanges_from};
 
 // The kinds are constants of this type; it holds nothing.
-#[derive(Drop)]
+#[derive(Clone, Copy)]
 pub struct Kind {}
 
 impl Kind {

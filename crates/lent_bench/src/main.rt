@@ -6,7 +6,7 @@ use chip::{Chip, Core, Frame, JobKind, Record};
 use event::Answer;
 
 // The two chips; whether all answers were the same so far; and what the last event said, as a number.
-#[derive(Drop)]
+#[derive(Clone, Copy)]
 struct Pair {
     lent: Chip,
     given: Chip,

@@ -8,7 +8,7 @@ use chip::JobKind;
 
 // A kind's jobs so far: how many, and the smallest and the largest of their margins.
 #[repr(C)]
-#[derive(Drop)]
+#[derive(Clone, Copy)]
 pub struct Line {
     pub count: u32,
     pub smallest: i32,
@@ -17,7 +17,7 @@ pub struct Line {
 
 // A line for each kind of job.
 #[repr(C)]
-#[derive(Drop)]
+#[derive(Clone, Copy)]
 pub struct Report {
     pub status: Line,
     pub program: Line,
@@ -28,7 +28,7 @@ pub struct Report {
 
 // How many ticks a job of each kind may use.
 #[repr(C)]
-#[derive(Drop)]
+#[derive(Clone, Copy)]
 pub struct Allowances {
     pub status: u32,
     pub program: u32,

@@ -9,20 +9,20 @@ ghost use Rattle.part.specs.Protection.{protected_count, protected_sectors, prot
 mod sfdp;
 
 // An SFDP area of the part's own length.
-#[derive(Drop)]
+#[derive(Clone, Copy)]
 pub struct OwnArea {
     pub bytes: [u8; 208],
 }
 
 // Which sectors are protected: none, or all from the first to the last.
-#[derive(Drop)]
+#[derive(Clone, Copy)]
 pub enum Protected {
     NoSector,
     Sectors(u8, u8),
 }
 
 // The part's own numbers are constants of this type; it holds nothing.
-#[derive(Drop)]
+#[derive(Clone, Copy)]
 pub struct Part {}
 
 impl Part {

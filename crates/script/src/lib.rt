@@ -37,7 +37,7 @@ const VERDICT: u8 = 0x82;
 const IN_THE_WAY: u8 = 0x83;
 
 // The answer to a script run.
-#[derive(Drop)]
+#[derive(Clone, Copy)]
 pub struct Ran {
     pub chip: Chip,
     pub refusal: u8,
@@ -47,14 +47,14 @@ pub struct Ran {
 }
 
 // The answer to a script run with a margin report, and the report afterwards.
-#[derive(Drop)]
+#[derive(Clone, Copy)]
 pub struct Reported {
     pub ran: Ran,
     pub report: Report,
 }
 
 // What is watched for the report: whether one is wanted at all, whether a job is followed, the ticks that it used so far, and the report so far.
-#[derive(Drop)]
+#[derive(Clone, Copy)]
 struct Watch {
     wanted: bool,
     on: bool,
@@ -63,7 +63,7 @@ struct Watch {
 }
 
 // What a script that is played ends with, but for the two loads of the chip, which are lent.
-#[derive(Drop)]
+#[derive(Clone, Copy)]
 struct Ended {
     core: Core,
     frame: Frame,
@@ -73,14 +73,14 @@ struct Ended {
 }
 
 // A refusal's number, 0 for none, and its offset.
-#[derive(Drop)]
+#[derive(Clone, Copy)]
 struct Refused {
     number: u8,
     offset: usize,
 }
 
 // What a look through a script finds: the first bad event, the room that its records need, and the longest row of exchanges.
-#[derive(Drop)]
+#[derive(Clone, Copy)]
 struct Scanned {
     bad: Refused,
     room: usize,
@@ -88,7 +88,7 @@ struct Scanned {
 }
 
 // What a look at all that is lent finds: a refusal, and the longest row of exchanges.
-#[derive(Drop)]
+#[derive(Clone, Copy)]
 struct Checked {
     no: Refused,
     longest: Row,

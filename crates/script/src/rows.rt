@@ -16,14 +16,14 @@ use commands::Command;
 use kinds::Kind;
 
 // A row of exchanges in a script: where it starts, and how many there are.
-#[derive(Drop)]
+#[derive(Clone, Copy)]
 pub struct Row {
     pub at: usize,
     pub count: usize,
 }
 
 // Where a stretch has led: the frame, and where script and output go on.
-#[derive(Drop)]
+#[derive(Clone, Copy)]
 pub struct Onward {
     pub frame: Frame,
     pub at: usize,
@@ -31,14 +31,14 @@ pub struct Onward {
 }
 
 // The same without a frame.
-#[derive(Drop)]
+#[derive(Clone, Copy)]
 struct Place {
     at: usize,
     pos: usize,
 }
 
 // A whole frame of a read: the bytes of its header, and all its exchanges; 0 of these for no such frame.
-#[derive(Drop)]
+#[derive(Clone, Copy)]
 struct WholeFrame {
     header: usize,
     count: usize,

@@ -7,7 +7,7 @@ ghost use Rattle.sfdp.specs.Reader.{signed, header_count, header_at, table_lengt
 use part::Part;
 
 // The number that refuses, 0 for none, and a table's place and length in bytes, both 0 if refused.
-#[derive(Drop)]
+#[derive(Clone, Copy)]
 pub struct Found {
     pub refusal: u8,
     pub place: usize,

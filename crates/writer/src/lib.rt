@@ -19,7 +19,7 @@ pub const LONGEST_SCRIPT: usize = 8515;
 const PROGRAM_TICKS: u16 = 16;
 
 // The answer of the writer: what refuses it, 0 for nothing, and how many bytes of the output are the script.
-#[derive(Drop)]
+#[derive(Clone, Copy)]
 pub struct Written {
     pub refusal: u8,
     pub written: usize,
