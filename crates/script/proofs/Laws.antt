@@ -11,7 +11,7 @@ use Rattle.cells.specs.Put.{Put}
 use Rattle.cells.specs.PutLaws.{put_between}
 use Rattle.part.specs.Part.{permitted, sectors_in, Setting, setting}
 use Rattle.part.specs.Area.{longest_area}
-use Rattle.kinds.specs.Kinds.{SELECT, EXCHANGE, DESELECT, TICKS, STAMP, kind_row_in, kind_row, known_in_script, body_length, in_range, room_of}
+use Rattle.kinds.specs.Kinds.{SELECT, EXCHANGE, DESELECT, STAMP, kind_row_in, kind_row, known_in_script, body_length, in_range, room_of}
 use Rattle.kinds.specs.Body.{body_at, next_at}
 use Rattle.kinds.proofs.Laws.{body_one, exchange-range, stamp-range}
 use Rattle.clock.specs.declared.Clock.{Clock}

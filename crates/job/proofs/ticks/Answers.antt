@@ -1,6 +1,6 @@
 -- `job::ticks` meets its contract. No job running: nothing happens. Fewer ticks than find it running: that many steps. Otherwise all of those, and then it is suspended,
 -- if a step is left, or ended; the four answers are laws (`answer_rests`, `answer_goes`, `answer_pauses`, `answer_ends`).
-use Rattle.std.proofs.Common.{ℕ, ◌<◌, ◌≤◌, true, false, cond, arith, ◌≡◌, sym, ap, ◌∙◌}
+use Rattle.std.proofs.Common.{ℕ, ◌<◌, ◌≤◌, true, cond, arith, ◌≡◌, sym, ap, ◌∙◌}
 use Rattle.chip.specs.Chip.{running}
 use Rattle.job.specs.Tick.{suspends, steps_left, ticks_left}
 use Rattle.job.proofs.Laws.{answer_rests, answer_goes, answer_pauses, answer_ends}

@@ -20,13 +20,15 @@ overflow_sub-last-else-tb-2 c = omega (arith, c.if-count-eq0.false, c.protected_
 pub returns-then-tb-2 : goal.returns-then-tb-2
 unfolding protected_sectors
 returns-then-tb-2 c =
-    elim c.if-tb.branch
-    [ then-tb w ↦ rw (w.first-is, ← c.protected_count-count.ensures, ne_eqb _ _ c.if-count-eq0.false, c.if-tb-2.true)
-    | else-tb w ↦ absurd (true≢false (sym c.if-tb-2.true ∙ w.if-tb.false)) ]
+    elim c.if-tb.branch [
+      | then-tb w ↦ rw (w.first-is, ← c.protected_count-count.ensures, ne_eqb _ _ c.if-count-eq0.false, c.if-tb-2.true)
+      | else-tb w ↦ absurd (true≢false (sym c.if-tb-2.true ∙ w.if-tb.false))
+    ]
 
 pub returns-else-tb-2 : goal.returns-else-tb-2
 unfolding protected_sectors
 returns-else-tb-2 c =
-    elim c.if-tb.branch
-    [ then-tb w ↦ absurd (false≢true (sym c.if-tb-2.false ∙ w.if-tb.true))
-    | else-tb w ↦ rw (w.first-is, ← c.protected_count-count.ensures, ne_eqb _ _ c.if-count-eq0.false, c.if-tb-2.false) ]
+    elim c.if-tb.branch [
+      | then-tb w ↦ absurd (false≢true (sym c.if-tb-2.false ∙ w.if-tb.true))
+      | else-tb w ↦ rw (w.first-is, ← c.protected_count-count.ensures, ne_eqb _ _ c.if-count-eq0.false, c.if-tb-2.false)
+    ]

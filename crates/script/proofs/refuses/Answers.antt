@@ -1,6 +1,5 @@
 -- `script::refuses` meets its contract. One test after the other, in the order of the definition; the longest row is the scan's.
 use Rattle.std.proofs.Common.{◌≡◌, sym, ◌∙◌, ap, true, false, ◌<◌, ◌≤◌, arith}
-use borrow.Author.Tests.{not-true, not-false}
 use Rattle.part.specs.Part.{permitted}
 use Rattle.part.proofs.Laws.{no_sectors, some-sectors}
 use Rattle.legal.specs.Legal.{legal}

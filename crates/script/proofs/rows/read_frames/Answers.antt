@@ -1,4 +1,4 @@
-use Rattle.std.proofs.Common.{true, [], ◌∙◌, arith}
+use Rattle.std.proofs.Common.{[], ◌∙◌, arith}
 use Rattle.cells.specs.PutLaws.{put_length}
 use Rattle.part.specs.Part.{setting}
 use Rattle.script.specs.Heard.{some}
