@@ -1,7 +1,10 @@
 // Runs a script from standard input on a blank one-sector part, and prints its records and its answer.
 #![tactic(auto)]
 
-use libc::{STDIN_FILENO, STDOUT_FILENO};
+// The file descriptors of standard input and standard output.
+const STDIN_FILENO: i32 = 0;
+
+const STDOUT_FILENO: i32 = 1;
 
 fn main() {
     let mut script = [0u8; listing::LONGEST + 1];
