@@ -19,19 +19,19 @@ put-requires-in-Floating c = room-then _ c.put_number-word.ensures (rw c.in-Floa
 
 pub put-requires-in-Driven : goal.put-requires-in-Driven
 unfolding line_of
-put-requires-in-Driven c = room-then _ c.put_number-word.ensures (rw c.said-1.given.1 at c.requires)
+put-requires-in-Driven c = room-then _ c.put_number-word.ensures (rw c.in-Driven.is at c.requires)
 
 pub put_number-requires : goal.put_number-requires
 unfolding line_of
-put_number-requires c = room-then _ c.put_number-word.ensures (rw c.said-in-Verdict-1.given.1 at c.requires)
+put_number-requires c = room-then _ c.put_number-word.ensures (rw c.in-Verdict.is at c.requires)
 
 pub put_number-end-requires : goal.put_number-end-requires
 put_number-end-requires c =
-    simp length-append (omega (arith, simp length-append at (room-then _ c.put_number-word.ensures (rw (ap (line_of c.args.offset) c.said-in-InTheWay-1.given.1 ∙ line-nine _ _ _) at c.requires))))
+    simp length-append (omega (arith, simp length-append at (room-then _ c.put_number-word.ensures (rw (ap (line_of c.args.offset) c.in-InTheWay.is ∙ line-nine _ _ _) at c.requires))))
 
 pub put_number-requires-in-InTheWay : goal.put_number-requires-in-InTheWay
 put_number-requires-in-InTheWay c =
-    room-then _ c.put_number-end.ensures (room-then _ c.put_number-word.ensures (rw (ap (line_of c.args.offset) c.said-in-InTheWay-1.given.1 ∙ line-nine _ _ _) at c.requires))
+    room-then _ c.put_number-end.ensures (room-then _ c.put_number-word.ensures (rw (ap (line_of c.args.offset) c.in-InTheWay.is ∙ line-nine _ _ _) at c.requires))
 
 pub returns-in-Nothing : goal.returns-in-Nothing
 unfolding line_of
@@ -43,11 +43,11 @@ returns-in-Floating c = rw c.in-Floating.is (put_then c.put_number-word.ensures 
 
 pub returns-in-Driven : goal.returns-in-Driven
 unfolding line_of
-returns-in-Driven c = rw (c.said-1.given.1, ← c.hex_digit.ensures, ← c.hex_digit-in-Driven.ensures) (put_then c.put_number-word.ensures c.put-in-Driven.ensures)
+returns-in-Driven c = rw (c.in-Driven.is, ← c.hex_digit.ensures, ← c.hex_digit-in-Driven.ensures) (put_then c.put_number-word.ensures c.put-in-Driven.ensures)
 
 pub returns-in-Verdict : goal.returns-in-Verdict
 unfolding line_of
-returns-in-Verdict c = rw c.said-in-Verdict-1.given.1 (put_then c.put_number-word.ensures c.put_number.ensures)
+returns-in-Verdict c = rw c.in-Verdict.is (put_then c.put_number-word.ensures c.put_number.ensures)
 
 pub returns-in-InTheWay : goal.returns-in-InTheWay
-returns-in-InTheWay c = put_as (ap (line_of c.args.offset) c.said-in-InTheWay-1.given.1 ∙ line-nine _ _ _) (put_then c.put_number-word.ensures (put_then c.put_number-end.ensures c.put_number-in-InTheWay.ensures))
+returns-in-InTheWay c = put_as (ap (line_of c.args.offset) c.in-InTheWay.is ∙ line-nine _ _ _) (put_then c.put_number-word.ensures (put_then c.put_number-end.ensures c.put_number-in-InTheWay.ensures))

@@ -6,12 +6,12 @@ use Rattle.listing.proofs.put_number.Goals as goal
 
 pub put-end-requires : goal.put-end-requires
 put-end-requires c =
-    rw (c.decimal-k.ensures.1.1 ∙ digits_decimal _ _ c.ranges.n.fits c.decimal-k.ensures.1.0) (omega (arith, c.put-number.ensures.end, c.put-number.auto.0, simp length-append at c.requires))
+    rw (c.decimal-k.ensures.digits ∙ digits_decimal _ _ c.ranges.n.fits c.decimal-k.ensures.len) (omega (arith, c.put-number.ensures.end, c.put-number.auto.text, simp length-append at c.requires))
 
 pub bounds-text-end : goal.bounds-text-end
 bounds-text-end c =
-    omega (arith, room-then _ (rw (c.decimal-k.ensures.1.1 ∙ digits_decimal _ _ c.ranges.n.fits c.decimal-k.ensures.1.0) at (put_then c.put-number.ensures c.put-end.ensures)) c.requires)
+    omega (arith, room-then _ (rw (c.decimal-k.ensures.digits ∙ digits_decimal _ _ c.ranges.n.fits c.decimal-k.ensures.len) at (put_then c.put-number.ensures c.put-end.ensures)) c.requires)
 
 pub returns : goal.returns
 returns c =
-    put_then (rw (c.decimal-k.ensures.1.1 ∙ digits_decimal _ _ c.ranges.n.fits c.decimal-k.ensures.1.0) at (put_then c.put-number.ensures c.put-end.ensures)) (put_byte _ _ _)
+    put_then (rw (c.decimal-k.ensures.digits ∙ digits_decimal _ _ c.ranges.n.fits c.decimal-k.ensures.len) at (put_then c.put-number.ensures c.put-end.ensures)) (put_byte _ _ _)

@@ -12,7 +12,7 @@ put_number-at-requires c = simp length-append (omega (arith, simp length-append 
 
 pub put_answer-requires : goal.put_answer-requires
 unfolding part_line
-put_answer-requires c = (c.requires.0, omega (arith, c.put_number-at.auto.0, simp length-append at c.put_number-at.ensures.end, simp length-append at (rw (text_run _ _ _ _ _ _ c.run-r.ensures.0 c.run-r.ensures.2) at c.requires.1)))
+put_answer-requires c = (c.requires.0, omega (arith, c.put_number-at.auto.text, simp length-append at c.put_number-at.ensures.end, simp length-append at (rw (text_run _ _ _ _ _ _ c.run-r.ensures.0 c.run-r.ensures.2) at c.requires.1)))
 
 pub returns : goal.returns
 unfolding part_line
