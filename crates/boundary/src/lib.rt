@@ -343,16 +343,14 @@ fn no_state_report(n: usize, extent: usize, allowances: Allowances) -> u8
 }
 
 // The numbers of a fresh chip, from any status byte.
-#[unsafe(no_mangle)]
-pub extern "C" fn chip_fresh(status: u8) -> ChipNumbers
+pub fn chip_fresh(status: u8) -> ChipNumbers
     ensures { result ≡ numbers_of (fresh status) }
 {
     numbers_of(Chip::fresh(status))
 }
 
 // Whether numbers are a legal state for a memory of n cells.
-#[unsafe(no_mangle)]
-pub extern "C" fn chip_legal(c: ChipNumbers, n: usize) -> bool
+pub fn chip_legal(c: ChipNumbers, n: usize) -> bool
     ensures { result ≡ legal_numbers c n }
 {
     if !is_state(c.flags, c.kind) {
@@ -362,14 +360,7 @@ pub extern "C" fn chip_legal(c: ChipNumbers, n: usize) -> bool
 }
 
 // One event alone, for every kind, body, state, area and memory length.
-#[unsafe(no_mangle)]
-pub extern "C" fn chip_event(
-    c: ChipNumbers,
-    mem: &mut [u8],
-    area: &[u8],
-    kind: u64,
-    body: u64,
-) -> EventNumbers
+pub fn chip_event(c: ChipNumbers, mem: &mut [u8], area: &[u8], kind: u64, body: u64) -> EventNumbers
     ensures { (result ≡ event_of c mem.old area.now kind body)
         × (mem.new ≡ event_memory c mem.old area.now kind body) }
 {
@@ -384,8 +375,7 @@ pub extern "C" fn chip_event(
 }
 
 // The same event, on a chip that is lent.
-#[unsafe(no_mangle)]
-pub extern "C" fn chip_event_lent(
+pub fn chip_event_lent(
     c: ChipNumbers,
     mem: &mut [u8],
     area: &[u8],
@@ -406,8 +396,7 @@ pub extern "C" fn chip_event_lent(
 }
 
 // A script run, for every state, memory, area, script and output.
-#[unsafe(no_mangle)]
-pub extern "C" fn chip_run(
+pub fn chip_run(
     c: ChipNumbers,
     mem: &mut [u8],
     area: &[u8],
@@ -429,8 +418,7 @@ pub extern "C" fn chip_run(
 }
 
 // A script run with a margin report, for every state, memory, area, script, output, allowances and report.
-#[unsafe(no_mangle)]
-pub extern "C" fn chip_run_report(
+pub fn chip_run_report(
     c: ChipNumbers,
     mem: &mut [u8],
     area: &[u8],
@@ -467,8 +455,7 @@ pub extern "C" fn chip_run_report(
 }
 
 // Where the parameter table of an identity stands in an SFDP area, or what refuses it.
-#[unsafe(no_mangle)]
-pub extern "C" fn sfdp_find(area: &[u8], identity: u8) -> TableNumbers
+pub fn sfdp_find(area: &[u8], identity: u8) -> TableNumbers
     ensures { result ≡ table_numbers (found_of area.now identity) }
 {
     let found = sfdp::find_table(area, identity);
@@ -480,8 +467,7 @@ pub extern "C" fn sfdp_find(area: &[u8], identity: u8) -> TableNumbers
 }
 
 // The part's own SFDP area, for a caller to lend.
-#[unsafe(no_mangle)]
-pub extern "C" fn sfdp_own_area() -> AreaNumbers
+pub fn sfdp_own_area() -> AreaNumbers
     ensures { result ≡ area_numbers own_area }
 {
     let own = part::own_area();
@@ -490,13 +476,7 @@ pub extern "C" fn sfdp_own_area() -> AreaNumbers
 }
 
 // The script that programs some bytes from an address on, for a memory of n cells.
-#[unsafe(no_mangle)]
-pub extern "C" fn write_program(
-    n: usize,
-    address: usize,
-    bytes: &[u8],
-    out: &mut [u8],
-) -> WrittenNumbers
+pub fn write_program(n: usize, address: usize, bytes: &[u8], out: &mut [u8]) -> WrittenNumbers
     ensures { (result ≡ written_numbers (answer_of n address bytes.now out.old))
         × (out.new ≡ output_of n address bytes.now out.old) }
 {
