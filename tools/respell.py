@@ -254,4 +254,5 @@ def main():
     bring_edits(commit, names)
 
 
-main()
+if __name__ == "__main__":
+    main()
