@@ -10,7 +10,6 @@ use Rattle.part.specs.Part.{Setting}
 use Rattle.kinds.specs.Kinds.{EXCHANGE, DESELECT, TICK, kind_row, kind_row_in}
 use Rattle.chip.specs.declared.Chip.{Chip}
 use Rattle.chip.specs.declared.Core.{Core}
-use Rattle.chip.specs.declared.JobKind.{JobKind}
 use Rattle.chip.specs.Chip.{running}
 use Rattle.event.specs.Event.{Outcome, exchange_byte, applied}
 use Rattle.event.proofs.Laws.{applied-each, says-its_kind}

@@ -18,7 +18,7 @@ use Rattle.script.specs.Script.{Event}
 use Rattle.script.specs.Run.{World, world, does, runs}
 use Rattle.demands.specs.Model.{Reply, ours, reply, event, Good, AllGood, Fit, does_by, onward_by, runs_by, working_ticks, worked_by}
 use Rattle.demands.specs.Demand2.{Ending, powered_up}
-use Rattle.demands.specs.Demand3.{Started, UnderWay, AllSpare, NoneEnables, steps_of, Outlook, Spared, LeavesSteps, reset_core, Demand3}
+use Rattle.demands.specs.Demand3.{Started, AllSpare, NoneEnables, steps_of, Outlook, Spared, LeavesSteps, reset_core, Demand3}
 use Rattle.meets.specs.Ours.{fit_next, runs-ours, fit_runs, ticks-ours, worked-ours}
 use Rattle.meets.specs.Life.{ClosedWith, says_closed, closed_memory, two_starts, reset-drops, does-ours, says-ours, all-spare_ours, event-rests_cells, OffWithoutJob, off_event}
 use Rattle.meets.specs.JobSteps.{AtStep, JobOver}

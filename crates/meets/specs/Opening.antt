@@ -12,8 +12,6 @@ use Rattle.chip.proofs.Laws.{cells-job}
 use Rattle.chip.specs.declared.Chip.{Chip}
 use Rattle.chip.specs.declared.Core.{Core}
 use Rattle.chip.specs.declared.Frame.{Frame}
-use Rattle.chip.specs.declared.JobKind.{JobKind}
-use Rattle.chip.specs.declared.JobKind.TheVariants.{Idle, WriteStatus, Program, SmallErase, SectorErase, ChipErase}
 use Rattle.chip.specs.declared.Record.TheVariants.{Floating}
 use Rattle.chip.specs.Fields.{with_count, with_selected}
 use Rattle.chip.specs.Job.{is_job, has_cells}
