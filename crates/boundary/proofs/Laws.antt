@@ -9,9 +9,9 @@ use Rattle.chip.specs.declared.JobKind.{JobKind}
 use Rattle.chip.specs.declared.JobKind.TheVariants.{Idle, WriteStatus, Program, SmallErase, SectorErase, ChipErase}
 use Rattle.chip.specs.Fields.{with_selected}
 use Rattle.legal.specs.Legal.{legal}
-use Rattle.event.specs.declared.Answer.{Answer}
+use Rattle.event.specs.Alone.{Answer}
 use Rattle.event.specs.Alone as alone
-use Rattle.script.specs.declared.Ran.{Ran}
+use Rattle.script.specs.Run.{Ran}
 use Rattle.margins.specs.declared.Allowances.{Allowances}
 use Rattle.margins.specs.declared.Report.{Report}
 use Rattle.script.specs.Run as script

@@ -7,10 +7,10 @@ use Rattle.std.proofs.Math.Path.{ap}
 use Rattle.cells.specs.Choice.{cond_yes, cond_no, cond_either, chosen_number}
 use Rattle.part.specs.Part.{permitted}
 use Rattle.part.specs.Area.{longest_area}
-use Rattle.event.specs.declared.Answer.{Answer}
+use Rattle.event.specs.Alone.{Answer}
 use Rattle.event.specs.Alone as alone
 use Rattle.event.proofs.Laws as alone-laws
-use Rattle.script.specs.declared.Ran.{Ran}
+use Rattle.script.specs.Run.{Ran}
 use Rattle.script.specs.Run as script
 use Rattle.script.proofs.Laws as script-laws
 use Rattle.boundary.specs.declared.ChipNumbers.{ChipNumbers}

@@ -5,19 +5,19 @@ use Rattle.part.specs.Area.{longest_area}
 use Rattle.chip.specs.declared.Record.{Record}
 use Rattle.chip.specs.declared.Record.TheVariants.{Nothing}
 use Rattle.chip.specs.Record.{record_bytes, longest_record}
-use Rattle.event.specs.declared.Answer.{Answer}
+use Rattle.event.specs.Alone.{Answer}
 use Rattle.event.specs.Alone as alone
-use Rattle.script.specs.declared.Ran.{Ran}
+use Rattle.script.specs.Run.{Ran}
 use Rattle.margins.specs.declared.Allowances.{Allowances}
 use Rattle.margins.specs.declared.Report.{Report}
 use Rattle.margins.specs.Margins.{allowed}
 use Rattle.script.specs.Run as script
 use Rattle.script.specs.Report as script-report
-use Rattle.sfdp.specs.declared.Found.{Found}
+use Rattle.sfdp.specs.Reader.{Found}
 use Rattle.boundary.specs.declared.ChipNumbers.{ChipNumbers}
 use Rattle.boundary.specs.declared.EventNumbers.{EventNumbers}
 use Rattle.boundary.specs.declared.RunNumbers.{RunNumbers}
-use Rattle.writer.specs.declared.Written.{Written}
+use Rattle.writer.specs.Writer.{Written}
 use Rattle.boundary.specs.declared.TableNumbers.{TableNumbers}
 use Rattle.boundary.specs.declared.WrittenNumbers.{WrittenNumbers}
 use Rattle.boundary.specs.declared.AreaNumbers.{AreaNumbers}

@@ -1,11 +1,12 @@
 -- A chip as plain numbers, and which numbers are a legal state (RULES, Legal states).
-use Rattle.std.specs.Prelude.{ℕ, Bool, cond, ◌&&◌, eqb, leb}
+use Rattle.std.specs.Prelude.{ℕ, Bool, true, false, cond, ◌&&◌, ◌≡◌, eqb, leb, Result, MatchResult}
 use Rattle.chip.specs.declared.Chip.{Chip}
 use Rattle.chip.specs.declared.JobKind.{JobKind}
 use Rattle.chip.specs.declared.JobKind.TheVariants.{Idle, WriteStatus, Program, SmallErase, SectorErase, ChipErase}
 use Rattle.legal.specs.Legal.{legal}
 use Rattle.boundary.specs.declared.ChipNumbers.{ChipNumbers}
 use Rattle.boundary.specs.declared.FlagNumbers.{FlagNumbers}
+use Rattle.boundary.specs.declared.NoState.{NoState}
 
 -- the numbers of the job kinds: 0 none, 1 write status, 2 program, 3 small sector erase, 4 sector erase, 5 chip erase
 abbrev pub kind_number : JobKind → ℕ
@@ -80,6 +81,10 @@ chip_of c =
       load = c.load;
       held = c.held;
     }
+
+-- what numbers give: that chip, and none where they are no state
+abbrev pub Means : ChipNumbers → Result Chip NoState → Type 0
+Means c given = MatchResult given (λ chip. (is_state c ≡ true) × (chip ≡ chip_of c)) (λ _. is_state c ≡ false)
 
 -- the numbers of a chip
 unfoldable pub numbers_of : Chip → ChipNumbers

@@ -7,19 +7,22 @@
 // promised where it does not hold. Any number may stand in any field: what is no state is refused by 2.
 #![tactic(auto)]
 
-ghost use Rattle.std.specs.Prelude.{◌≡◌};
+ghost use Rattle.std.specs.Prelude.{◌≡◌, Ok};
+ghost use Rattle.refusal.specs.Table.{number_of};
 ghost use Rattle.part.specs.Area.{own_area};
 ghost use Rattle.chip.specs.Chip.{fresh};
+ghost use Rattle.event.specs.Alone.{answered};
+ghost use Rattle.script.specs.Run.{ran_as};
 ghost use Rattle.sfdp.specs.Reader.{found_of};
 ghost use Rattle.writer.specs.Writer.{answer_of, output_of};
-ghost use Rattle.boundary.specs.Numbers.{kind_of, kind_number, kind_value, flag_number, is_state_of, chip_of, numbers_of, legal_numbers};
+ghost use Rattle.boundary.specs.Numbers.{kind_of, kind_number, kind_value, is_state_of, Means, numbers_of, legal_numbers};
 ghost use Rattle.boundary.specs.Answers.{padded, no_state, refused_event, done_event, event_of, event_memory, refused_run, done_run, run_of, run_memory, run_output, no_state_report, report_run_of, report_memory, report_output, report_numbers, table_numbers, area_numbers, written_numbers};
 
 use chip::{Chip, Core, Frame, Job, JobKind, Record};
-use event::Answer;
 use margins::{Allowances, Report};
 use part::Part;
-use script::Ran;
+use refusal::Refusal;
+use script::Refused;
 
 // The flags of a chip: 1 for true, 0 for false.
 #[repr(C)]
@@ -111,7 +114,13 @@ pub struct WrittenNumbers {
     pub written: usize,
 }
 
+// Numbers that are no state: a flag is over 1, or the kind is none.
+#[derive(Clone, Copy, PartialEq, Eq)]
+pub struct NoState;
+
 // The kind of job that a number means; a number over 5 is none, and is read as no job.
+// Stays: C has kinds of jobs, flags and refusals as bytes, and its own struct for each answer.
+#[tactic(auto, unfolding(crate::specs::Numbers::kind_of))]
 fn kind_of(kind: u8, value: u8) -> JobKind
     ensures { result ≡ kind_of kind value }
 {
@@ -144,25 +153,14 @@ fn kind_value(kind: JobKind) -> u8
     ensures { result ≡ kind_value kind }
 {
     match kind {
-        JobKind::Idle => 0,
-        JobKind::WriteStatus(b) => b,
-        JobKind::Program => 0,
-        JobKind::SmallErase => 0,
-        JobKind::SectorErase => 0,
-        JobKind::ChipErase => 0,
+        JobKind::WriteStatus(byte) => byte,
+        JobKind::Idle | JobKind::Program | JobKind::SmallErase => 0,
+        JobKind::SectorErase | JobKind::ChipErase => 0,
     }
-}
-
-fn flag_number(set: bool) -> u8
-    ensures { result ≡ flag_number set }
-{
-    if set {
-        return 1;
-    }
-    0
 }
 
 // Whether numbers are a state at all: their flags, and the kind of their job.
+#[tactic(auto, unfolding(crate::specs::Numbers::is_state_of))]
 fn is_state(flags: FlagNumbers, kind: u8) -> bool
     ensures { result ≡ is_state_of flags kind }
 {
@@ -178,94 +176,105 @@ fn is_state(flags: FlagNumbers, kind: u8) -> bool
         & (kind <= 5)
 }
 
-// The chip that numbers mean.
-fn chip_of(c: ChipNumbers) -> Chip
-    ensures { result ≡ chip_of c }
-{
-    let flags = c.flags;
-    let kind = kind_of(c.kind, c.value);
-    let load = c.load;
-    let held = c.held;
-    Chip {
-        core: Core {
-            level: c.level,
-            tb: flags.tb == 1,
-            srwp: flags.srwp == 1,
-            wen: flags.wen == 1,
-            suspended: flags.suspended == 1,
-            waiting: flags.waiting == 1,
-            wp: flags.wp == 1,
-            deep: flags.deep == 1,
-            armed: flags.armed == 1,
-            job: Job {
-                kind: kind,
-                start: c.start,
-                done: c.done,
+// The chip that numbers mean, if they are a state.
+impl TryFrom<ChipNumbers> for Chip {
+    type Error = NoState;
+
+    ghost try_from_gives = { Means };
+
+    #[tactic(auto, unfolding(crate::specs::Numbers::chip_of))]
+    fn try_from(c: ChipNumbers) -> Result<Chip, NoState> {
+        let flags = c.flags;
+        if !is_state(flags, c.kind) {
+            return Err(NoState);
+        }
+        let load = c.load;
+        let held = c.held;
+        Ok(Chip {
+            core: Core {
+                level: c.level,
+                tb: flags.tb == 1,
+                srwp: flags.srwp == 1,
+                wen: flags.wen == 1,
+                suspended: flags.suspended == 1,
+                waiting: flags.waiting == 1,
+                wp: flags.wp == 1,
+                deep: flags.deep == 1,
+                armed: flags.armed == 1,
+                job: Job {
+                    kind: kind_of(c.kind, c.value),
+                    start: c.start,
+                    done: c.done,
+                },
             },
-        },
-        frame: Frame {
-            selected: flags.selected == 1,
-            opcode: c.opcode,
-            address: c.address,
-            place: c.place,
-            slot: c.slot,
-            count: c.count,
-            judgement: c.judgement,
-        },
-        load: load,
-        held: held,
+            frame: Frame {
+                selected: flags.selected == 1,
+                opcode: c.opcode,
+                address: c.address,
+                place: c.place,
+                slot: c.slot,
+                count: c.count,
+                judgement: c.judgement,
+            },
+            load,
+            held,
+        })
     }
 }
 
 // The numbers of a chip.
-fn numbers_of(chip: Chip) -> ChipNumbers
-    ensures { result ≡ numbers_of chip }
-{
-    let core = chip.core;
-    let job = core.job;
-    let kind = job.kind;
-    let frame = chip.frame;
-    let load = chip.load;
-    let held = chip.held;
-    ChipNumbers {
-        flags: FlagNumbers {
-            tb: flag_number(core.tb),
-            srwp: flag_number(core.srwp),
-            wen: flag_number(core.wen),
-            suspended: flag_number(core.suspended),
-            waiting: flag_number(core.waiting),
-            wp: flag_number(core.wp),
-            deep: flag_number(core.deep),
-            armed: flag_number(core.armed),
-            selected: flag_number(frame.selected),
-        },
-        level: core.level,
-        kind: kind_number(kind),
-        value: kind_value(kind),
-        opcode: frame.opcode,
-        slot: frame.slot,
-        count: frame.count,
-        judgement: frame.judgement,
-        start: job.start,
-        done: job.done,
-        address: frame.address,
-        place: frame.place,
-        load: load,
-        held: held,
+impl From<Chip> for ChipNumbers {
+    ghost from_gives = { λ chip numbers. numbers ≡ numbers_of chip };
+
+    #[tactic(auto, unfolding(crate::specs::Numbers::numbers_of))]
+    fn from(chip: Chip) -> ChipNumbers {
+        let Chip {
+            core,
+            frame,
+            load,
+            held,
+        } = chip;
+        ChipNumbers {
+            flags: FlagNumbers {
+                tb: u8::from(core.tb),
+                srwp: u8::from(core.srwp),
+                wen: u8::from(core.wen),
+                suspended: u8::from(core.suspended),
+                waiting: u8::from(core.waiting),
+                wp: u8::from(core.wp),
+                deep: u8::from(core.deep),
+                armed: u8::from(core.armed),
+                selected: u8::from(frame.selected),
+            },
+            level: core.level,
+            kind: kind_number(core.job.kind),
+            value: kind_value(core.job.kind),
+            opcode: frame.opcode,
+            slot: frame.slot,
+            count: frame.count,
+            judgement: frame.judgement,
+            start: core.job.start,
+            done: core.job.done,
+            address: frame.address,
+            place: frame.place,
+            load,
+            held,
+        }
     }
 }
 
 // What refuses numbers that are no state, on a memory of n cells and with an area of `extent` bytes.
-fn no_state(n: usize, extent: usize) -> u8
-    ensures { result ≡ no_state n extent }
+#[tactic(auto, using(part::proofs::Laws::no_part, part::proofs::Laws::some_part), unfolding(crate::specs::Answers::no_state))]
+fn no_state(n: usize, extent: usize) -> Refusal
+    ensures { number_of result ≡ no_state n extent }
 {
-    if part::sectors_of(n) == 0 {
-        return 1;
+    if part::sectors_of(n).is_none() {
+        return Refusal::MemoryLength;
     }
     if Part::LONGEST_AREA < extent {
-        return 13;
+        return Refusal::LongArea;
     }
-    2
+    Refusal::IllegalState
 }
 
 // A record's bytes, with zeros behind them.
@@ -274,70 +283,72 @@ fn bytes_of(said: Record) -> [u8; chip::LONGEST_RECORD]
 {
     match said {
         Record::Nothing => [0, 0, 0],
-        Record::Floating => [0x80, 0, 0],
-        Record::Driven(b) => [0x81, b, 0],
-        Record::Verdict(v) => [0x82, v, 0],
-        Record::InTheWay(first, last) => [0x83, first, last],
+        Record::Floating => [chip::FLOATING, 0, 0],
+        Record::Driven(b) => [chip::DRIVEN, b, 0],
+        Record::Verdict(v) => [chip::VERDICT, v, 0],
+        Record::InTheWay(first, last) => [chip::IN_THE_WAY, first, last],
     }
 }
 
-fn refuse_event(given: ChipNumbers, number: u8) -> EventNumbers
-    ensures { result ≡ refused_event given number }
+// The numbers of a refused event.
+fn refuse_event(given: ChipNumbers, why: Refusal) -> EventNumbers
+    ensures { result ≡ refused_event given (number_of why) }
 {
     EventNumbers {
         chip: given,
-        refusal: number,
+        refusal: why.number(),
         size: 0,
         bytes: bytes_of(Record::Nothing),
         ticks: 0,
     }
 }
 
-fn event_done(a: Answer) -> EventNumbers
-    ensures { result ≡ done_event a }
+// The numbers of an event that is done.
+fn event_done(done: event::Done) -> EventNumbers
+    ensures { result ≡ done_event (answered done.chip (Ok done)) }
 {
-    let chip = a.chip;
-    let said = a.said;
     EventNumbers {
-        chip: numbers_of(chip),
+        chip: ChipNumbers::from(done.chip),
         refusal: 0,
-        size: chip::record_length(said) as u8,
-        bytes: bytes_of(said),
-        ticks: a.ticks,
+        size: chip::record_length(done.said) as u8,
+        bytes: bytes_of(done.said),
+        ticks: done.ticks,
     }
 }
 
-fn refuse_run(given: ChipNumbers, number: u8, offset: usize) -> RunNumbers
-    ensures { result ≡ refused_run given number offset }
+// The numbers of a refused run.
+fn refuse_run(given: ChipNumbers, why: Refusal, offset: usize) -> RunNumbers
+    ensures { result ≡ refused_run given (number_of why) offset }
 {
     RunNumbers {
         chip: given,
-        refusal: number,
-        offset: offset,
+        refusal: why.number(),
+        offset,
         written: 0,
         ticks: 0,
     }
 }
 
-fn run_done(a: Ran) -> RunNumbers
-    ensures { result ≡ done_run a }
+// The numbers of a run that is done.
+fn run_done(done: script::Done) -> RunNumbers
+    ensures { result ≡ done_run (ran_as done.chip (Ok done)) }
 {
-    let chip = a.chip;
     RunNumbers {
-        chip: numbers_of(chip),
+        chip: ChipNumbers::from(done.chip),
         refusal: 0,
         offset: 0,
-        written: a.written,
-        ticks: a.ticks,
+        written: done.written,
+        ticks: done.ticks,
     }
 }
 
 // What refuses a run with a report on numbers that are no state: an allowance before all else.
-fn no_state_report(n: usize, extent: usize, allowances: Allowances) -> u8
-    ensures { result ≡ no_state_report allowances n extent }
+#[tactic(auto, unfolding(crate::specs::Answers::no_state_report))]
+fn no_state_report(n: usize, extent: usize, allowances: Allowances) -> Refusal
+    ensures { number_of result ≡ no_state_report allowances n extent }
 {
     if !margins::are_allowed(allowances) {
-        return 18;
+        return Refusal::LargeAllowance;
     }
     no_state(n, extent)
 }
@@ -346,35 +357,38 @@ fn no_state_report(n: usize, extent: usize, allowances: Allowances) -> u8
 pub fn chip_fresh(status: u8) -> ChipNumbers
     ensures { result ≡ numbers_of (fresh status) }
 {
-    numbers_of(Chip::fresh(status))
+    ChipNumbers::from(Chip::fresh(status))
 }
 
 // Whether numbers are a legal state for a memory of n cells.
+#[tactic(auto, unfolding(crate::specs::Numbers::legal_numbers))]
 pub fn chip_legal(c: ChipNumbers, n: usize) -> bool
     ensures { result ≡ legal_numbers c n }
 {
-    if !is_state(c.flags, c.kind) {
-        return false;
+    match Chip::try_from(c) {
+        Ok(chip) => legal::is_legal(chip, n),
+        Err(NoState) => false,
     }
-    legal::is_legal(chip_of(c), n)
 }
 
 // One event alone, for every kind, body, state, area and memory length.
+#[tactic(auto, using(refusal::specs::Laws::refused), unfolding(crate::specs::Answers::event_of, crate::specs::Answers::event_numbers, crate::specs::Answers::event_memory))]
 pub fn chip_event(c: ChipNumbers, mem: &mut [u8], area: &[u8], kind: u64, body: u64) -> EventNumbers
     ensures { (result ≡ event_of c mem.old area.now kind body)
         × (mem.new ≡ event_memory c mem.old area.now kind body) }
 {
-    if !is_state(c.flags, c.kind) {
+    let Ok(chip) = Chip::try_from(c) else {
         return refuse_event(c, no_state(mem.len(), area.len()));
+    };
+    match event::event(chip, mem, area, kind, body) {
+        Ok(done) => event_done(done),
+        Err(why) => refuse_event(c, why),
     }
-    let a = event::event(chip_of(c), mem, area, kind, body);
-    if a.refusal != 0 {
-        return refuse_event(c, a.refusal);
-    }
-    event_done(a)
 }
 
 // The same event, on a chip that is lent.
+// Stays: a twin of `chip_event`, since C calls both by their names; where a function is taken as a parameter its contract has to be said again.
+#[tactic(auto, using(refusal::specs::Laws::refused), unfolding(crate::specs::Answers::event_of, crate::specs::Answers::event_numbers, crate::specs::Answers::event_memory))]
 pub fn chip_event_lent(
     c: ChipNumbers,
     mem: &mut [u8],
@@ -385,17 +399,17 @@ pub fn chip_event_lent(
     ensures { (result ≡ event_of c mem.old area.now kind body)
         × (mem.new ≡ event_memory c mem.old area.now kind body) }
 {
-    if !is_state(c.flags, c.kind) {
+    let Ok(chip) = Chip::try_from(c) else {
         return refuse_event(c, no_state(mem.len(), area.len()));
+    };
+    match lent::event_by_lending(chip, mem, area, kind, body) {
+        Ok(done) => event_done(done),
+        Err(why) => refuse_event(c, why),
     }
-    let a = lent::event_by_lending(chip_of(c), mem, area, kind, body);
-    if a.refusal != 0 {
-        return refuse_event(c, a.refusal);
-    }
-    event_done(a)
 }
 
 // A script run, for every state, memory, area, script and output.
+#[tactic(auto, using(refusal::specs::Laws::refused), unfolding(crate::specs::Answers::run_of, crate::specs::Answers::run_numbers, crate::specs::Answers::run_memory, crate::specs::Answers::run_output))]
 pub fn chip_run(
     c: ChipNumbers,
     mem: &mut [u8],
@@ -407,17 +421,17 @@ pub fn chip_run(
         × (mem.new ≡ run_memory c mem.old area.now script.now out.old)
         × (out.new ≡ run_output c mem.old area.now script.now out.old) }
 {
-    if !is_state(c.flags, c.kind) {
+    let Ok(chip) = Chip::try_from(c) else {
         return refuse_run(c, no_state(mem.len(), area.len()), 0);
+    };
+    match script::run(chip, mem, area, script, out) {
+        Ok(done) => run_done(done),
+        Err(no) => refuse_run(c, no.refusal, no.offset),
     }
-    let a = script::run(chip_of(c), mem, area, script, out);
-    if a.refusal != 0 {
-        return refuse_run(c, a.refusal, a.offset);
-    }
-    run_done(a)
 }
 
 // A script run with a margin report, for every state, memory, area, script, output, allowances and report.
+#[tactic(auto, using(refusal::specs::Laws::refused), unfolding(crate::specs::Answers::report_run_of, crate::specs::Answers::run_numbers, crate::specs::Answers::report_memory, crate::specs::Answers::report_output, crate::specs::Answers::report_numbers))]
 pub fn chip_run_report(
     c: ChipNumbers,
     mem: &mut [u8],
@@ -432,25 +446,22 @@ pub fn chip_run_report(
         × (out.new ≡ report_output allowances c mem.old area.now script.now out.old)
         × (result.report ≡ report_numbers allowances report c mem.old area.now script.now out.old) }
 {
-    if !is_state(c.flags, c.kind) {
-        let number = no_state_report(mem.len(), area.len(), allowances);
+    let Ok(chip) = Chip::try_from(c) else {
+        let why = no_state_report(mem.len(), area.len(), allowances);
         return ReportedNumbers {
-            run: refuse_run(c, number, 0),
-            report: report,
+            run: refuse_run(c, why, 0),
+            report,
         };
-    }
-    let a = script::run_with_report(chip_of(c), mem, area, script, out, allowances, report);
-    let ran = a.ran;
-    let counted = a.report;
-    if ran.refusal != 0 {
-        return ReportedNumbers {
-            run: refuse_run(c, ran.refusal, ran.offset),
-            report: counted,
-        };
-    }
-    ReportedNumbers {
-        run: run_done(ran),
-        report: counted,
+    };
+    match script::run_with_report(chip, mem, area, script, out, allowances, report) {
+        Ok(reported) => ReportedNumbers {
+            run: run_done(reported.done),
+            report: reported.report,
+        },
+        Err(no) => ReportedNumbers {
+            run: refuse_run(c, no.refusal, no.offset),
+            report,
+        },
     }
 }
 
@@ -458,11 +469,17 @@ pub fn chip_run_report(
 pub fn sfdp_find(area: &[u8], identity: u8) -> TableNumbers
     ensures { result ≡ table_numbers (found_of area.now identity) }
 {
-    let found = sfdp::find_table(area, identity);
-    TableNumbers {
-        refusal: found.refusal,
-        place: found.place,
-        length: found.length,
+    match sfdp::find_table(area, identity) {
+        Ok(table) => TableNumbers {
+            refusal: 0,
+            place: table.place,
+            length: table.length,
+        },
+        Err(unfound) => TableNumbers {
+            refusal: unfound.number(),
+            place: 0,
+            length: 0,
+        },
     }
 }
 
@@ -470,9 +487,8 @@ pub fn sfdp_find(area: &[u8], identity: u8) -> TableNumbers
 pub fn sfdp_own_area() -> AreaNumbers
     ensures { result ≡ area_numbers own_area }
 {
-    let own = part::own_area();
-    let bytes = own.bytes;
-    AreaNumbers { bytes: bytes }
+    let bytes = part::own_area().bytes;
+    AreaNumbers { bytes }
 }
 
 // The script that programs some bytes from an address on, for a memory of n cells.
@@ -480,9 +496,14 @@ pub fn write_program(n: usize, address: usize, bytes: &[u8], out: &mut [u8]) -> 
     ensures { (result ≡ written_numbers (answer_of n address bytes.now out.old))
         × (out.new ≡ output_of n address bytes.now out.old) }
 {
-    let a = writer::write_program(n, address, bytes, out);
-    WrittenNumbers {
-        refusal: a.refusal,
-        written: a.written,
+    match writer::write_program(n, address, bytes, out) {
+        Ok(written) => WrittenNumbers {
+            refusal: 0,
+            written,
+        },
+        Err(refusal) => WrittenNumbers {
+            refusal: refusal.number(),
+            written: 0,
+        },
     }
 }

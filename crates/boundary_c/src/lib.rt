@@ -1,4 +1,5 @@
 // The exports for C: each calls the function of its name in `boundary`, with the same clauses. `boundary` says what a caller answers for.
+// Stays: twins of those functions, since a crate is a library or a static library.
 #![tactic(auto)]
 
 ghost use Rattle.std.specs.Prelude.{◌≡◌};

@@ -1,11 +1,15 @@
 -- What is true of a sweep and of an image, for any rule: its length, its parts, its cells, and that the two are one.
-use Rattle.std.specs.Prelude.{ℕ, zero, suc, ◌+◌, ◌<◌, ◌≤◌, min, ◌-◌, true, false, cond, List, [], ◌∷◌, ◌≡◌, refl, ◌⊎◌, length, get_or}
+use Rattle.std.specs.Prelude.{ℕ, zero, suc, ◌+◌, ◌<◌, ◌≤◌, min, ◌-◌, true, false, cond, List, [], ◌∷◌, ◌++◌, ◌≡◌, refl, ◌⊎◌, length, get_or}
 use Rattle.std.proofs.Common.{sym, ap, ◌∙◌, inl, inr, ⊎_elim, add-one, add-zero, zero-add, add-suc, suc-add, add_assoc, arith, length-set, get_or-set_same, get_or-set_other, ext_get_or, lt-ltb, le-ltb, le-leb}
 use Rattle.std.proofs.Math.Path.{fun_ext}
 use Rattle.std.proofs.Math.Decide.{dec_le, dec_lt}
 use Rattle.std.proofs.Math.ListN.{get_or-eq_default}
 use Rattle.std.proofs.Math.Seq.{set_out}
 use Rattle.std.proofs.lemmas.Bool.{lt-leb}
+use borrow.Rule.Slice.PartMut.{put_mid, mid_of, post_of, put_same}
+use Rattle.std.proofs.Common.{take, drop, length-take-le, length-drop}
+use Rattle.std.proofs.Math.ListN.{set}
+use Rattle.std.proofs.lemmas.List.{places, set-append_left, set-append_right}
 use Rattle.cells.specs.Choice.{cond_yes, cond_no}
 use Rattle.cells.specs.Cells.{Rule, later, change, sweep, within, image, image_from}
 
@@ -81,6 +85,43 @@ sweep-changes g m p (suc n) j h l = pick (λ a. sweep-changes g m p n j a l) (de
         let e : n ≡ j = omega arith in
         let k : p + j < length (sweep g m p j) = omega (arith, length-sweep g m p j) in
         rw e (get_or-set_same (sweep g m p j) (p + j) _ 0 k ∙ ap (g j) (sweep-outside g m p j (p + j) (inr (omega arith))))
+
+-- ---- a part of memory that is swept by itself
+
+-- a sweep of the part alone, from its own start, is the sweep of the memory
+pub sweep-part : (g : Rule) (m : List ℕ) (p k n : ℕ) → p + k ≤ length m → n ≤ k → put_mid p k m (sweep g (mid_of p k m) 0 n) ≡ sweep g m p n
+unfolding sweep
+sweep-part g m p k zero fits h = put_same p k m
+sweep-part g m p k (suc n) fits h =
+    let part : List ℕ = sweep g (mid_of p k m) 0 n in
+    let whole : put_mid p k m part ≡ sweep g m p n = sweep-part g m p k n fits (omega arith) in
+    let front : length (take p m) ≡ p = length-take-le p m (omega arith) in
+    let long : length part ≡ k = length-sweep g (mid_of p k m) 0 n ∙ length-take-le k (drop p m) (omega (arith, length-drop p m)) in
+    let here : get_or (put_mid p k m part) (p + n) 0 ≡ get_or part n 0 = grind (arith, places) in
+    let at : p + n - p ≡ n = omega arith in
+    let short : n < length part = omega arith in
+    let there : (v : ℕ) → set (put_mid p k m part) (p + n) v ≡ put_mid p k m (set part n v) =
+    λ v. set-append_right (take p m) (part ++ post_of p k m) p (p + n) v front (omega arith) ∙ ap (λ (l : List ℕ). take p m ++ l) (rw at (set-append_left part (post_of p k m) n v short)) in
+    rw (zero-add, ← whole, here) (sym (there _))
+
+-- so the part that lies inside, from a to e, once it is swept by itself, is all that a sweep changes
+pub part_swept : (g : Rule) (m w : List ℕ) (p n a e i : ℕ) → w ≡ sweep g (mid_of a (e - a) m) 0 i → i ≡ length (mid_of a (e - a) m) → a ≡ min p (length m) → e ≡ min p (length m) + min n (length m - p)
+    → put_mid a (e - a) m w ≡ sweep g m p n
+part_swept g m w p n a e i part whole start end = rw (part, whole, long) (sweep-part g m a (e - a) (e - a) (omega arith) (omega arith) ∙ go (dec_le p (length m)))
+  where
+    long : length (mid_of a (e - a) m) ≡ e - a
+    long = length-take-le (e - a) (drop a m) (omega (arith, length-drop a m))
+
+    go : Dec (p ≤ length m) → sweep g m a (e - a) ≡ sweep g m p n
+    go (yes h) =
+        let same_start : a ≡ p = omega arith in
+        let size : e - p ≡ min n (length m - p) = omega arith in
+        rw (same_start, size) (sym (sweep-inside g m p n))
+    go (no h) = sweep-past g m a (e - a) (omega arith) ∙ sym (sweep-past g m p n (omega arith))
+
+-- one cell more of a part
+pub part_more : (g : Rule) (w part : List ℕ) (i v : ℕ) → part ≡ sweep g w 0 i → v ≡ g i (get_or part i 0) → set part i v ≡ sweep g w 0 (i + 1)
+part_more g w part i v so_far here = rw (sweep-more, zero-add, ← so_far, here)
 
 -- ---- an image
 

@@ -7,8 +7,10 @@ ghost use Rattle.chip.specs.Chip.{fresh, empty_frame, with_bits, running, suspen
 ghost use Rattle.chip.specs.Record.{record_bytes, longest_record};
 
 // What a job does; a write status job holds the byte that it will set.
-#[derive(Clone, Copy)]
+// Stays: no job is one of the kinds, since a chip without a job still has a start and steps done, which C gets back as it gave them (`chip-back`).
+#[derive(Clone, Copy, PartialEq, Eq, Default)]
 pub enum JobKind {
+    #[default]
     Idle,
     WriteStatus(u8),
     Program,
@@ -18,7 +20,7 @@ pub enum JobKind {
 }
 
 // The one job: its kind, its start, which is the first cell of its range, and its steps done.
-#[derive(Clone, Copy)]
+#[derive(Clone, Copy, PartialEq, Eq, Default)]
 pub struct Job {
     pub kind: JobKind,
     pub start: u32,
@@ -26,7 +28,7 @@ pub struct Job {
 }
 
 // All of the state but the frame and the two loads; `waiting` marks an accepted suspend whose tick has not come.
-#[derive(Clone, Copy)]
+#[derive(Clone, Copy, PartialEq, Eq, Default)]
 pub struct Core {
     pub level: u8,
     pub tb: bool,
@@ -41,7 +43,8 @@ pub struct Core {
 }
 
 // The frame on the wire: `place` is the read place, `slot` the load place, `count` the whole bytes so far (6 meaning six or more), and `judgement` 0 for none.
-#[derive(Clone, Copy)]
+// Stays: `judgement` is a number, as `judgement_known` and `legal_frame` of `legal` and C's `ChipNumbers` have it.
+#[derive(Clone, Copy, PartialEq, Eq, Default)]
 pub struct Frame {
     pub selected: bool,
     pub opcode: u8,
@@ -53,7 +56,7 @@ pub struct Frame {
 }
 
 // The chip: `load` is the frame's load, `held` the load that a program job holds.
-#[derive(Clone, Copy)]
+#[derive(Clone, Copy, PartialEq, Eq)]
 pub struct Chip {
     pub core: Core,
     pub frame: Frame,
@@ -61,12 +64,22 @@ pub struct Chip {
     pub held: [u8; 256],
 }
 
+// The first byte of a record: the line floated, a byte was driven, a verdict, the sectors in the way.
+pub const FLOATING: u8 = 0x80;
+
+pub const DRIVEN: u8 = 0x81;
+
+pub const VERDICT: u8 = 0x82;
+
+pub const IN_THE_WAY: u8 = 0x83;
+
 // The most bytes that a record has.
 pub const LONGEST_RECORD: usize = 3;
 
 // What an event says: nothing, the line left floating, the byte driven, or the verdict; verdict 9 is
 // said by the first and the last protected sector, which were in the way.
-#[derive(Clone, Copy)]
+// Stays: nothing said is a record of no bytes, as `Answer` of `event/specs/Alone` has it, and a verdict is a number, as it is read back from a byte.
+#[derive(Clone, Copy, PartialEq, Eq)]
 pub enum Record {
     Nothing,
     Floating,
@@ -77,20 +90,13 @@ pub enum Record {
 
 impl Chip {
     // A fresh state from any status byte.
+    #[tactic(auto, unfolding(crate::specs::Chip::fresh))]
     pub fn fresh(status: u8) -> Chip
         ensures { result ≡ fresh status }
     {
         let resting = Core {
-            level: 0,
-            tb: false,
-            srwp: false,
-            wen: false,
-            suspended: false,
-            waiting: false,
             wp: true,
-            deep: false,
-            armed: false,
-            job: no_job(),
+            ..Core::default()
         };
         Chip {
             core: set_bits(status, resting),
@@ -105,65 +111,40 @@ impl Chip {
 pub fn set_bits(status: u8, core: Core) -> Core
     ensures { result ≡ with_bits status core }
 {
-    let mut next = core;
-    next.level = status / 4 % 8;
-    next.tb = status / 32 % 2 == 1;
-    next.srwp = status / 128 % 2 == 1;
-    next
+    Core {
+        level: status / 4 % 8,
+        tb: status / 32 % 2 == 1,
+        srwp: status / 128 % 2 == 1,
+        ..core
+    }
 }
 
 // No job.
 pub fn no_job() -> Job
     ensures { result ≡ no_job }
 {
-    Job {
-        kind: JobKind::Idle,
-        start: 0,
-        done: 0,
-    }
+    Job::default()
 }
 
 // No frame: unselected, and no byte has come.
 pub fn empty_frame() -> Frame
     ensures { result ≡ empty_frame }
 {
-    Frame {
-        selected: false,
-        opcode: 0,
-        address: 0,
-        place: 0,
-        slot: 0,
-        count: 0,
-        judgement: 0,
-    }
+    Frame::default()
 }
 
 // Whether there is a job at all.
 pub fn is_job(kind: JobKind) -> bool
     ensures { result ≡ is_job kind }
 {
-    match kind {
-        JobKind::Idle => false,
-        JobKind::WriteStatus(_) => true,
-        JobKind::Program => true,
-        JobKind::SmallErase => true,
-        JobKind::SectorErase => true,
-        JobKind::ChipErase => true,
-    }
+    !matches!(kind, JobKind::Idle)
 }
 
 // Whether the job is a program or an erase.
 pub fn has_cells(kind: JobKind) -> bool
     ensures { result ≡ has_cells kind }
 {
-    match kind {
-        JobKind::Idle => false,
-        JobKind::WriteStatus(_) => false,
-        JobKind::Program => true,
-        JobKind::SmallErase => true,
-        JobKind::SectorErase => true,
-        JobKind::ChipErase => true,
-    }
+    !matches!(kind, JobKind::Idle | JobKind::WriteStatus(_))
 }
 
 // The number of steps on a part of `sectors` sectors.
@@ -173,10 +154,9 @@ pub fn total_of(kind: JobKind, sectors: u8) -> u32
     match kind {
         JobKind::Idle => 0,
         JobKind::WriteStatus(_) => 1,
-        JobKind::Program => 16,
-        JobKind::SmallErase => 16,
+        JobKind::Program | JobKind::SmallErase => 16,
         JobKind::SectorErase => 256,
-        JobKind::ChipErase => 256 * (sectors as u32),
+        JobKind::ChipErase => 256 * sectors as u32,
     }
 }
 
@@ -184,18 +164,14 @@ pub fn total_of(kind: JobKind, sectors: u8) -> u32
 pub fn is_running(core: Core) -> bool
     ensures { result ≡ running core }
 {
-    let job = core.job;
-    let kind = job.kind;
-    is_job(kind) & !core.suspended
+    is_job(core.job.kind) && !core.suspended
 }
 
 // Whether a program or an erase runs.
 pub fn is_suspendable(core: Core) -> bool
     ensures { result ≡ suspendable core }
 {
-    let job = core.job;
-    let kind = job.kind;
-    is_running(core) & has_cells(kind)
+    is_running(core) && has_cells(core.job.kind)
 }
 
 // The number of bytes of a record.
@@ -205,8 +181,7 @@ pub fn record_length(said: Record) -> usize
     match said {
         Record::Nothing => 0,
         Record::Floating => 1,
-        Record::Driven(_) => 2,
-        Record::Verdict(_) => 2,
+        Record::Driven(_) | Record::Verdict(_) => 2,
         Record::InTheWay(_, _) => 3,
     }
 }
@@ -215,20 +190,18 @@ pub fn record_length(said: Record) -> usize
 fn weight(set: bool, of: u8) -> u8
     ensures { (result ≡ cond set of 0) × (result ≤ of) }
 {
-    if set {
-        return of;
-    }
-    0
+    if set { of } else { 0 }
 }
 
 // The status byte.
+#[tactic(auto, unfolding(crate::specs::Chip::status_byte))]
 pub fn status_byte(core: Core) -> u8
     ensures { result ≡ status_byte core }
 {
-    let ready = weight(is_running(core), 1);
-    let wen = weight(core.wen, 2);
-    let tb = weight(core.tb, 32);
-    let sus = weight(core.suspended, 64);
-    let srwp = weight(core.srwp, 128);
-    ready + wen + 4 * (core.level % 8) + tb + sus + srwp
+    weight(is_running(core), 1)
+        + weight(core.wen, 2)
+        + 4 * (core.level % 8)
+        + weight(core.tb, 32)
+        + weight(core.suspended, 64)
+        + weight(core.srwp, 128)
 }

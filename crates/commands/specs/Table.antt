@@ -1,6 +1,8 @@
 -- The commands: one row an opcode, with its length rule and where it is allowed (RULES, Commands).
-use Rattle.std.specs.Prelude.{ℕ, Bool, true, false, cond, ◌||◌, List, [], ◌∷◌, eqb, leb, get_or}
-use Rattle.commands.specs.declared.Row.{Row}
+use Rattle.std.specs.Prelude.{ℕ, Bool, true, false, cond, ◌||◌, List, [], ◌∷◌, eqb, leb, get_or, Option, None, Some}
+use Rattle.commands.specs.declared.Length.{Length}
+use Rattle.commands.specs.declared.Length.TheVariants.{Any, Exactly, AtLeast}
+use Rattle.commands.specs.declared.Row.{Row as RowValue}
 
 -- ---- the opcodes by name
 
@@ -95,6 +97,13 @@ rows =
     ∷ (reset ∷ 1 ∷ 1 ∷ 1 ∷ [])
     ∷ []
 
+-- the facts of an opcode: whether it has a row at all, and what that says
+pub record Row : Type 0 where
+  pub known : Bool
+  pub rule : ℕ
+  pub running : Bool
+  pub suspended : Bool
+
 -- the facts of a row, and those of an opcode that has none
 abbrev pub facts_of : List ℕ → Row
 facts_of r = record { known = true; rule = get_or r 1 0; running = eqb (get_or r 2 0) 1; suspended = eqb (get_or r 3 0) 1 }
@@ -113,6 +122,19 @@ row_of opcode = row_in rows opcode
 -- whether a frame of n bytes (6 meaning six or more) has the length that a rule asks
 unfoldable pub fits_rule : ℕ → ℕ → Bool
 fits_rule rule n = eqb rule 0 || cond (eqb rule 5) (leb 5 n) (eqb n rule)
+
+-- the same, as a length: any; exactly so many bytes; so many and more
+abbrev pub length_by : ℕ → Length
+length_by rule = cond (eqb rule 0) Any (cond (eqb rule 5) (AtLeast 5) (Exactly rule))
+
+abbrev pub fits : Length → ℕ → Bool
+fits Any n = true
+fits (Exactly bytes) n = eqb n bytes
+fits (AtLeast bytes) n = leb bytes n
+
+-- the facts of an opcode that has a row, as a value
+abbrev pub row_if : Row → Option RowValue
+row_if r = cond r.known (Some (record { length = length_by r.rule; running = r.running; suspended = r.suspended })) None
 
 -- the reads, which are verdict 0 however they end: 05h, 03h, 0Bh, 9Fh, 5Ah (RULES, Verdicts)
 unfoldable pub is_read : ℕ → Bool

@@ -1,18 +1,26 @@
 // The commands of the LE25S161: their opcodes by name, and the table of what each may do.
 #![tactic(auto)]
 
-ghost use Rattle.std.specs.Prelude.{◌≡◌, [], ◌<◌, length, get_or};
-ghost use Rattle.commands.specs.Table.{rows, row_of, fits_rule, is_read, is_program};
+ghost use Rattle.std.specs.Prelude.{◌≡◌};
+ghost use Rattle.commands.specs.Table.{row_of, row_if, fits, is_read, is_program};
 
 // The opcodes are constants of this type; it holds nothing.
+// Stays: a frame's opcode is any byte that came, so `chip::Frame` holds a byte; an enum would be asked for by `try_from` at each test of that byte, where now a pattern is named.
 #[derive(Clone, Copy)]
 pub struct Command {}
 
+// How many bytes a frame has: any number, exactly so many, or so many and more; 6 means six or more.
+#[derive(Clone, Copy, PartialEq, Eq)]
+pub enum Length {
+    Any,
+    Exactly(u8),
+    AtLeast(u8),
+}
+
 // What the table says of an opcode.
-#[derive(Clone, Copy)]
+#[derive(Clone, Copy, PartialEq, Eq)]
 pub struct Row {
-    pub known: bool,
-    pub rule: u8,
+    pub length: Length,
     pub running: bool,
     pub suspended: bool,
 }
@@ -59,87 +67,65 @@ impl Command {
     pub const RESET_ENABLE: u8 = 0x66;
 
     pub const RESET: u8 = 0x99;
-
-    // How many rows the table has.
-    const COUNT: usize = 21;
-
-    // Opcode, length rule (0 any; 5 five or more; otherwise exactly that many bytes), allowed while running, allowed suspended.
-    const ROWS: [[u8; 4]; Command::COUNT] = [
-        [Command::WRITE_ENABLE, 1, 0, 0],
-        [Command::WRITE_DISABLE, 1, 0, 0],
-        [Command::READ_STATUS, 0, 1, 1],
-        [Command::WRITE_STATUS, 2, 0, 0],
-        [Command::LOW_POWER_READ, 0, 0, 1],
-        [Command::HIGH_SPEED_READ, 0, 0, 1],
-        [Command::SMALL_SECTOR_ERASE, 4, 0, 1],
-        [Command::SMALL_SECTOR_ERASE_2, 4, 0, 1],
-        [Command::SECTOR_ERASE, 4, 0, 1],
-        [Command::CHIP_ERASE, 1, 0, 1],
-        [Command::CHIP_ERASE_2, 1, 0, 1],
-        [Command::PAGE_PROGRAM, 5, 0, 1],
-        [Command::PAGE_PROGRAM_2, 5, 0, 1],
-        [Command::SUSPEND, 1, 1, 0],
-        [Command::RESUME, 1, 0, 1],
-        [Command::JEDEC_ID, 0, 0, 0],
-        [Command::WAKE, 0, 0, 0],
-        [Command::READ_SFDP, 0, 0, 0],
-        [Command::DEEP_POWER_DOWN, 1, 0, 0],
-        [Command::RESET_ENABLE, 1, 1, 1],
-        [Command::RESET, 1, 1, 1],
-    ];
 }
 
-fn row_at(i: usize) -> [u8; 4]
-    requires { i < length rows }
-    ensures { result ≡ get_or rows i [] }
-{
-    Command::ROWS[i]
-}
-
-// What the table says of an opcode.
-pub fn row_of(opcode: u8) -> Row
-    ensures { result ≡ row_of opcode }
-{
-    let mut i = 0;
-    while i < Command::COUNT {
-        let row = row_at(i);
-        if row[0] == opcode {
-            return Row {
-                known: true,
-                rule: row[1],
-                running: row[2] == 1,
-                suspended: row[3] == 1,
-            };
+impl Length {
+    // Whether a frame of n bytes is that long.
+    pub fn fits(self, n: u8) -> bool
+        ensures { result ≡ fits self n }
+    {
+        match self {
+            Length::Any => true,
+            Length::Exactly(bytes) => n == bytes,
+            Length::AtLeast(bytes) => bytes <= n,
         }
-        i += 1;
-    }
-    Row {
-        known: false,
-        rule: 0,
-        running: false,
-        suspended: false,
     }
 }
 
-// Whether a frame of n bytes, 6 meaning six or more, has the length that a rule asks.
-pub fn fits_rule(rule: u8, n: u8) -> bool
-    ensures { result ≡ fits_rule rule n }
+// What the table says of an opcode that is in it: the length of its frames, whether it is allowed while a job runs, and in suspension.
+#[tactic(auto, unfolding(crate::specs::Table::row_of, crate::specs::Table::row_in))]
+pub fn row_of(opcode: u8) -> Option<Row>
+    ensures { result ≡ row_if (row_of opcode) }
 {
-    match rule {
-        0 => true,
-        5 => 5 <= n,
-        _ => n == rule,
-    }
+    let (length, running, suspended) = match opcode {
+        Command::WRITE_ENABLE => (Length::Exactly(1), false, false),
+        Command::WRITE_DISABLE => (Length::Exactly(1), false, false),
+        Command::READ_STATUS => (Length::Any, true, true),
+        Command::WRITE_STATUS => (Length::Exactly(2), false, false),
+        Command::LOW_POWER_READ => (Length::Any, false, true),
+        Command::HIGH_SPEED_READ => (Length::Any, false, true),
+        Command::SMALL_SECTOR_ERASE => (Length::Exactly(4), false, true),
+        Command::SMALL_SECTOR_ERASE_2 => (Length::Exactly(4), false, true),
+        Command::SECTOR_ERASE => (Length::Exactly(4), false, true),
+        Command::CHIP_ERASE => (Length::Exactly(1), false, true),
+        Command::CHIP_ERASE_2 => (Length::Exactly(1), false, true),
+        Command::PAGE_PROGRAM => (Length::AtLeast(5), false, true),
+        Command::PAGE_PROGRAM_2 => (Length::AtLeast(5), false, true),
+        Command::SUSPEND => (Length::Exactly(1), true, false),
+        Command::RESUME => (Length::Exactly(1), false, true),
+        Command::JEDEC_ID => (Length::Any, false, false),
+        Command::WAKE => (Length::Any, false, false),
+        Command::READ_SFDP => (Length::Any, false, false),
+        Command::DEEP_POWER_DOWN => (Length::Exactly(1), false, false),
+        Command::RESET_ENABLE => (Length::Exactly(1), true, true),
+        Command::RESET => (Length::Exactly(1), true, true),
+        _ => return None,
+    };
+    Some(Row {
+        length,
+        running,
+        suspended,
+    })
 }
 
 // Whether an opcode is a read, which is verdict 0 at any length, loose or not.
+#[tactic(auto, unfolding(crate::specs::Table::is_read))]
 pub fn is_read(opcode: u8) -> bool
     ensures { result ≡ is_read opcode }
 {
     match opcode {
         Command::READ_STATUS => true,
-        Command::LOW_POWER_READ => true,
-        Command::HIGH_SPEED_READ => true,
+        Command::LOW_POWER_READ | Command::HIGH_SPEED_READ => true,
         Command::JEDEC_ID => true,
         Command::READ_SFDP => true,
         _ => false,
@@ -147,12 +133,9 @@ pub fn is_read(opcode: u8) -> bool
 }
 
 // Whether an opcode is a page program.
+#[tactic(auto, unfolding(crate::specs::Table::is_program))]
 pub fn is_program(opcode: u8) -> bool
     ensures { result ≡ is_program opcode }
 {
-    match opcode {
-        Command::PAGE_PROGRAM => true,
-        Command::PAGE_PROGRAM_2 => true,
-        _ => false,
-    }
+    matches!(opcode, Command::PAGE_PROGRAM | Command::PAGE_PROGRAM_2)
 }

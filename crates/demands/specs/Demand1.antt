@@ -9,8 +9,7 @@ use Rattle.kinds.specs.Body.{body_at}
 use Rattle.clock.specs.declared.Clock.{Clock}
 use Rattle.clock.specs.Clock.{unset, went_back}
 use Rattle.script.specs.Script.{Event, event_at, events, clock_after, clock_over, played}
-use Rattle.script.specs.declared.Ran.{Ran}
-use Rattle.script.specs.Run.{World, world}
+use Rattle.script.specs.Run.{Ran, World, world}
 use Rattle.script.specs.Run as Run
 use Rattle.demands.specs.Model.{Model, Fit, runs_by}
 

@@ -9,7 +9,7 @@ use Rattle.chip.specs.Job.{total}
 use Rattle.chip.specs.Record.{record_bytes}
 use Rattle.legal.specs.Legal.{legal}
 use Rattle.kinds.specs.Kinds.{known_kind, in_range}
-use Rattle.event.specs.declared.Answer.{Answer}
+use Rattle.event.specs.Alone.{Answer}
 use Rattle.event.specs.Alone.{answer_of, memory_of, said_of}
 use Rattle.script.specs.Script.{Event}
 use Rattle.script.specs.Run.{World, world}

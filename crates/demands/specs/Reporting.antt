@@ -8,9 +8,8 @@ use Rattle.chip.specs.declared.JobKind.TheVariants.{Idle, WriteStatus, Program, 
 use Rattle.margins.specs.declared.Allowances.{Allowances}
 use Rattle.margins.specs.declared.Line.{Line}
 use Rattle.margins.specs.declared.Report.{Report}
-use Rattle.script.specs.declared.Reported.{Reported}
 use Rattle.script.specs.Jobs.{Finished, jobs_of}
-use Rattle.script.specs.Report.{answer_with, memory_with, output_with, report_of}
+use Rattle.script.specs.Report.{Reported, answer_with, memory_with, output_with, report_of}
 use Rattle.demands.specs.Demand1.{RunReply, Runner, ran}
 
 -- ---- reporters

@@ -1,6 +1,6 @@
 -- Scripts in numbers, of the definitions themselves: the kinds, their bodies and ranges, and how the events follow one another. The demands use these words
 -- (`Demand1`); here a wrong definition of one is noticed (RULES, Events).
-use Rattle.std.specs.Prelude.{ℕ, ◌+◌, ◌*◌, ◌%◌, ◌<◌, ◌≤◌, true, false, List, [], ◌∷◌, ◌≡◌, ◌↔◌, length, get_or}
+use Rattle.std.specs.Prelude.{ℕ, ◌+◌, ◌*◌, ◌%◌, ◌<◌, ◌≤◌, true, false, List, [], ◌∷◌, ◌≡◌, ◌↔◌, length, get_or, None, Some}
 use Rattle.kinds.specs.Kinds.{known_kind, known_in_script, body_length, in_range}
 use Rattle.kinds.specs.Body.{body_at}
 use Rattle.clock.specs.declared.Clock.{Clock}
@@ -57,8 +57,8 @@ pub record EventsInNumbers : Type 0 where
 -- What a stamp does to the clock, which stamps went back, and what a run applies for them (RULES, Stamps).
 pub record StampsInNumbers : Type 0 where
   -- a run starts with no stamp; then the clock shows the last one, and no other event touches it, a power cut neither
-  pub unset_is : unset ≡ record { set = false; stamp = 0 }
-  pub shows_is : (stamp : ℕ) → shows stamp ≡ record { set = true; stamp = stamp }
+  pub unset_is : unset ≡ record { last = None }
+  pub shows_is : (stamp : ℕ) → shows stamp ≡ record { last = Some stamp }
   pub stamp_sets : (k : Clock) (e : Event) → e.kind ≡ 0x09 → clock_after k e ≡ shows e.body
   pub others_leave : (k : Clock) (e : Event) → (e.kind ≡ 0x09 → ⊥) → clock_after k e ≡ k
   pub over_none : (k : Clock) → clock_over k [] ≡ k

@@ -1,5 +1,5 @@
 -- What is true of one event: each way that it goes, and what it leaves alone.
-use Rattle.std.specs.Prelude.{ℕ, ◌≤◌, ◌<◌, ◌%◌, Bool, not, ◌≡◌, length, eqb, ltb}
+use Rattle.std.specs.Prelude.{ℕ, ◌≤◌, ◌<◌, ◌%◌, Bool, not, ◌≡◌, length, eqb, ltb, None, Some, Result, Ok, Err, IsErrAnd}
 use Rattle.std.proofs.Math.Bool.{true, false, cond}
 use Rattle.std.proofs.lemmas.Bool.{false≢true, eqb-false}
 use mathlib.Core.List.{List, []}
@@ -8,9 +8,7 @@ use Rattle.std.proofs.Common.{sym, subst, ◌∙◌, ⊎_elim, mod-eq_of_lt, ari
 use Rattle.cells.specs.Choice.{cond_yes, cond_no, cond_either, chosen_number}
 use Rattle.part.specs.Part.{permitted, Setting, setting, sectors_in}
 use Rattle.part.specs.Area.{longest_area}
-use Rattle.part.specs.declared.Protected.{Protected}
-use Rattle.part.specs.declared.Protected.TheVariants.{NoSector, Sectors}
-use Rattle.part.specs.Protection.{protected_sectors}
+use Rattle.part.specs.Protection.{Protected, protected_sectors}
 use Rattle.kinds.specs.Kinds.{SELECT, EXCHANGE, DESELECT, TICK, TICKS, WP, POWER, Says, KindRow, kind_row_in, kind_row, known_kind, body_length, in_range, says_of, is_said, room_of}
 use Rattle.kinds.proofs.Laws.{not-kind, kind_each, none_known, unknown_silent, range_small}
 use Rattle.chip.specs.declared.Chip.{Chip}
@@ -27,7 +25,11 @@ use Rattle.commands.specs.Table.{is_read}
 use Rattle.chip.specs.Chip.{empty_frame, blank_load}
 use Rattle.verdict.specs.Verdict.{verdict, in_the_way, record_of}
 use Rattle.verdict.proofs.Laws.{verdict-read, settled-read, held_stays, record_plain}
-use Rattle.event.specs.declared.Answer.{Answer}
+use Rattle.refusal.specs.declared.Refusal.{Refusal}
+use Rattle.refusal.specs.Table.{number_of}
+use Rattle.refusal.specs.Laws.{refused as refused_by, refusal_by, by_number}
+use Rattle.event.specs.declared.Done.{Done}
+use Rattle.event.specs.Alone.{Answer, answered}
 use Rattle.event.specs.Event.{Outcome, outcome, as_it_was, select, exchange_byte, deselect, closes, tick, set_wp, cut_power, applied, sort_of}
 use Rattle.event.specs.Alone.{body_used, refusal, refused, done, happens, answer_of, memory_of, said_of}
 
@@ -159,6 +161,24 @@ module _ (c : Chip) (m area : List ℕ) (kind body : ℕ) where
       go true = refl
       go false = refl
 
+  -- a result that is refused by its number leaves all as it was
+  pub all_refused : (r : Result Done Refusal) (why : Refusal) → IsErrAnd r (λ (e : Refusal). e ≡ why) → number ≡ number_of why
+      → (answered c r ≡ answer_of c m area kind body) × (m ≡ memory_of c m area kind body) × (record_bytes (answered c r).said ≡ said_of c m area kind body)
+  all_refused (Err e) why same by =
+      let by_e : number ≡ number_of e = by ∙ sym (ap number_of same) in
+      let ne : number ≡ 0 → ⊥ = λ z. eqb-false _ _ (refused_by e) (sym by_e ∙ z) in
+      let told : answered c (Err e) ≡ answer_of c m area kind body = ap (refused c) (sym by_e) ∙ sym (answer_refused ne) in
+      (told, sym (memory_refused ne), said_bytes _ told)
+  all_refused (Ok d) why same by = absurd same
+
+-- an event's result is known by its answer: no two results tell the same of a chip
+pub answered_one : (c : Chip) (r r' : Result Done Refusal) → answered c r ≡ answered c r' → r ≡ r'
+answered_one c (Ok d) (Ok d') e =
+    λ i. Ok (record { chip = ap (λ (a : Answer). a.chip) e i; said = ap (λ (a : Answer). a.said) e i; ticks = ap (λ (a : Answer). a.ticks) e i })
+answered_one c (Ok d) (Err b) e = absurd (eqb-false (number_of b) 0 (refused_by b) (sym (ap (λ (a : Answer). a.refusal) e)))
+answered_one c (Err b) (Ok d) e = absurd (eqb-false (number_of b) 0 (refused_by b) (ap (λ (a : Answer). a.refusal) e))
+answered_one c (Err b) (Err b') e = ap Err (sym (by_number b) ∙ ap (λ (a : Answer). refusal_by a.refusal) e ∙ by_number b')
+
 -- a body in its range, or 0 for a kind that has none, is at most 65,535
 pub used_small : (kind body : ℕ) → in_range kind body ≡ true → body_used kind body ≤ 65535
 unfolding body_used
@@ -184,8 +204,8 @@ unfolding record_of
 record_sort S k v = cond_either (λ (r : Record). sort_of r ≡ Says.verdict) (eqb v 9) _ _ (λ _. at (protected_sectors k.level k.tb S)) (λ _. refl)
   where
     at : (range : Protected) → sort_of (in_the_way range) ≡ Says.verdict
-    at NoSector = refl
-    at (Sectors first last) = refl
+    at None = refl
+    at (Some ends) = refl
 
 deselect-sort : (T : Setting) (c : Chip) (m : List ℕ) (loose : Bool) → sort_of (deselect T c m loose).said ≡ Says.verdict
 deselect-sort T c m loose = cond_either (λ (o : Outcome). sort_of o.said ≡ Says.verdict) c.frame.selected _ _ (λ _. record_sort T.sectors c.core _) (λ _. refl)

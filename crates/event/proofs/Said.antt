@@ -1,13 +1,11 @@
 -- What a legal state says at an event: a verdict of the list, which ends at 11, with 8 only where WEN is 0; and sectors of the largest part (RULES, Records).
 use Prim.Native.Nat.{ℕ, ◌≤◌}
-use Rattle.std.specs.Prelude.{Bool, true, false, List, ◌≡◌, refl, eqb, ltb, length}
+use Rattle.std.specs.Prelude.{Bool, true, false, List, ◌≡◌, refl, eqb, ltb, length, None, Some}
 use Rattle.std.proofs.Common.{sym, ap, ◌∙◌}
 use native.Mathlib.Omega.{arith}
 use Rattle.cells.specs.Choice.{cond_either}
 use Rattle.part.specs.Part.{sectors_in, Setting}
-use Rattle.part.specs.declared.Protected.{Protected}
-use Rattle.part.specs.declared.Protected.TheVariants.{NoSector, Sectors}
-use Rattle.part.specs.Protection.{protected_sectors}
+use Rattle.part.specs.Protection.{Protected, protected_sectors}
 use Rattle.part.proofs.Laws.{ends-small}
 use Rattle.chip.specs.declared.Chip.{Chip}
 use Rattle.chip.specs.declared.Core.{Core}
@@ -39,9 +37,9 @@ module _ (T : Setting) (c : Chip) (m : List ℕ) (same : T.sectors ≡ sectors_i
 
   -- the ends of the protected sectors lie on the part
   ends_said : (range : Protected) → protected_sectors c.core.level c.core.tb T.sectors ≡ range → Told c.core (in_the_way range)
-  ends_said NoSector e = (omega arith, λ eight. absurd (omega arith))
-  ends_said (Sectors first last) e =
-      ends-small c.core.level c.core.tb (length m) first last facts.length_permitted (ap (protected_sectors c.core.level c.core.tb) (sym same) ∙ e)
+  ends_said None e = (omega arith, λ eight. absurd (omega arith))
+  ends_said (Some ends) e =
+      ends-small c.core.level c.core.tb (length m) ends.first ends.last facts.length_permitted (ap (protected_sectors c.core.level c.core.tb) (sym same) ∙ e)
 
   deselect_told : (loose : Bool) → ToldBy (deselect T c m loose)
   unfolding record_of

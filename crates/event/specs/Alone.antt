@@ -1,13 +1,16 @@
 -- One event alone: its answer for every kind, body, state, area and memory length (RULES, Events; Refusals).
-use Rattle.std.specs.Prelude.{ℕ, cond, not, List, [], eqb, ltb, length}
+use Rattle.std.specs.Prelude.{ℕ, cond, not, List, [], eqb, ltb, length, Result, Ok, Err}
+use Rattle.refusal.specs.declared.Refusal.{Refusal}
+use Rattle.refusal.specs.Table.{number_of}
 use Rattle.part.specs.Part.{permitted, setting_of}
 use Rattle.part.specs.Area.{longest_area}
 use Rattle.kinds.specs.Kinds.{known_kind, body_length, in_range}
 use Rattle.chip.specs.declared.Chip.{Chip}
+use Rattle.chip.specs.declared.Record.{Record}
 use Rattle.chip.specs.declared.Record.TheVariants.{Nothing}
 use Rattle.chip.specs.Record.{record_bytes}
 use Rattle.legal.specs.Legal.{legal}
-use Rattle.event.specs.declared.Answer.{Answer}
+use Rattle.event.specs.declared.Done.{Done}
 use Rattle.event.specs.Event.{Outcome, applied}
 
 -- a kind without a body does not look at what is given for one
@@ -23,6 +26,13 @@ refusal c n extent kind body =
     (cond (not (known_kind kind)) 5
     (cond (not (in_range kind body)) 6 0))))
 
+-- an answer: the chip, what the event said, the number that refused it, 0 for none, and its working ticks
+pub record Answer : Type 0 where
+  pub chip : Chip
+  pub said : Record
+  pub refusal : ℕ
+  pub ticks : ℕ
+
 -- refused, the chip comes back as it was given, with no record and no ticks
 abbrev pub refused : Chip → ℕ → Answer
 refused c number = record { chip = c; said = Nothing; refusal = number; ticks = 0 }
@@ -30,6 +40,11 @@ refused c number = record { chip = c; said = Nothing; refusal = number; ticks = 
 -- done, the new chip comes with the record and the working ticks
 abbrev pub done : Outcome → Answer
 done o = record { chip = o.chip; said = o.said; refusal = 0; ticks = o.ticks }
+
+-- the answer that a result tells, whose chip was lent: an event that is done has no number, and one that is refused leaves all as it was
+abbrev pub answered : Chip → Result Done Refusal → Answer
+answered c (Ok d) = record { chip = d.chip; said = d.said; refusal = 0; ticks = d.ticks }
+answered c (Err why) = refused c (number_of why)
 
 -- what the event does, if it is done
 unfoldable pub happens : Chip → List ℕ → List ℕ → ℕ → ℕ → Outcome

@@ -19,13 +19,14 @@ pub struct Exchanged {
 }
 
 // The judgement of an opcode: 3, 5, 6, 7, or 0 for none.
+// Stays: a judgement is a byte of the state, and `legal` has to answer for every byte that C hands in.
+#[tactic(auto, using(commands::specs::Laws::row_none, commands::specs::Laws::row_some), unfolding(crate::specs::Frame::judge))]
 pub fn judge(core: Core, opcode: u8) -> u8
     ensures { result ≡ judge core opcode }
 {
-    let row = commands::row_of(opcode);
-    if !row.known {
+    let Some(row) = commands::row_of(opcode) else {
         return 3;
-    }
+    };
     if core.deep & !(opcode == Command::WAKE) {
         return 5;
     }
@@ -43,21 +44,15 @@ pub fn judge(core: Core, opcode: u8) -> u8
 fn count_up(n: u8) -> u8
     ensures { result ≡ counted n }
 {
-    if n < 6 {
-        return n + 1;
-    }
-    6
+    n.min(5) + 1
 }
 
 // The place after `place` in a row of n places.
 fn place_up(n: usize, place: usize) -> usize
     ensures { result ≡ next_place n place }
 {
-    if place < n {
-        if place + 1 < n {
-            return place + 1;
-        }
-        return 0;
+    if place < n.saturating_sub(1) {
+        return place + 1;
     }
     0
 }
@@ -66,10 +61,7 @@ fn place_up(n: usize, place: usize) -> usize
 fn slot_up(slot: u8) -> u8
     ensures { result ≡ next_slot slot }
 {
-    if slot < 255 {
-        return slot + 1;
-    }
-    0
+    slot.wrapping_add(1)
 }
 
 // The address with one more byte shifted in.
@@ -79,40 +71,46 @@ fn shift_in(address: u32, b: u8) -> u32
     address % 65536 * 256 + (b as u32)
 }
 
+// The frame with its opcode byte, judged.
 fn begin(core: Core, b: u8, f: Frame) -> Frame
     ensures { result ≡ opened core b f }
 {
-    let mut next = f;
-    next.opcode = b;
-    next.count = count_up(f.count);
-    next.judgement = judge(core, b);
-    next
+    Frame {
+        opcode: b,
+        count: count_up(f.count),
+        judgement: judge(core, b),
+        ..f
+    }
 }
 
+// The frame with one more byte, which is only counted.
 fn count(f: Frame) -> Frame
     ensures { result ≡ counting f }
 {
-    let mut next = f;
-    next.count = count_up(f.count);
-    next
+    Frame {
+        count: count_up(f.count),
+        ..f
+    }
 }
 
+// The frame with one more byte of a read from a row of n places.
 fn read(n: usize, f: Frame) -> Frame
     ensures { result ≡ reading n f }
 {
-    let mut next = f;
-    next.place = place_up(n, f.place);
-    next.count = count_up(f.count);
-    next
+    Frame {
+        place: place_up(n, f.place),
+        ..count(f)
+    }
 }
 
+// The frame with one more data byte of a page program.
 fn load_up(f: Frame) -> Frame
     ensures { result ≡ loading f }
 {
-    let mut next = f;
-    next.slot = slot_up(f.slot);
-    next.count = count_up(f.count);
-    next
+    Frame {
+        slot: slot_up(f.slot),
+        ..count(f)
+    }
 }
 
 // The read place that an address sets: 5Ah takes the address as it is.
@@ -125,24 +123,27 @@ fn first_place(sectors: u8, opcode: u8, address: u32) -> usize
     part::cell_of(sectors, address)
 }
 
+// The frame with one more byte of its address, if that is not whole; the last one sets both places.
 fn address(sectors: u8, b: u8, f: Frame) -> Frame
     ensures { result ≡ addressing sectors b f }
 {
-    let mut next = f;
-    next.count = count_up(f.count);
+    let next = count(f);
     if 4 <= f.count {
         return next;
     }
-    let full = shift_in(f.address, b);
-    next.address = full;
+    let address = shift_in(f.address, b);
     if f.count == 3 {
-        next.place = first_place(sectors, f.opcode, full);
-        next.slot = b;
-        return next;
+        return Frame {
+            address,
+            place: first_place(sectors, f.opcode, address),
+            slot: b,
+            ..next
+        };
     }
-    next
+    Frame { address, ..next }
 }
 
+// Whether the next byte is a cell.
 fn reads_cell(f: Frame) -> bool
     ensures { result ≡ reads_cell f }
 {
@@ -150,18 +151,21 @@ fn reads_cell(f: Frame) -> bool
         | ((f.opcode == Command::HIGH_SPEED_READ) & (5 <= f.count))
 }
 
+// Whether it is data of a page program.
 fn takes_data(f: Frame) -> bool
     ensures { result ≡ takes_data f }
 {
     commands::is_program(f.opcode) & (4 <= f.count)
 }
 
+// Whether it is a byte of the SFDP area.
 fn reads_area(f: Frame) -> bool
     ensures { result ≡ reads_area f }
 {
     (f.opcode == Command::READ_SFDP) & (5 <= f.count)
 }
 
+// The line left floating.
 fn floats(f: Frame) -> Exchanged
     ensures { result ≡ record { said = Record.Floating; frame = f } }
 {
@@ -171,6 +175,7 @@ fn floats(f: Frame) -> Exchanged
     }
 }
 
+// The byte driven.
 fn drives(b: u8, f: Frame) -> Exchanged
     ensures { result ≡ record { said = Record.Driven b; frame = f } }
 {
@@ -180,6 +185,7 @@ fn drives(b: u8, f: Frame) -> Exchanged
     }
 }
 
+// Whether it is a data byte of either kind.
 fn is_data(f: Frame) -> bool
     ensures { result ≡ is_data f }
 {
@@ -194,12 +200,12 @@ pub fn streams(f: Frame) -> bool
 }
 
 // A data byte of a read of cells or of a page load: it asks nothing of the core.
+#[tactic(auto, unfolding(crate::specs::Stream::streamed))]
 fn stream(f: Frame, load: &mut [u8; 256], mem: &[u8], sectors: u8, b: u8) -> Exchanged
     ensures { exchange result.said result.frame load.new ≡ streamed sectors f load.old mem.now b }
 {
     if commands::is_program(f.opcode) {
-        let slot = f.slot as usize;
-        load[slot] = b;
+        load[f.slot as usize] = b;
         return floats(load_up(f));
     }
     drives(
@@ -209,6 +215,7 @@ fn stream(f: Frame, load: &mut [u8; 256], mem: &[u8], sectors: u8, b: u8) -> Exc
 }
 
 // Byte 2 and up of a frame with judgement none.
+#[tactic(auto, using(crate::specs::StreamLaws::no_cell, crate::specs::StreamLaws::no_load), unfolding(crate::specs::Frame::taken))]
 fn take(
     core: Core,
     f: Frame,
@@ -239,6 +246,7 @@ fn take(
 }
 
 // One exchange of byte b.
+#[tactic(auto, unfolding(crate::specs::Frame::exchanged))]
 pub fn exchange(
     core: Core,
     f: Frame,

@@ -24,8 +24,8 @@ pub steps-none : (kind : JobKind) (start : ℕ) (held : List ℕ) (d : ℕ) (m :
 steps-none kind start held d m = rw (zero-mul (unit kind)) (sweep-none _ m _)
 
 -- a job without cells changes none
-pub steps-no_cells : (kind : JobKind) (start : ℕ) (held : List ℕ) (d k : ℕ) (m : List ℕ) → unit kind ≡ 0 → steps kind start held d k m ≡ m
-steps-no_cells kind start held d k m h =
+pub steps_no_cells : (kind : JobKind) (start : ℕ) (held : List ℕ) (d k : ℕ) (m : List ℕ) → unit kind ≡ 0 → steps kind start held d k m ≡ m
+steps_no_cells kind start held d k m h =
     let e : k * unit kind ≡ 0 = ap (λ (u : ℕ). k * u) h ∙ mul-zero k in
     ap (sweep (later (rule kind held) (d * unit kind)) m (start + d * unit kind)) e ∙ sweep-none _ m _
 

@@ -6,6 +6,9 @@ use Rattle.std.proofs.Math.Decide.{ℕ_discrete}
 use Rattle.std.proofs.Math.ListN.{get_or-eq_default}
 use Rattle.cells.specs.Choice.{cond_yes, and_right}
 use Rattle.kinds.specs.Kinds.{SELECT, EXCHANGE, DESELECT, TICK, TICKS, WP, POWER, STAMP, Says, Where, KindRow, row, kind_row_in, known_kind, known_in_script, kind_row, is_said, is_anywhere, is_somewhere, body_length, in_range, says_of, yields, room_of}
+use Rattle.kinds.specs.declared.Kind.{Kind}
+use Rattle.kinds.specs.declared.Kind.TheVariants.{Select, Exchange, Deselect, Tick, Ticks, Wp, Power, Stamp}
+use Rattle.kinds.specs.Number.{number_of}
 use Rattle.kinds.specs.Body.{number_at, body_at, next_at, step_to}
 
 -- ---- kind by kind
@@ -56,6 +59,34 @@ not-event =
     (λ n _ _ _ _ _ _. absurd (n refl)) (λ _ n _ _ _ _ _. absurd (n refl)) (λ _ _ n _ _ _ _. absurd (n refl)) (λ _ _ _ n _ _ _. absurd (n refl)) (λ _ _ _ _ n _ _. absurd (n refl)) (λ _ _ _ _ _ n _. absurd (n refl)) (λ _ _ _ _ _ _ n. absurd (n refl))
     (λ _ _ _ _ _ _ _. refl)
     (λ kind none _ _ _ _ _ _ _. none_known none)
+
+-- a number of the table is known, and one that is known nowhere has the row of no kind
+pub number_known : (kind : Kind) → known_in_script (number_of kind) ≡ true
+unfolding known_in_script kind_row kind_row_in
+number_known Select = refl
+number_known Exchange = refl
+number_known Deselect = refl
+number_known Tick = refl
+number_known Ticks = refl
+number_known Wp = refl
+number_known Power = refl
+number_known Stamp = refl
+
+pub unknown_row : (kind : ℕ) → known_in_script kind ≡ false → kind_row kind ≡ row kind 0 0 0 Says.silent 0 Where.nowhere
+unfolding known_in_script kind_row kind_row_in
+unknown_row =
+    kind_each (λ kind. known_in_script kind ≡ false → kind_row kind ≡ row kind 0 0 0 Says.silent 0 Where.nowhere)
+    (λ h. absurd (false≢true (sym h))) (λ h. absurd (false≢true (sym h))) (λ h. absurd (false≢true (sym h))) (λ h. absurd (false≢true (sym h)))
+    (λ h. absurd (false≢true (sym h))) (λ h. absurd (false≢true (sym h))) (λ h. absurd (false≢true (sym h))) (λ h. absurd (false≢true (sym h)))
+    (λ kind none _. none)
+
+-- a number that is none of the eight kinds is known nowhere
+pub not_script : (kind : ℕ) → (kind ≡ SELECT → ⊥) → (kind ≡ EXCHANGE → ⊥) → (kind ≡ DESELECT → ⊥) → (kind ≡ TICK → ⊥) → (kind ≡ TICKS → ⊥) → (kind ≡ WP → ⊥) → (kind ≡ POWER → ⊥) → (kind ≡ STAMP → ⊥) → known_in_script kind ≡ false
+not_script =
+    kind_each (λ kind. (kind ≡ SELECT → ⊥) → (kind ≡ EXCHANGE → ⊥) → (kind ≡ DESELECT → ⊥) → (kind ≡ TICK → ⊥) → (kind ≡ TICKS → ⊥) → (kind ≡ WP → ⊥) → (kind ≡ POWER → ⊥) → (kind ≡ STAMP → ⊥) → known_in_script kind ≡ false)
+    (λ n _ _ _ _ _ _ _. absurd (n refl)) (λ _ n _ _ _ _ _ _. absurd (n refl)) (λ _ _ n _ _ _ _ _. absurd (n refl)) (λ _ _ _ n _ _ _ _. absurd (n refl))
+    (λ _ _ _ _ n _ _ _. absurd (n refl)) (λ _ _ _ _ _ n _ _. absurd (n refl)) (λ _ _ _ _ _ _ n _. absurd (n refl)) (λ _ _ _ _ _ _ _ n. absurd (n refl))
+    (λ kind none _ _ _ _ _ _ _ _. none_in_script none)
 
 -- what cannot be applied alone says nothing, and is given no room
 pub unknown_silent : (kind : ℕ) → known_kind kind ≡ false → says_of kind ≡ Says.silent

@@ -91,7 +91,7 @@ row_inside s at h = upto (exchanges_from s at) refl
         omega arith
 
 -- a row is longer than i when it has i, and one stands behind those
-row-longer : (s : List ℕ) (at i : ℕ) → leb (i + 1) (exchanges_from s at) ≡ (leb i (exchanges_from s at) && is_exchange s (at + 2 * i))
+pub row-longer : (s : List ℕ) (at i : ℕ) → leb (i + 1) (exchanges_from s at) ≡ (leb i (exchanges_from s at) && is_exchange s (at + 2 * i))
 row-longer s at i = pick (leb i (exchanges_from s at)) (is_exchange s (at + 2 * i)) refl refl
   where
     pick : (l b : Bool) → leb i (exchanges_from s at) ≡ l → is_exchange s (at + 2 * i) ≡ b → leb (i + 1) (exchanges_from s at) ≡ (l && b)

@@ -5,11 +5,11 @@ use Rattle.cells.specs.Choice.{and_true}
 use Rattle.legal.specs.Legal.{is_blank}
 
 -- one byte more of a look that has been blank so far, or not
-pub is_blank-more : (so_far : Bool) (l : List ℕ) (i : ℕ) → i < length l
+pub is_blank_more : (so_far : Bool) (l : List ℕ) (i : ℕ) → i < length l
     → (so_far && is_blank (drop i l)) ≡ (so_far && eqb (get_or l i 0) 255 && is_blank (drop (i + 1) l))
 unfolding is_blank
-is_blank-more true l i h = rw (add-one, drop-cons l i 0 h)
-is_blank-more false l i h = refl
+is_blank_more true l i h = rw (add-one, drop-cons l i 0 h)
+is_blank_more false l i h = refl
 
 pub is_blank-ends : (so_far : Bool) (l : List ℕ) (i : ℕ) → length l ≤ i → (so_far && is_blank (drop i l)) ≡ so_far
 unfolding is_blank

@@ -2,7 +2,7 @@
 use Rattle.std.specs.Prelude.{ℕ, List, ◌≡◌, length}
 use Rattle.std.proofs.Common.{ap, ◌∙◌}
 use Rattle.chip.specs.declared.Chip.{Chip}
-use Rattle.event.specs.declared.Answer.{Answer}
+use Rattle.event.specs.Alone.{Answer}
 use Rattle.event.specs.Alone.{refusal, answer_of, memory_of}
 use Rattle.event.proofs.Laws.{answer_refused, memory_refused}
 

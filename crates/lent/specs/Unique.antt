@@ -3,7 +3,7 @@ use Rattle.std.specs.Prelude.{ℕ, List, ◌≡◌}
 use Rattle.cells.specs.Choice.{same}
 use Rattle.chip.specs.declared.Chip.{Chip}
 use Rattle.chip.specs.Record.{record_bytes}
-use Rattle.event.specs.declared.Answer.{Answer}
+use Rattle.event.specs.Alone.{Answer}
 use Rattle.event.specs.Alone.{answer_of, memory_of, said_of}
 
 -- `event_on`: r the answer, d the lent chip at exit, z the memory at exit, and the record's bytes

@@ -5,12 +5,15 @@ use Rattle.cells.specs.Choice.{cond_yes, cond_no}
 use Rattle.part.specs.Part.{sector, setting_of}
 use Rattle.chip.specs.declared.Chip.{Chip}
 use Rattle.chip.specs.Chip.{fresh}
-use Rattle.script.specs.declared.Ran.{Ran}
 use Rattle.clock.specs.Clock.{unset}
+use Rattle.refusal.specs.Table.{number_of}
+use Rattle.refusal.specs.Laws.{refused as is_told}
+use Rattle.script.specs.declared.Done.{Done}
+use Rattle.script.specs.declared.Refused.{Refused}
 use Rattle.script.specs.Script.{events, played}
-use Rattle.script.specs.Run.{world, refusal, world_after, answer_of, output_of}
+use Rattle.script.specs.Run.{Ran, world, refusal, told, finished, refused, world_after, answer_of, output_of}
 use Rattle.script.proofs.Laws.{answer_number, output_done}
-use Rattle.listing.specs.Text.{part_line, done_line, too_long}
+use Rattle.listing.specs.Text.{part_line, done_line, refused_line, too_long}
 use Rattle.listing.specs.Output.{read_lines}
 use Rattle.listing.proofs.OutputLaws.{read-lines, read-timed}
 use Rattle.listing.specs.Report.{lines_of, answer_text, program_area, run_text, longest_script, output_room, report_of}
@@ -45,6 +48,18 @@ text_run c m s out r out' is e =
     ∙ ap (λ (t : List ℕ). part_line (length m) ++ t)
     (answer_lines lines (read_lines (events s) out' 0) r.refusal r.offset r.ticks
     (λ ok. sym (ap (λ (o : List ℕ). read_lines (events s) o 0) e ∙ read-run c m program_area s out (ap (λ (a : Ran). a.refusal) (sym is) ∙ ok))))
+
+-- the same of a run that is done
+pub text_done : (c : Chip) (m s out : List ℕ) (d : Done) (out' : List ℕ) → finished d.chip d.written d.ticks ≡ answer_of c m program_area s out → out' ≡ output_of c m program_area s out
+    → run_text c m s out ≡ part_line (length m) ++ (read_lines (events s) out' 0 ++ done_line d.ticks)
+unfolding answer_text
+text_done c m s out d out' is e = text_run c m s out _ out' is e
+
+-- and of one that is refused
+pub text_refused : (c : Chip) (m s out : List ℕ) (e : Refused) (out' : List ℕ) → refused c (told e) ≡ answer_of c m program_area s out → out' ≡ output_of c m program_area s out
+    → run_text c m s out ≡ part_line (length m) ++ refused_line (number_of e.refusal) e.offset
+unfolding answer_text
+text_refused c m s out e out' is same = text_run c m s out _ out' is same ∙ ap (λ (t : List ℕ). part_line (length m) ++ t) (cond_no _ _ _ (is_told e.refusal))
 
 -- ---- what the program prints
 

@@ -15,11 +15,10 @@ use Rattle.legal.specs.Legal.{legal, legal_job, legal_core, legal_frame, is_empt
 use Rattle.event.proofs.Said.{Told, said_told}
 use Rattle.event.proofs.Legality.{legal-applied}
 use Rattle.event.proofs.Keeps.{length-applied}
-use Rattle.script.specs.declared.Ran.{Ran}
 use Rattle.clock.specs.declared.Clock.{Clock}
 use Rattle.clock.specs.Clock.{unset, moved_on}
 use Rattle.script.specs.Script.{Event, event_at, walk, events_from, is_stamp, clock_after, ticks_given, given, timed, played}
-use Rattle.script.specs.Run.{World, world, does, onward, answer_of}
+use Rattle.script.specs.Run.{Ran, World, world, does, onward, answer_of}
 use Rattle.listing.specs.Text.{word_of, line_of, part_line, done_line, refused_line, longest_line}
 use Rattle.listing.proofs.TextLaws.{spelled-most, spelled-below}
 use Rattle.listing.specs.Report.{longest_script, output_room, text_room, lines_of, answer_text, program_area, run_text}

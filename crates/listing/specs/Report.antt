@@ -5,9 +5,8 @@ use Rattle.kinds.specs.Kinds.{yields}
 use Rattle.chip.specs.declared.Chip.{Chip}
 use Rattle.chip.specs.Chip.{fresh}
 use Rattle.chip.specs.Record.{longest_record}
-use Rattle.script.specs.declared.Ran.{Ran}
 use Rattle.script.specs.Script.{Event, played}
-use Rattle.script.specs.Run.{World, world, does, onward, answer_of}
+use Rattle.script.specs.Run.{Ran, World, world, does, onward, answer_of}
 use Rattle.listing.specs.Text.{line_of, part_line, done_line, refused_line, too_long}
 
 -- the longest script that is run (RULES, The program)

@@ -1,16 +1,19 @@
 // What the program prints: a run on a blank part, with its records read back from the output, as text.
 #![tactic(auto)]
 
-ghost use Rattle.std.specs.Prelude.{◌≡◌, [], ◌∷◌, ◌++◌, ◌+◌, ◌<◌, ◌≤◌, length, drop};
+ghost use Rattle.std.specs.Prelude.{◌≡◌, [], ◌∷◌, ◌++◌, ◌<◌, ◌≤◌, length, drop};
 ghost use Rattle.io.specs.Counts.{IsPrefixLen};
-ghost use Rattle.cells.specs.Put.{Put};
+ghost use Rattle.cells.specs.Output.{Puts, room};
 ghost use Rattle.script.specs.Script.{events};
-ghost use Rattle.listing.specs.Text.{decimal_of, hex_digit, line_of};
+ghost use Rattle.refusal.specs.Table.{number_of};
+ghost use Rattle.listing.specs.Text.{decimal_of, hex_digit, line_of, done_line, refused_line};
 ghost use Rattle.listing.specs.Output.{record_at, read_lines};
-ghost use Rattle.listing.specs.Report.{longest_script, output_room, answer_text, run_text, report_of};
+ghost use Rattle.listing.specs.Report.{text_room, run_text, report_of};
 
+use cells::output::Output;
 use chip::{Chip, Record};
 use part::Part;
+use script::Refused;
 
 // The longest script that is run.
 pub const LONGEST: usize = 4096;
@@ -19,47 +22,40 @@ pub const LONGEST: usize = 4096;
 // script, and the first and the last line fit in the rest (`report_fits`).
 pub const ROOM: usize = 16 * LONGEST;
 
-// The record that stands at a place of a run's output.
-fn record_at(out: &[u8], at: usize) -> Record
-    requires { at ≤ output_room }
-    ensures { result ≡ record_at out.now at }
+// The record at the start of some of a run's output.
+#[tactic(auto, unfolding(crate::specs::Output::record_at))]
+fn record_at(out: &[u8]) -> Record
+    ensures { result ≡ record_at out.now 0 }
 {
-    let first = cells::byte_at(out, at);
-    let second = cells::byte_at(out, at + 1);
-    let third = cells::byte_at(out, at + 2);
-    match first {
-        0x80 => Record::Floating,
-        0x81 => Record::Driven(second),
-        0x82 => Record::Verdict(second),
-        0x83 => Record::InTheWay(second, third),
+    let second = cells::byte_at(out, 1);
+    let third = cells::byte_at(out, 2);
+    match cells::byte_at(out, 0) {
+        chip::FLOATING => Record::Floating,
+        chip::DRIVEN => Record::Driven(second),
+        chip::VERDICT => Record::Verdict(second),
+        chip::IN_THE_WAY => Record::InTheWay(second, third),
         _ => Record::Nothing,
     }
 }
 
-// Puts bytes into a text at a place; the answer is the place after them.
-fn put(text: &mut [u8], at: usize, bytes: &[u8]) -> usize
-    requires { at + length bytes.now ≤ length text.old }
-    ensures { Put text.old at bytes.now result text.new }
+// The bytes behind the first n; none where there are not so many.
+fn behind(out: &[u8], n: usize) -> &[u8]
+    ensures { result.now ≡ drop n out.now }
 {
-    let mut i = 0;
-    while i < bytes.len() {
-        text[at + i] = bytes[i];
-        i += 1;
-    }
-    at + bytes.len()
+    out.get(n..).unwrap_or(&[])
 }
 
 // Puts a label, a number in decimal, and a byte after it.
-fn put_number(text: &mut [u8], at: usize, label: &[u8], n: u64, stop: u8) -> usize
-    requires { at + length (label.now ++ decimal_of n ++ (stop ∷ [])) ≤ length text.old }
-    ensures { Put text.old at (label.now ++ decimal_of n ++ (stop ∷ [])) result text.new }
+fn put_number(text: &mut Output, label: &[u8], n: u64, stop: u8)
+    requires { length (label.now ++ decimal_of n ++ (stop ∷ [])) ≤ room text.old }
+    ensures { Puts text.old (label.now ++ decimal_of n ++ (stop ∷ [])) text.new }
 {
+    // Stays: by `write!` each part may end in an Err for want of room, which each caller would have to rule out; here the room is asked for once.
     let mut digits = [0u8; 20];
     let k = io::decimal(n, &mut digits);
-    let number = put(text, at, label);
-    let end = put(text, number, &digits[..k]);
-    text[end] = stop;
-    end + 1
+    text.put(label);
+    text.put(&digits[..k]);
+    text.push(stop);
 }
 
 // An upper-case hex digit.
@@ -67,95 +63,102 @@ fn hex_digit(d: u8) -> u8
     requires { d < 16 }
     ensures { result ≡ hex_digit d }
 {
-    if d < 10 {
-        return 48 + d;
+    match d {
+        0..=9 => b'0' + d,
+        _ => b'A' + (d - 10),
     }
-    55 + d
 }
 
 // Puts the line of a record and of its event's offset.
-fn put_line(text: &mut [u8], at: usize, offset: usize, said: Record) -> usize
-    requires { at + length (line_of offset said) ≤ length text.old }
-    ensures { Put text.old at (line_of offset said) result text.new }
+fn put_line(text: &mut Output, offset: usize, said: Record)
+    requires { length (line_of offset said) ≤ room text.old }
+    ensures { Puts text.old (line_of offset said) text.new }
 {
-    let word = put_number(text, at, b"", offset as u64, b' ');
+    put_number(text, b"", offset as u64, b' ');
     match said {
-        Record::Nothing => put(text, word, b"\n"),
-        Record::Floating => put(text, word, b"--\n"),
-        Record::Driven(b) => {
-            let digits = [hex_digit(b / 16), hex_digit(b % 16), b'\n'];
-            put(text, word, &digits)
-        }
-        Record::Verdict(v) => put_number(text, word, b"V", v as u64, b'\n'),
+        Record::Nothing => text.put(b"\n"),
+        Record::Floating => text.put(b"--\n"),
+        Record::Driven(b) => text.put(&[hex_digit(b / 16), hex_digit(b % 16), b'\n']),
+        Record::Verdict(v) => put_number(text, b"V", v as u64, b'\n'),
         Record::InTheWay(first, last) => {
-            let end = put_number(text, word, b"V9 ", first as u64, b' ');
-            put_number(text, end, b"", last as u64, b'\n')
+            put_number(text, b"V9 ", first as u64, b' ');
+            put_number(text, b"", last as u64, b'\n');
         }
     }
 }
 
 // Puts the lines of a script's records, which stand in the output.
-fn put_lines(text: &mut [u8], at: usize, s: &[u8], out: &[u8]) -> usize
-    requires { (length s.now ≤ longest_script) × (at + length (read_lines (events s.now) out.now 0) ≤ length text.old) }
-    ensures { Put text.old at (read_lines (events s.now) out.now 0) result text.new }
+fn put_lines(text: &mut Output, s: &[u8], out: &[u8])
+    requires { length (read_lines (events s.now) out.now 0) ≤ room text.old }
+    ensures { Puts text.old (read_lines (events s.now) out.now 0) text.new }
 {
-    let mut end = at;
     let mut offset = 0;
-    let mut place = 0;
+    let mut records = out;
+    // Stays: an event's length shows at its first byte, so the offset goes by `next_at`, which no range and no adapter of the library does.
     while offset < s.len() {
-        if !kinds::yields(s[offset] as u64) {
-            offset = kinds::next_at(s, offset);
+        let here = offset;
+        offset = kinds::next_at(s, here);
+        if !kinds::yields(s[here] as u64) {
             continue;
         }
-        let said = record_at(out, place);
-        end = put_line(text, end, offset, said);
-        place += chip::record_length(said);
-        offset = kinds::next_at(s, offset);
+        let said = record_at(records);
+        put_line(text, here, said);
+        records = behind(records, chip::record_length(said));
     }
-    end
 }
 
-// Puts what follows line 1: the lines of the records and the last line, or the refusal.
-fn put_answer(
-    text: &mut [u8],
-    at: usize,
-    s: &[u8],
-    out: &[u8],
-    refusal: u8,
-    offset: usize,
-    ticks: u64,
-) -> usize
-    requires { (length s.now ≤ longest_script)
-        × (at + length (answer_text (read_lines (events s.now) out.now 0) refusal offset ticks) ≤ length text.old) }
-    ensures { Put text.old at (answer_text (read_lines (events s.now) out.now 0) refusal offset ticks) result text.new }
+// Puts what follows line 1 of a run that is done: the lines of the records and the last line.
+fn put_done(text: &mut Output, s: &[u8], out: &[u8], ticks: u64)
+    requires { length (read_lines (events s.now) out.now 0 ++ done_line ticks) ≤ room text.old }
+    ensures { Puts text.old (read_lines (events s.now) out.now 0 ++ done_line ticks) text.new }
 {
-    if refusal != 0 {
-        let end = put_number(text, at, b"answer ", refusal as u64, b' ');
-        return put_number(text, end, b"at ", offset as u64, b'\n');
-    }
-    let end = put_lines(text, at, s, out);
-    put_number(text, end, b"answer 0 ticks ", ticks, b'\n')
+    put_lines(text, s, out);
+    put_number(text, b"answer 0 ticks ", ticks, b'\n');
+}
+
+// Puts what follows line 1 of a run that is refused.
+fn put_refused(text: &mut Output, no: Refused)
+    requires { length (refused_line (number_of no.refusal) no.offset) ≤ room text.old }
+    ensures { Puts text.old (refused_line (number_of no.refusal) no.offset) text.new }
+{
+    put_number(text, b"answer ", no.refusal.number() as u64, b' ');
+    put_number(text, b"at ", no.offset as u64, b'\n');
 }
 
 // Runs a script with an empty SFDP area, and puts what is printed of the run.
-fn put_run(text: &mut [u8], chip: Chip, mem: &mut [u8], s: &[u8], out: &mut [u8]) -> usize
-    requires { (length s.now ≤ longest_script) × (length (run_text chip mem.old s.now out.old) ≤ length text.old) }
-    ensures { Put text.old 0 (run_text chip mem.old s.now out.old) result text.new }
+fn put_run(text: &mut Output, chip: Chip, mem: &mut [u8], s: &[u8], out: &mut [u8])
+    requires { length (run_text chip mem.old s.now out.old) ≤ room text.old }
+    ensures { Puts text.old (run_text chip mem.old s.now out.old) text.new }
 {
-    let at = put_number(text, 0, b"part ", mem.len() as u64, b'\n');
-    let r = script::run(chip, mem, &[], s, out);
-    put_answer(text, at, s, out, r.refusal, r.offset, r.ticks)
+    put_number(text, b"part ", mem.len() as u64, b'\n');
+    match script::run(chip, mem, &[], s, out) {
+        Ok(done) => put_done(text, s, out, done.ticks),
+        Err(no) => put_refused(text, no),
+    }
+}
+
+// Puts what the program prints for a script.
+fn put_report(text: &mut Output, s: &[u8])
+    requires { text_room ≤ room text.old }
+    ensures { Puts text.old (report_of s.now) text.new }
+{
+    if LONGEST < s.len() {
+        text.put(b"too long\n");
+        return;
+    }
+    let mut mem = [0xFFu8; Part::SECTOR];
+    let mut out = [0u8; chip::LONGEST_RECORD * LONGEST];
+    put_run(text, Chip::fresh(0), &mut mem, s, &mut out);
 }
 
 // What the program prints for a script: it stands at the start of the text, and the answer is its length.
+// Stays: the text and the output of a run are arrays, since nothing here asks for a heap.
+#[tactic(auto, using(cells::specs::OutputLaws::puts_first))]
 pub fn report(s: &[u8], text: &mut [u8; ROOM]) -> usize
     ensures value { (result ≡ length (report_of s.now)) × (text.new ≡ report_of s.now ++ drop result text.old) }
     ensures prefix_len { IsPrefixLen result text.new }
 {
-    if LONGEST < s.len() {
-        return put(text, 0, b"too long\n");
-    }
-    let mut mem = [0xFFu8; Part::SECTOR];
-    let mut out = [0u8; chip::LONGEST_RECORD * LONGEST];
-    put_run(text, Chip::fresh(0), &mut mem, s, &mut out)
+    let mut out = Output::new(text);
+    put_report(&mut out, s);
+    out.len()
 }

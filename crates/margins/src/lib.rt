@@ -8,7 +8,7 @@ use chip::JobKind;
 
 // A kind's jobs so far: how many, and the smallest and the largest of their margins.
 #[repr(C)]
-#[derive(Clone, Copy)]
+#[derive(Clone, Copy, PartialEq, Eq, Default)]
 pub struct Line {
     pub count: u32,
     pub smallest: i32,
@@ -17,7 +17,7 @@ pub struct Line {
 
 // A line for each kind of job.
 #[repr(C)]
-#[derive(Clone, Copy)]
+#[derive(Clone, Copy, PartialEq, Eq, Default)]
 pub struct Report {
     pub status: Line,
     pub program: Line,
@@ -27,8 +27,9 @@ pub struct Report {
 }
 
 // How many ticks a job of each kind may use.
+// Stays: this is not `Report` over another type, since C's `chip_run_report` takes both, and no exported function may have a generic struct in its signature.
 #[repr(C)]
-#[derive(Clone, Copy)]
+#[derive(Clone, Copy, PartialEq, Eq)]
 pub struct Allowances {
     pub status: u32,
     pub program: u32,
@@ -37,15 +38,19 @@ pub struct Allowances {
     pub chip: u32,
 }
 
+// The largest allowance.
+const MOST_TICKS: u32 = 1000000;
+
 // Whether each allowance is in its range.
+#[tactic(auto, unfolding(crate::specs::Margins::allowed))]
 pub fn are_allowed(a: Allowances) -> bool
     ensures { result ≡ allowed a }
 {
-    (a.status <= 1000000)
-        & (a.program <= 1000000)
-        & (a.small <= 1000000)
-        & (a.sector <= 1000000)
-        & (a.chip <= 1000000)
+    a.status <= MOST_TICKS
+        && a.program <= MOST_TICKS
+        && a.small <= MOST_TICKS
+        && a.sector <= MOST_TICKS
+        && a.chip <= MOST_TICKS
 }
 
 // The allowance of a kind of job; none for no job.
@@ -62,35 +67,8 @@ pub fn allowance_of(kind: JobKind, a: Allowances) -> u32
     }
 }
 
-fn lesser_of(a: i32, b: i32) -> i32
-    ensures { result ≡ lesser a b }
-{
-    if a < b {
-        return a;
-    }
-    b
-}
-
-fn greater_of(a: i32, b: i32) -> i32
-    ensures { result ≡ greater a b }
-{
-    if a < b {
-        return b;
-    }
-    a
-}
-
-// One job more; a count stops at its ceiling.
-fn one_more(count: u32) -> u32
-    ensures { result ≡ min (count + 1) 4294967295 }
-{
-    if count == 4294967295 {
-        return count;
-    }
-    count + 1
-}
-
 // A line with one margin more; where the count is 0, the margins that stand there are not read.
+#[tactic(auto, unfolding(crate::specs::Margins::joined))]
 fn join(margin: i32, line: Line) -> Line
     ensures { result ≡ joined margin line }
 {
@@ -102,23 +80,21 @@ fn join(margin: i32, line: Line) -> Line
         };
     }
     Line {
-        count: one_more(line.count),
-        smallest: lesser_of(margin, line.smallest),
-        largest: greater_of(margin, line.largest),
+        count: line.count.saturating_add(1),
+        smallest: line.smallest.min(margin),
+        largest: line.largest.max(margin),
     }
 }
 
 // A line without jobs has no margins.
+#[tactic(auto, unfolding(crate::specs::Margins::tidy_line))]
 fn tidy(line: Line) -> Line
     ensures { result ≡ tidy_line line }
 {
     if line.count != 0 {
-        return line;
-    }
-    Line {
-        count: 0,
-        smallest: 0,
-        largest: 0,
+        line
+    } else {
+        Line::default()
     }
 }
 
@@ -139,29 +115,27 @@ pub fn start_from(report: Report) -> Report
 pub fn count(kind: JobKind, margin: i32, report: Report) -> Report
     ensures { result ≡ counted kind margin report }
 {
-    let mut next = report;
     match kind {
-        JobKind::Idle => {}
-        JobKind::WriteStatus(_) => {
-            let line = join(margin, report.status);
-            next.status = line;
-        }
-        JobKind::Program => {
-            let line = join(margin, report.program);
-            next.program = line;
-        }
-        JobKind::SmallErase => {
-            let line = join(margin, report.small);
-            next.small = line;
-        }
-        JobKind::SectorErase => {
-            let line = join(margin, report.sector);
-            next.sector = line;
-        }
-        JobKind::ChipErase => {
-            let line = join(margin, report.chip);
-            next.chip = line;
-        }
+        JobKind::Idle => report,
+        JobKind::WriteStatus(_) => Report {
+            status: join(margin, report.status),
+            ..report
+        },
+        JobKind::Program => Report {
+            program: join(margin, report.program),
+            ..report
+        },
+        JobKind::SmallErase => Report {
+            small: join(margin, report.small),
+            ..report
+        },
+        JobKind::SectorErase => Report {
+            sector: join(margin, report.sector),
+            ..report
+        },
+        JobKind::ChipErase => Report {
+            chip: join(margin, report.chip),
+            ..report
+        },
     }
-    next
 }

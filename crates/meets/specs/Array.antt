@@ -1,14 +1,12 @@
 -- The part and its memory: a memory is the part's cells, and which of them are protected (RULES, The array; Protection).
-use Rattle.std.specs.Prelude.{ℕ, ◌*◌, ◌/◌, ◌<◌, ◌≤◌, ◌-◌, Bool, true, false, ◌&&◌, List, ◌≡◌, refl, ◌↔◌, leb, length}
+use Rattle.std.specs.Prelude.{ℕ, ◌*◌, ◌/◌, ◌<◌, ◌≤◌, ◌-◌, Bool, true, false, ◌&&◌, List, ◌≡◌, refl, ◌↔◌, leb, length, Some}
 use Rattle.std.proofs.Common.{zero-le, sym, ap, subst, ◌∙◌, arith, le-leb, leb-true}
 use Rattle.std.proofs.lemmas.Bool.{false≢true}
 use Rattle.std.proofs.Math.Logic.Iff
 use Rattle.std.proofs.Math.Decide.{ℕ_discrete}
 use Rattle.cells.specs.Choice.{and_left, and_right, and_both}
 use Rattle.part.specs.Part.{permitted, sectors_in, setting_of, length_of}
-use Rattle.part.specs.declared.Protected.{Protected}
-use Rattle.part.specs.declared.Protected.TheVariants.{Sectors}
-use Rattle.part.specs.Protection.{protected_count, first_end, last_end, protected_sectors, protects, is_protected}
+use Rattle.part.specs.Protection.{Protected, ends, protected_count, first_end, last_end, protected_sectors, protects, is_protected}
 use Rattle.part.proofs.Laws.{permitted-whole, no_ends, two_ends, ends-inside, ends-small}
 use Rattle.chip.specs.declared.Core.{Core}
 use Rattle.demands.specs.Demand2.{first_protected, last_protected}
@@ -65,7 +63,7 @@ protection_in_numbers =
         Iff.trans (protected_between L false S some (cell / 65536)) (λ h. omega (arith, h.0), λ h. (omega (arith, h), omega (arith, inside)))
 
     in_order : (n : ℕ) (k : Core) → permitted n ≡ true → (protected_count k.level (sectors_in n) ≡ 0 → ⊥)
-        → protected_sectors k.level k.tb (sectors_in n) ≡ Sectors (first_protected (sectors_in n) k) (last_protected (sectors_in n) k)
+        → protected_sectors k.level k.tb (sectors_in n) ≡ Some (ends (first_protected (sectors_in n) k) (last_protected (sectors_in n) k))
         → (first_protected (sectors_in n) k ≤ last_protected (sectors_in n) k) × (last_protected (sectors_in n) k ≤ 31)
     in_order n k p some is =
         ((ends-inside k.level k.tb (sectors_in n) (first_protected (sectors_in n) k) (last_protected (sectors_in n) k) is).0, (ends-small k.level k.tb n (first_protected (sectors_in n) k) (last_protected (sectors_in n) k) p is).1)

@@ -8,7 +8,7 @@ use Rattle.std.proofs.Math.Decide.{ℕ_discrete, dec_lt}
 use borrow.Author.Tests.{ne_eqb, leb-true, eqb-false, not-true}
 use Rattle.cells.specs.Choice.{cond_yes, cond_no, means_holds, and_left, and_right}
 use Rattle.part.specs.Part.{permitted}
-use Rattle.commands.specs.declared.Row.{Row}
+use Rattle.commands.specs.Table.{Row}
 use Rattle.commands.specs.Table.{rows, row_in, row_of}
 use Rattle.chip.specs.declared.Chip.{Chip}
 use Rattle.chip.specs.declared.Core.{Core}

@@ -1,5 +1,5 @@
 -- Ten worked examples, P1 to P10, proved of the definitions: each a claim, all of them rows under one theorem, `worked-examples`.
-use Rattle.std.specs.Prelude.{ℕ, zero, suc, ◌+◌, ◌%◌, ◌<◌, ◌≤◌, Bool, true, false, List, [], ◌∷◌, ◌++◌, ◌≡◌, refl, length, get_or, drop}
+use Rattle.std.specs.Prelude.{ℕ, zero, suc, ◌+◌, ◌%◌, ◌<◌, ◌≤◌, Bool, true, false, List, [], ◌∷◌, ◌++◌, ◌≡◌, refl, length, get_or, drop, None, Some}
 use Rattle.std.proofs.Common.{sym, ap, subst, ◌∙◌, inr, zero-add, add-zero, arith}
 use Rattle.std.specs.Int.Bits.{bit_and}
 use Rattle.cells.specs.Cells.{sweep, later, blanked, anded}
@@ -7,8 +7,7 @@ use Rattle.cells.proofs.Laws.{sweep-changes, sweep-outside}
 use Rattle.part.specs.Part.{Setting, setting}
 use Rattle.kinds.specs.Kinds.{SELECT, EXCHANGE, DESELECT, TICK, TICKS, STAMP, known_in_script, kind_row_in, known_kind, kind_row}
 use Rattle.commands.specs.Table.{row_of, row_in, fits_rule, is_read, is_program}
-use Rattle.part.specs.declared.Protected.TheVariants.{NoSector, Sectors}
-use Rattle.part.specs.Protection.{protected_count, protected_sectors, is_protected}
+use Rattle.part.specs.Protection.{ends, protected_count, protected_sectors, is_protected}
 use Rattle.chip.specs.declared.Core.{Core}
 use Rattle.chip.specs.declared.JobKind.{JobKind}
 use Rattle.chip.specs.Job.{steps, no_job}
@@ -361,22 +360,22 @@ worked-examples = (p1, (p2, (p3, (p4, (p5, (p6, (p7, (p8, (p9, (p10, tt)))))))))
 
 -- the real part's protected sectors, level by level: its top ones with TB 0, its bottom ones with TB 1
 pub real_part_sectors : Rows
-    ((protected_sectors 0 false 32 ≡ NoSector)
-    ∷ (protected_sectors 1 false 32 ≡ Sectors 31 31)
-    ∷ (protected_sectors 2 false 32 ≡ Sectors 30 31)
-    ∷ (protected_sectors 3 false 32 ≡ Sectors 28 31)
-    ∷ (protected_sectors 4 false 32 ≡ Sectors 24 31)
-    ∷ (protected_sectors 5 false 32 ≡ Sectors 16 31)
-    ∷ (protected_sectors 6 false 32 ≡ Sectors 0 31)
-    ∷ (protected_sectors 7 false 32 ≡ Sectors 0 31)
-    ∷ (protected_sectors 0 true 32 ≡ NoSector)
-    ∷ (protected_sectors 1 true 32 ≡ Sectors 0 0)
-    ∷ (protected_sectors 2 true 32 ≡ Sectors 0 1)
-    ∷ (protected_sectors 3 true 32 ≡ Sectors 0 3)
-    ∷ (protected_sectors 4 true 32 ≡ Sectors 0 7)
-    ∷ (protected_sectors 5 true 32 ≡ Sectors 0 15)
-    ∷ (protected_sectors 6 true 32 ≡ Sectors 0 31)
-    ∷ (protected_sectors 7 true 32 ≡ Sectors 0 31)
+    ((protected_sectors 0 false 32 ≡ None)
+    ∷ (protected_sectors 1 false 32 ≡ Some (ends 31 31))
+    ∷ (protected_sectors 2 false 32 ≡ Some (ends 30 31))
+    ∷ (protected_sectors 3 false 32 ≡ Some (ends 28 31))
+    ∷ (protected_sectors 4 false 32 ≡ Some (ends 24 31))
+    ∷ (protected_sectors 5 false 32 ≡ Some (ends 16 31))
+    ∷ (protected_sectors 6 false 32 ≡ Some (ends 0 31))
+    ∷ (protected_sectors 7 false 32 ≡ Some (ends 0 31))
+    ∷ (protected_sectors 0 true 32 ≡ None)
+    ∷ (protected_sectors 1 true 32 ≡ Some (ends 0 0))
+    ∷ (protected_sectors 2 true 32 ≡ Some (ends 0 1))
+    ∷ (protected_sectors 3 true 32 ≡ Some (ends 0 3))
+    ∷ (protected_sectors 4 true 32 ≡ Some (ends 0 7))
+    ∷ (protected_sectors 5 true 32 ≡ Some (ends 0 15))
+    ∷ (protected_sectors 6 true 32 ≡ Some (ends 0 31))
+    ∷ (protected_sectors 7 true 32 ≡ Some (ends 0 31))
     ∷ [])
 unfolding protected_sectors protected_count
 real_part_sectors = (refl, (refl, (refl, (refl, (refl, (refl, (refl, (refl, (refl, (refl, (refl, (refl, (refl, (refl, (refl, (refl, tt))))))))))))))))

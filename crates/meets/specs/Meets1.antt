@@ -13,9 +13,8 @@ use Rattle.clock.specs.Clock.{unset, moved_on}
 use Rattle.clock.specs.Laws.{moved-most}
 use Rattle.event.proofs.Laws as EventLaws
 use Rattle.event.proofs.Keeps.{length-applied}
-use Rattle.script.specs.declared.Ran.{Ran}
 use Rattle.script.specs.Script.{Event, Refusal, refusal_of, events, is_stamp, clock_after, ticks_given, given, timed, played}
-use Rattle.script.specs.Run.{World, world}
+use Rattle.script.specs.Run.{Ran, World, world}
 use Rattle.script.specs.Run as Run
 use Rattle.script.proofs.Laws as ScriptLaws
 use Rattle.demands.specs.Model.{Reply, replied, ours, event, AllGood, Fit, runs_by}

@@ -18,12 +18,11 @@ use Rattle.legal.specs.Legal.{legal}
 use Rattle.legal.proofs.Legality.{chip-facts}
 use Rattle.clock.specs.Clock.{unset}
 use Rattle.script.specs.Script.{Event, events, played, room}
-use Rattle.script.specs.Run.{World, world, runs}
+use Rattle.script.specs.Run.{Ran, World, world, runs}
 use Rattle.script.specs.Run as Run
-use Rattle.script.specs.declared.Ran.{Ran}
 use Rattle.script.proofs.Laws.{runs-add}
 use Rattle.writer.specs.Writer.{Piece, piece, pieces, exchanges_of, address_bytes, piece_script, script_of, program_script, script_room}
-use Rattle.writer.specs.declared.Written.{Written}
+use Rattle.writer.specs.Writer.{Written}
 use Rattle.writer.specs.Writer as Writer
 use Rattle.writer.proofs.Laws.{pieces_none, pieces_more, count_more, longest_is}
 use Rattle.writer.proofs.Refusals as WriterLaws

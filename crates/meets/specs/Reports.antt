@@ -1,6 +1,6 @@
 -- What a margin report tells of a run: the ticks of each job that it counts, where the job began, how far its margin can be, and one report over two scripts.
 use Prim.Native.Nat.{ℕ, zero, suc, ◌+◌, ◌*◌, ◌<◌, ◌≤◌, ◌%◌}
-use Rattle.std.specs.Prelude.{Bool, not, ◌&&◌, ◌≡◌, eqb, ltb, length, get_or, replicate}
+use Rattle.std.specs.Prelude.{Bool, not, ◌&&◌, ◌≡◌, eqb, ltb, length, get_or, replicate, None, Some}
 use Rattle.std.proofs.Math.Bool.{true, false, cond}
 use Rattle.std.proofs.lemmas.Bool.{false≢true, eqb-false}
 use mathlib.Core.List.{List, [], ◌∷◌, ◌++◌, append-nil}
@@ -10,9 +10,7 @@ use Rattle.std.proofs.Math.Decide.{ℕ_discrete, dec_lt}
 use Rattle.std.specs.Int.{w32}
 use Rattle.cells.specs.Choice.{cond_yes, cond_no, cond_either}
 use Rattle.part.specs.Part.{sectors_in, Setting, setting_of}
-use Rattle.part.specs.declared.Protected.{Protected}
-use Rattle.part.specs.declared.Protected.TheVariants.{NoSector, Sectors}
-use Rattle.part.specs.Protection.{protected_sectors}
+use Rattle.part.specs.Protection.{Protected, protected_sectors}
 use Rattle.commands.specs.Table.{reset}
 use Rattle.kinds.specs.Kinds.{EXCHANGE, TICK, TICKS, STAMP, kind_row, kind_row_in, known_in_script, body_length, in_range}
 use Rattle.kinds.specs.Body.{body_at, next_at}
@@ -89,8 +87,8 @@ unfolding record_of
 said_two S k v = go (ℕ_discrete v 9)
   where
     at : (range : Protected) → is_two (in_the_way range) ≡ false
-    at NoSector = refl
-    at (Sectors first last) = refl
+    at None = refl
+    at (Some ends) = refl
 
     go : Dec (v ≡ 9) → is_two (record_of S k v) ≡ eqb v 2
     go (yes nine) = ap (λ (q : ℕ). is_two (record_of S k q)) nine ∙ at (protected_sectors k.level k.tb S) ∙ sym (ap (λ (q : ℕ). eqb q 2) nine)

@@ -1,7 +1,7 @@
 -- The definition of the table of commands says what `demands/specs/Commands` says.
 use Rattle.std.specs.Prelude.{ℕ, Bool, true, false, List, [], ◌∷◌, ◌≡◌, refl, ◌↔◌}
 use Rattle.std.proofs.Common.{sym, ap, subst, eq-eqb, eqb-true, le-leb, leb-true}
-use Rattle.commands.specs.declared.Row.{Row}
+use Rattle.commands.specs.Table.{Row}
 use Rattle.commands.specs.Table.{rows, row_in, row_of, fits_rule}
 use Rattle.demands.specs.Demand2.{among}
 use Rattle.demands.specs.Commands.{Length, any, exactly, at_least, HasLength, TakenAs, TableInNumbers}

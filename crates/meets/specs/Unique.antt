@@ -14,11 +14,11 @@ use Rattle.job.specs.Tick.{TicksAnswer}
 use Rattle.frame.specs.Frame.{Exchange, exchange, exchanged}
 use Rattle.frame.specs.Stream.{streamed}
 use Rattle.frame.specs.declared.Exchanged.{Exchanged}
-use Rattle.event.specs.declared.Answer.{Answer}
+use Rattle.event.specs.Alone.{Answer}
 use Rattle.event.specs.declared.Stepped.{Stepped}
 use Rattle.event.specs.Event.{Outcome, outcome, applied}
 use Rattle.event.specs.Alone as Alone
-use Rattle.script.specs.declared.Ran.{Ran}
+use Rattle.script.specs.Run.{Ran}
 use Rattle.script.specs.Run as Run
 
 -- `Chip::fresh`

@@ -15,8 +15,7 @@ use Rattle.kinds.specs.Kinds.{in_range}
 use Rattle.kinds.proofs.Laws.{deselect-range}
 use Rattle.clock.specs.Clock.{unset}
 use Rattle.script.specs.Script.{Event, events, played}
-use Rattle.script.specs.declared.Ran.{Ran}
-use Rattle.script.specs.Run.{World, world}
+use Rattle.script.specs.Run.{Ran, World, world}
 use Rattle.script.specs.Run as Run
 use Rattle.demands.specs.Model.{Reply, Model, ours, event, Good, AllGood, Fit, does_by, onward_by, runs_by, working_ticks, worked_by}
 use Rattle.demands.specs.Demand1.{Demand1, RunReply, Runner, Demand1Run, ran, our_run, runner_is_ours}

@@ -1,15 +1,13 @@
 -- What is true of the part: its lengths, its protected sectors and their two ends, and the bytes inside an area.
-use Rattle.std.specs.Prelude.{ℕ, zero, suc, ◌≤◌, ◌<◌, ◌-◌, ◌^◌, Bool, true, false, cond, not, ◌||◌, List, [], ◌∷◌, ◌≡◌, refl, eqb, ltb, length, get_or}
+use Rattle.std.specs.Prelude.{ℕ, zero, suc, ◌≤◌, ◌<◌, ◌-◌, ◌^◌, Bool, true, false, cond, not, ◌||◌, List, [], ◌∷◌, ◌≡◌, refl, eqb, ltb, length, get_or, None, Some}
 use Rattle.std.proofs.lemmas.Bool.{false≢true}
 use Rattle.std.proofs.Common.{sym, ap, ◌∙◌, arith, eqb-true, eq-eqb, ne_eqb}
 use Rattle.std.proofs.Math.Nat.{one-le-pow}
 use Rattle.std.proofs.Math.Decide.{ℕ_discrete}
 use Rattle.cells.specs.Choice.{cond_yes, cond_no, cond_either}
-use Rattle.part.specs.Part.{permitted, sectors_in, length_of}
+use Rattle.part.specs.Part.{permitted, sectors_in, sectors_if, length_of}
 use Rattle.part.specs.Area.{area_byte}
-use Rattle.part.specs.declared.Protected.{Protected}
-use Rattle.part.specs.declared.Protected.TheVariants.{NoSector, Sectors}
-use Rattle.part.specs.Protection.{protected_count, first_end, last_end, protected_sectors, protects_any}
+use Rattle.part.specs.Protection.{Protected, ends, protected_count, first_end, last_end, protected_sectors, protects_any}
 
 -- ---- protection
 
@@ -28,11 +26,11 @@ protected_count-some L S some other =
 
 -- the ends by the count: none for none, and for some the first and the last of so many
 module _ (L : ℕ) (tb : Bool) (S : ℕ) where
-  pub no_ends : protected_count L S ≡ 0 → protected_sectors L tb S ≡ NoSector
+  pub no_ends : protected_count L S ≡ 0 → protected_sectors L tb S ≡ None
   unfolding protected_sectors
   no_ends none = cond_yes _ _ _ (eq-eqb (protected_count L S) 0 none)
 
-  pub two_ends : (protected_count L S ≡ 0 → ⊥) → protected_sectors L tb S ≡ Sectors (first_end (protected_count L S) tb S) (last_end (protected_count L S) tb S)
+  pub two_ends : (protected_count L S ≡ 0 → ⊥) → protected_sectors L tb S ≡ Some (ends (first_end (protected_count L S) tb S) (last_end (protected_count L S) tb S))
   unfolding protected_sectors
   two_ends some = cond_no _ _ _ (ne_eqb (protected_count L S) 0 some)
 
@@ -48,17 +46,17 @@ any_by_level L tb S some = go (ℕ_discrete L 0)
         ap protects_any (two_ends L tb S (λ z. omega (arith, count, z))) ∙ sym (ap not (ne_eqb L 0 n))
 
 -- the two ends lie on the part, in order
-pub ends-inside : (L : ℕ) (tb : Bool) (S first last : ℕ) → protected_sectors L tb S ≡ Sectors first last → (first ≤ last) × (last < S)
+pub ends-inside : (L : ℕ) (tb : Bool) (S first last : ℕ) → protected_sectors L tb S ≡ Some (ends first last) → (first ≤ last) × (last < S)
 ends-inside L tb S first last e = go (ℕ_discrete (protected_count L S) 0)
   where
     -- an end, 0 where there is none
     low : Protected → ℕ
-    low NoSector = 0
-    low (Sectors a b) = a
+    low None = 0
+    low (Some e) = e.first
 
     high : Protected → ℕ
-    high NoSector = 0
-    high (Sectors a b) = b
+    high None = 0
+    high (Some e) = e.last
 
     go : Dec (protected_count L S ≡ 0) → (first ≤ last) × (last < S)
     go (yes none) = absurd (false≢true (ap protects_any (sym (no_ends L tb S none) ∙ e)))
@@ -99,10 +97,25 @@ pub permitted-some : (n : ℕ) → permitted n ≡ true → 1 ≤ sectors_in n
 permitted-some = permitted-each (λ n. 1 ≤ sectors_in n) (omega arith) (omega arith) (omega arith) (omega arith) (omega arith) (omega arith)
 
 -- so both ends of the protected sectors are at most 31
-pub ends-small : (L : ℕ) (tb : Bool) (n first last : ℕ) → permitted n ≡ true → protected_sectors L tb (sectors_in n) ≡ Sectors first last → (first ≤ 31) × (last ≤ 31)
+pub ends-small : (L : ℕ) (tb : Bool) (n first last : ℕ) → permitted n ≡ true → protected_sectors L tb (sectors_in n) ≡ Some (ends first last) → (first ≤ 31) × (last ≤ 31)
 ends-small L tb n first last p e =
     let inside = ends-inside L tb (sectors_in n) first last e in
     (omega (arith, inside.0, inside.1, permitted-most n p), omega (arith, inside.1, permitted-most n p))
+
+-- whether there is a number of sectors tells which lengths are permitted
+pub no_part : (n : ℕ) → sectors_if n ≡ None → permitted n ≡ false
+no_part n e = go (permitted n) refl
+  where
+    go : (b : Bool) → permitted n ≡ b → permitted n ≡ false
+    go true p = let clash : Some (sectors_in n) ≡ None = sym (cond_yes (permitted n) _ _ p) ∙ e in cc
+    go false p = p
+
+pub some_part : (n s : ℕ) → sectors_if n ≡ Some s → (permitted n ≡ true) × (s ≡ sectors_in n)
+some_part n s e = go (permitted n) refl
+  where
+    go : (b : Bool) → permitted n ≡ b → (permitted n ≡ true) × (s ≡ sectors_in n)
+    go true p = let same : Some s ≡ Some (sectors_in n) = sym e ∙ cond_yes (permitted n) _ _ p in (p, cc)
+    go false p = let clash : None ≡ Some s = sym (cond_no (permitted n) _ _ p) ∙ e in cc
 
 -- a number of sectors, 0 for a length that no part has, tells which lengths are permitted
 pub no_sectors : (n s : ℕ) → s ≡ cond (permitted n) (sectors_in n) 0 → s ≡ 0 → permitted n ≡ false

@@ -1,5 +1,5 @@
 -- The protect test and the walk answer alike, for every level, TB, number of sectors and sector: who believes the walk believes the test (RULES, Protection).
-use Rattle.std.specs.Prelude.{ℕ, zero, suc, ◌+◌, ◌-◌, ◌≤◌, ◌<◌, min, Bool, true, false, ◌&&◌, List, ◌∷◌, ◌++◌, reverse, ◌≡◌, refl, leb, length, take, drop}
+use Rattle.std.specs.Prelude.{ℕ, zero, suc, ◌+◌, ◌-◌, ◌≤◌, ◌<◌, min, Bool, true, false, ◌&&◌, List, ◌∷◌, ◌++◌, reverse, ◌≡◌, refl, leb, length, take, drop, Some}
 use Rattle.std.proofs.lemmas.List.{reverse-append, reverse-reverse, length-reverse}
 use Rattle.std.proofs.Common.{sym, ap, ap₂, ◌∙◌, arith, take-append-drop, length-drop, take_at, take_all, eq-eqb, ne_eqb, le-ltb, le-leb}
 use Rattle.std.proofs.Math.Nat.{zero-min, min-zero, suc-min-suc}
@@ -7,9 +7,7 @@ use Rattle.std.proofs.Math.Decide.{ℕ_discrete, dec_le}
 use Rattle.std.proofs.Math.Dec.{eqb-suc-zero}
 use Rattle.std.proofs.lemmas.Bool.{lt-leb}
 use Rattle.cells.specs.Choice.{cond_yes, cond_no, and_both}
-use Rattle.part.specs.declared.Protected.{Protected}
-use Rattle.part.specs.declared.Protected.TheVariants.{Sectors}
-use Rattle.part.specs.Protection.{protected_count, first_end, last_end, protected_sectors, protects, is_protected}
+use Rattle.part.specs.Protection.{Protected, ends, protected_count, first_end, last_end, protected_sectors, protects, is_protected}
 use Rattle.part.proofs.Laws.{protected_count-le, no_ends, two_ends}
 use Rattle.part.specs.Walk.{sectors_from, asks_for, take_last, taken_sectors, walk, protected_by_walk, last_of, ends_of}
 
@@ -94,14 +92,14 @@ last_row : (a n : ℕ) → last_of a (sectors_from (suc a) n) ≡ a + n
 last_row a zero = omega arith
 last_row a (suc n) = last_row (suc a) n ∙ omega arith
 
-ends-row : (a n : ℕ) → (n ≡ 0 → ⊥) → ends_of (sectors_from a n) ≡ Sectors a (a + (n - 1))
+ends-row : (a n : ℕ) → (n ≡ 0 → ⊥) → ends_of (sectors_from a n) ≡ Some (ends a (a + (n - 1)))
 ends-row a zero some = absurd (some refl)
-ends-row a (suc n) some = ap (Sectors a) (last_row a n ∙ omega arith)
+ends-row a (suc n) some = ap (λ (l : ℕ). Some (ends a l)) (last_row a n ∙ omega arith)
 
 -- and what it comes upon lies between them
 row-agrees : (a n x : ℕ) → walk (sectors_from a n) x ≡ protects (ends_of (sectors_from a n)) x
 row-agrees a zero x = refl
-row-agrees a (suc n) x = go (dec_le a x) (dec_le x (a + n)) ∙ sym (ap (λ (range : Protected). protects range x) (ap (Sectors a) (last_row a n)))
+row-agrees a (suc n) x = go (dec_le a x) (dec_le x (a + n)) ∙ sym (ap (λ (range : Protected). protects range x) (ap (λ (l : ℕ). Some (ends a l)) (last_row a n)))
   where
     go : Dec (a ≤ x) → Dec (x ≤ a + n) → walk (sectors_from a (suc n)) x ≡ (leb a x && leb x (a + n))
     go (yes low) (yes high) = walk_inside a (suc n) x low (omega (arith, high)) ∙ sym (and_both _ _ (le-leb a x low) (le-leb x (a + n) high))
@@ -127,7 +125,7 @@ module _ (L : ℕ) (tb : Bool) (S : ℕ) where
 
       go : Dec (count ≡ 0) → ends_of (sectors_from first count) ≡ protected_sectors L tb S
       go (yes none) = ap (λ (n : ℕ). ends_of (sectors_from first n)) none ∙ sym (no_ends L tb S none)
-      go (no some) = ends-row first count some ∙ ap (Sectors first) (last_is tb some) ∙ sym (two_ends L tb S some)
+      go (no some) = ends-row first count some ∙ ap (λ (l : ℕ). Some (ends first l)) (last_is tb some) ∙ sym (two_ends L tb S some)
 
   -- The walk comes upon x exactly where the test says that it is protected, be x a sector of the part or not.
   pub walk_agrees : (x : ℕ) → protected_by_walk L tb S x ≡ is_protected L tb S x

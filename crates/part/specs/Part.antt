@@ -1,5 +1,5 @@
 -- The part: its sizes, its six lengths, what an event is given of it, what an address means, and its identity (RULES, The array; Commands).
-use Rattle.std.specs.Prelude.{ℕ, ◌/◌, ◌%◌, ◌*◌, ◌-◌, Bool, ◌||◌, List, [], ◌∷◌, eqb, get_or}
+use Rattle.std.specs.Prelude.{ℕ, ◌/◌, ◌%◌, ◌*◌, ◌-◌, Bool, ◌||◌, List, [], ◌∷◌, eqb, get_or, cond, Option, None, Some}
 
 -- the three sizes of the array, in cells (RULES, The array)
 abbrev pub page : ℕ
@@ -23,6 +23,10 @@ length_of S = S * sector
 unfoldable pub permitted : ℕ → Bool
 permitted n =
     eqb n (length_of 1) || eqb n (length_of 2) || eqb n (length_of 4) || eqb n (length_of 8) || eqb n (length_of 16) || eqb n (length_of 32)
+
+-- the number of sectors of n cells, if a part has that length
+abbrev pub sectors_if : ℕ → Option ℕ
+sectors_if n = cond (permitted n) (Some (sectors_in n)) None
 
 -- what an event is given and does not change: the number of sectors, and the bytes of the SFDP area (RULES, Events)
 pub record Setting : Type 0 where

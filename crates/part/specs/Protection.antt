@@ -1,7 +1,13 @@
 -- Which sectors are protected (RULES, Protection).
-use Rattle.std.specs.Prelude.{ℕ, ◌^◌, min, ◌-◌, Bool, true, false, cond, ◌&&◌, eqb, ltb, leb}
-use Rattle.part.specs.declared.Protected.{Protected}
-use Rattle.part.specs.declared.Protected.TheVariants.{NoSector, Sectors}
+use Rattle.std.specs.Prelude.{ℕ, ◌^◌, min, ◌-◌, Bool, true, false, cond, ◌&&◌, eqb, ltb, leb, Option, None, Some}
+use Rattle.part.specs.declared.Ends.{Ends}
+
+-- which sectors are protected: none, or all from the first to the last (RULES, Protection)
+abbrev pub Protected : Type 0
+Protected = Option Ends
+
+abbrev pub ends : ℕ → ℕ → Ends
+ends first last = record { first = first; last = last }
 
 -- how many of S sectors level L protects: none at 0, a power of two from 1 to 5, but never more than there are, and every one from 6 on (RULES, Protection)
 unfoldable pub protected_count : ℕ → ℕ → ℕ
@@ -18,16 +24,16 @@ last_end count tb S = cond tb (count - 1) (S - 1)
 unfoldable pub protected_sectors : ℕ → Bool → ℕ → Protected
 protected_sectors L tb S =
     let count = protected_count L S in
-    cond (eqb count 0) NoSector (Sectors (first_end count tb S) (last_end count tb S))
+    cond (eqb count 0) None (Some (ends (first_end count tb S) (last_end count tb S)))
 
 -- whether sector x lies between the two ends, both of them included; and whether there is any such sector (RULES, Protection)
 abbrev pub protects : Protected → ℕ → Bool
-protects NoSector x = false
-protects (Sectors first last) x = leb first x && leb x last
+protects None x = false
+protects (Some e) x = leb e.first x && leb x e.last
 
 abbrev pub protects_any : Protected → Bool
-protects_any NoSector = false
-protects_any (Sectors first last) = true
+protects_any None = false
+protects_any (Some e) = true
 
 -- the plain yes, read off it: whether sector x of S is protected (RULES, Protection)
 abbrev pub is_protected : ℕ → Bool → ℕ → ℕ → Bool

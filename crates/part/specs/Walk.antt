@@ -1,7 +1,6 @@
 -- The protect test once more, as a walk from sector to sector, with no arithmetic in it. `WalkLaws` says that the two answer alike (RULES, Protection).
-use Rattle.std.specs.Prelude.{ℕ, zero, suc, Bool, true, false, cond, List, [], ◌∷◌, reverse, eqb, get_or, take}
-use Rattle.part.specs.declared.Protected.{Protected}
-use Rattle.part.specs.declared.Protected.TheVariants.{NoSector, Sectors}
+use Rattle.std.specs.Prelude.{ℕ, zero, suc, Bool, true, false, cond, List, [], ◌∷◌, reverse, eqb, get_or, take, None, Some}
+use Rattle.part.specs.Protection.{Protected, ends}
 
 -- n sectors in a row, the first of them a; those of a part of S sectors are the row of S from 0 on (RULES, The array)
 abbrev pub sectors_from : ℕ → ℕ → List ℕ
@@ -36,5 +35,5 @@ last_of sector (next ∷ rest) = last_of next rest
 
 -- and the two ends of a walk: the sectors where it begins and where it ends, nothing where it has none to go to (RULES, Protection)
 abbrev pub ends_of : List ℕ → Protected
-ends_of [] = NoSector
-ends_of (sector ∷ rest) = Sectors sector (last_of sector rest)
+ends_of [] = None
+ends_of (sector ∷ rest) = Some (ends sector (last_of sector rest))

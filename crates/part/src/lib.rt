@@ -1,8 +1,8 @@
 // The LE25S161: its sizes, its identity and its protection, each named here once; its SFDP area has a file of its own.
 #![tactic(auto)]
 
-ghost use Rattle.std.specs.Prelude.{◌≡◌, cond, ◌≤◌, min};
-ghost use Rattle.part.specs.Part.{permitted, reduced, sectors_in, length_of, jedec_byte};
+ghost use Rattle.std.specs.Prelude.{◌≡◌, ◌≤◌};
+ghost use Rattle.part.specs.Part.{reduced, sectors_if, length_of, jedec_byte};
 ghost use Rattle.part.specs.Area.{area_byte, own_area};
 ghost use Rattle.part.specs.Protection.{protected_count, protected_sectors, protects, protects_any};
 
@@ -14,11 +14,11 @@ pub struct OwnArea {
     pub bytes: [u8; 208],
 }
 
-// Which sectors are protected: none, or all from the first to the last.
-#[derive(Clone, Copy)]
-pub enum Protected {
-    NoSector,
-    Sectors(u8, u8),
+// The first and the last of the protected sectors: all from the one to the other are.
+#[derive(Clone, Copy, PartialEq, Eq)]
+pub struct Ends {
+    pub first: u8,
+    pub last: u8,
 }
 
 // The part's own numbers are constants of this type; it holds nothing.
@@ -45,18 +45,19 @@ impl Part {
     pub const AREA_PLACES: usize = 16777216;
 }
 
-// The number of sectors of a memory of n cells, or 0 where no part has that length.
-pub fn sectors_of(n: usize) -> u8
-    ensures { result ≡ cond (permitted n) (sectors_in n) 0 }
+// The number of sectors of a memory of n cells, if a part has that length.
+#[tactic(auto, unfolding(crate::specs::Part::permitted))]
+pub fn sectors_of(n: usize) -> Option<u8>
+    ensures { result ≡ sectors_if n }
 {
     match n {
-        65536 => 1,
-        131072 => 2,
-        262144 => 4,
-        524288 => 8,
-        1048576 => 16,
-        2097152 => 32,
-        _ => 0,
+        65536 => Some(1),
+        131072 => Some(2),
+        262144 => Some(4),
+        524288 => Some(8),
+        1048576 => Some(16),
+        2097152 => Some(32),
+        _ => None,
     }
 }
 
@@ -77,90 +78,79 @@ pub fn cell_of(sectors: u8, address: u32) -> usize
     if cell < n {
         return cell;
     }
-    if n == 0 {
-        return address as usize;
-    }
-    cell % n
+    cell.checked_rem(n).unwrap_or(cell)
 }
 
 // Byte i of the identity that 9Fh drives.
 pub fn jedec_byte(i: usize) -> u8
     ensures { result ≡ jedec_byte i }
 {
-    if i < Part::JEDEC_CYCLE {
-        return Part::JEDEC[i];
-    }
-    0
+    cells::byte_at(&Part::JEDEC, i)
 }
 
 // What stands at a place of an SFDP area: FFh at and past its end.
+// Stays: `cells::byte_at` with another byte past the end, which one function for both would be handed at each call.
 pub fn area_byte(area: &[u8], place: usize) -> u8
     ensures { result ≡ area_byte area.now place }
 {
-    if place < area.len() {
-        return area[place];
-    }
-    0xFF
+    area.get(place).copied().unwrap_or(0xFF)
 }
 
 // The part's own SFDP area, for a bench to lend.
+#[tactic(auto, unfolding(crate::specs::Area::own_area))]
 pub fn own_area() -> OwnArea
     ensures { result ≡ record { bytes = own_area } }
 {
     OwnArea { bytes: Part::SFDP }
 }
 
-fn smaller(a: u8, b: u8) -> u8
-    ensures { result ≡ min a b }
-{
-    if a < b {
-        return a;
-    }
-    b
-}
-
 // How many of `sectors` sectors a level protects: a power of two, as far as there are so many; from 6 on all.
+#[tactic(auto, unfolding(crate::specs::Protection::protected_count))]
 fn protected_count(level: u8, sectors: u8) -> u8
-    ensures { result ≡ protected_count level sectors }
+    ensures { (result ≡ protected_count level sectors) × (result ≤ sectors) }
 {
-    if level == 0 {
-        return 0;
+    match level {
+        0 => 0,
+        1..=5 => sectors.min(1 << (level - 1)),
+        _ => sectors,
     }
-    if level < 6 {
-        return smaller(1 << (level - 1), sectors);
-    }
-    sectors
 }
 
-// The protect test: the first and the last protected sector, from level, TB and the number of sectors.
-pub fn protected_sectors(level: u8, tb: bool, sectors: u8) -> Protected
+// The protect test: the two ends of the protected sectors, from level, TB and the number of sectors.
+#[tactic(auto, unfolding(crate::specs::Protection::protected_sectors))]
+pub fn protected_sectors(level: u8, tb: bool, sectors: u8) -> Option<Ends>
     ensures { result ≡ protected_sectors level tb sectors }
 {
     let count = protected_count(level, sectors);
     if count == 0 {
-        return Protected::NoSector;
+        return None;
     }
-    let first = if tb { 0 } else { sectors - count };
-    let last = if tb { count - 1 } else { sectors - 1 };
-    Protected::Sectors(first, last)
+    Some(if tb {
+        Ends {
+            first: 0,
+            last: count - 1,
+        }
+    } else {
+        Ends {
+            first: sectors - count,
+            last: sectors - 1,
+        }
+    })
 }
 
 // Whether sector x is among the protected ones: one comparison with their two ends.
-pub fn protects(range: Protected, x: usize) -> bool
+pub fn protects(range: Option<Ends>, x: usize) -> bool
     ensures { result ≡ protects range x }
 {
     match range {
-        Protected::NoSector => false,
-        Protected::Sectors(first, last) => ((first as usize) <= x) & (x <= (last as usize)),
+        None => false,
+        Some(ends) => ((ends.first as usize) <= x) & (x <= (ends.last as usize)),
     }
 }
 
 // Whether there is any protected sector.
-pub fn protects_any(range: Protected) -> bool
+pub fn protects_any(range: Option<Ends>) -> bool
     ensures { result ≡ protects_any range }
 {
-    match range {
-        Protected::NoSector => false,
-        Protected::Sectors(_, _) => true,
-    }
+    range.is_some()
 }

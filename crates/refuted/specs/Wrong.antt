@@ -1,5 +1,6 @@
 -- Wrong models of the part: each is ours with one thing changed, so that nothing else can be what refutes it. `Refuted` has the theorems.
 use Rattle.std.specs.Prelude.{ℕ, zero, suc, ◌+◌, ◌*◌, ◌/◌, ◌%◌, ◌-◌, min, Bool, true, false, cond, not, ◌&&◌, ◌||◌, List, [], ◌∷◌, ◌++◌, eqb, ltb, leb, length, get_or, set, take, drop, replicate}
+use Rattle.std.specs.Option.{is_some, unwrap_or}
 use Rattle.cells.specs.Cells.{Rule, sweep, later}
 use Rattle.part.specs.Part.{permitted, setting_of, sectors_in}
 use Rattle.part.specs.Area.{longest_area}
@@ -15,9 +16,8 @@ use Rattle.chip.specs.Job.{is_job, total}
 use Rattle.legal.specs.Legal.{legal}
 use Rattle.clock.specs.declared.Clock.{Clock}
 use Rattle.clock.specs.Clock.{unset, moved_on, went_back}
-use Rattle.script.specs.declared.Ran.{Ran}
 use Rattle.script.specs.Script.{Event, events, is_stamp, clock_after, ticks_given, Refusal, refusal_of, room}
-use Rattle.script.specs.Run.{World, world, runs, refused, done, answer_of, memory_of, output_of}
+use Rattle.script.specs.Run.{Ran, World, world, runs, refused, done, answer_of, memory_of, output_of}
 use Rattle.demands.specs.Model.{Reply, Model, reply, ours}
 use Rattle.demands.specs.Demand1.{Runner, RunReply, ran, our_run}
 
@@ -384,7 +384,7 @@ clocked leaves back gives c m area s out = answering (first_bad_by leaves back u
 
 -- the first stamp of a run gives as many ticks as it shows
 abbrev pub first_stamp_ticks : Runner
-first_stamp_ticks = clocked clock_after went_back (λ k stamp. cond k.set (moved_on k stamp) stamp)
+first_stamp_ticks = clocked clock_after went_back (λ k stamp. cond (is_some k.last) (moved_on k stamp) stamp)
 
 -- a power cut clears the clock
 abbrev pub clock_dies_with_power : Runner
@@ -396,7 +396,7 @@ takes_half_way = clocked clock_after (λ k stamp. ltb 32768 (moved_on k stamp)) 
 
 -- a stamp below the last one went back, however little the counter moved on
 abbrev pub never_rolls_over : Runner
-never_rolls_over = clocked clock_after (λ k stamp. went_back k stamp || k.set && ltb stamp k.stamp) moved_on
+never_rolls_over = clocked clock_after (λ k stamp. went_back k stamp || is_some k.last && ltb stamp (unwrap_or k.last 0)) moved_on
 
 -- a stamp alone is an event too: it does nothing
 abbrev pub knows09h_alone : Model

@@ -6,6 +6,9 @@ use Rattle.std.proofs.Common.{append-nil, append_assoc, sym, ap, ◌∙◌, add-
 use Rattle.std.proofs.Math.Path.{refl}
 use Rattle.std.proofs.Math.Decide.{ℕ_discrete}
 use Rattle.std.proofs.lemmas.List.Edits.{sets-eq}
+use Rattle.refusal.specs.declared.Refusal.{Refusal as Fault}
+use Rattle.refusal.specs.Table.{number_of}
+use Rattle.refusal.specs.Laws.{refused as is_told}
 use Rattle.cells.specs.Choice.{cond_yes, cond_no, and_left, and_right, not_so, chosen_number}
 use Rattle.cells.specs.Put.{Put}
 use Rattle.cells.specs.PutLaws.{put_between}
@@ -20,11 +23,11 @@ use Rattle.chip.specs.declared.Chip.{Chip}
 use Rattle.legal.specs.Legal.{legal}
 use Rattle.chip.specs.declared.Record.{Record}
 use Rattle.chip.specs.Record.{record_bytes}
-use Rattle.script.specs.declared.Ran.{Ran}
+use Rattle.script.specs.declared.Refused.{Refused}
 use Rattle.job.specs.Tick.{ticks_core, ticks_load, ticks_memory, worked}
 use Rattle.event.specs.Event.{tick, applied}
 use Rattle.script.specs.Script.{Event, Good, fault_at, event_at, walk, events_from, events, is_stamp, clock_after, clock_over, ticks_given, given, timed, played, Refusal, refusal_of, fault_by, first_bad, room}
-use Rattle.script.specs.Run.{World, world, after, onward, Stored, runs, Playable, refusal, world_after, refused, done, answer_of, memory_of, output_of}
+use Rattle.script.specs.Run.{Ran, told, World, world, after, onward, Stored, runs, Playable, refusal, world_after, refused, done, answer_of, memory_of, output_of}
 
 -- ---- a script, event by event
 
@@ -107,7 +110,7 @@ good_event s at = go (known_in_script (get_or s at 0)) (ltb (length s) (next_at 
 
 module _ (k : Clock) (s : List ℕ) (at : ℕ) where
   -- a fault as it is written is the fault
-  as_written : (v : ℕ) → (v ≡ 0 → ⊥) → fault_at s at ≡ v → fault_by k (event_at s at) ≡ v
+  pub as_written : (v : ℕ) → (v ≡ 0 → ⊥) → fault_at s at ≡ v → fault_by k (event_at s at) ≡ v
   as_written v some e = cond_no (eqb (fault_at s at) 0) _ _ (ne_eqb (fault_at s at) 0 (λ z. some (sym e ∙ z))) ∙ e
 
   pub fault_five : known_in_script (get_or s at 0) ≡ false → fault_by k (event_at s at) ≡ 5
@@ -250,6 +253,35 @@ stamp-good k s at e whole small = go (went_back k (body_at s at)) refl
     go true b = ap (λ (fault : ℕ). eqb fault 0) (fault_eight k s at (ap known_in_script e) whole ranged e b)
     go false b = ap (λ (fault : ℕ). eqb fault 0) (fault_none_forward k s at (ap known_in_script e) whole ranged b)
 
+-- a whole event of a known kind is written well exactly if its body is in range
+pub written_good : (s : List ℕ) (at kind : ℕ) → known_in_script kind ≡ true → get_or s at 0 ≡ kind → next_at s at ≤ length s → eqb (fault_at s at) 0 ≡ in_range kind (body_at s at)
+unfolding fault_at
+written_good s at kind known e whole =
+    ap (λ (fault : ℕ). eqb fault 0) (cond_no _ _ _ (ap not (ap known_in_script e ∙ known)) ∙ cond_no _ _ _ (le-ltb (length s) (next_at s at) whole))
+    ∙ go (in_range (get_or s at 0) (body_at s at))
+    ∙ ap (λ (q : ℕ). in_range q (body_at s at)) e
+  where
+    go : (ranged : Bool) → eqb (cond (not ranged) 6 0) 0 ≡ ranged
+    go true = refl
+    go false = refl
+
+-- and one that is cut off is not
+pub written_cut : (s : List ℕ) (at kind : ℕ) → known_in_script kind ≡ true → get_or s at 0 ≡ kind → length s < next_at s at → eqb (fault_at s at) 0 ≡ false
+unfolding fault_at
+written_cut s at kind known e short =
+    ap (λ (fault : ℕ). eqb fault 0) (cond_no _ _ _ (ap not (ap known_in_script e ∙ known)) ∙ cond_yes _ _ _ (lt-ltb (length s) (next_at s at) short))
+
+-- what is written well, and is no stamp or one that did not go back, is refused by no clock; a stamp that went back is refused by 8
+module _ (k : Clock) (s : List ℕ) (at : ℕ) (well : fault_at s at ≡ 0) where
+  pub well_by_any : is_stamp (event_at s at) ≡ false → fault_by k (event_at s at) ≡ 0
+  well_by_any no-stamp = clean-as k (event_at s at) (record { as_written = well; forward = ap (λ (b : Bool). b && went_back k (body_at s at)) no-stamp })
+
+  pub well_forward : went_back k (body_at s at) ≡ false → fault_by k (event_at s at) ≡ 0
+  well_forward forward = let g = good_event s at well in fault_none_forward k s at g.known g.inside g.ranged forward
+
+  pub well_back : get_or s at 0 ≡ STAMP → went_back k (body_at s at) ≡ true → fault_by k (event_at s at) ≡ 8
+  well_back stamp back = let g = good_event s at well in fault_eight k s at g.known g.inside g.ranged stamp back
+
 -- ---- room
 
 pub room-none : (s : List ℕ) (at : ℕ) → length s ≤ at → room (events_from s at) ≡ 0
@@ -286,6 +318,14 @@ passed k s at kind n more other long good =
       bad_behind = first_bad-later k s at more z ∙ (λ i. first_bad (same i) (events_from s (next i)));
       room-behind = room-more s at more ∙ (λ i. room_of (e i) + room (events_from s (next i)));
     }
+
+-- the same of one that is written well
+pub passed_well : (k : Clock) (s : List ℕ) (at kind n : ℕ) → at < length s → eqb kind STAMP ≡ false → 1 + body_length kind ≡ n → (eqb (get_or s at 0) kind && eqb (fault_at s at) 0) ≡ true → Passed k s at kind n
+passed_well k s at kind n more other long good =
+    let e : get_or s at 0 ≡ kind = eqb-true _ _ (and_left (eqb (get_or s at 0) kind) (eqb (fault_at s at) 0) good) in
+    let well : fault_at s at ≡ 0 = eqb-true _ _ (and_right (eqb (get_or s at 0) kind) (eqb (fault_at s at) 0) good) in
+    let z : fault_by k (event_at s at) ≡ 0 = well_by_any k s at well (ap (λ (q : ℕ). eqb q STAMP) e ∙ other) in
+    passed k s at kind n more other long (λ i. eq-eqb _ _ e i && eq-eqb _ _ z i)
 
 -- ---- records
 
@@ -363,6 +403,13 @@ runs-add T [] fs w = refl
 runs-add T (e ∷ es) fs w = runs-add T es fs (onward T e w)
 
 -- ---- refusals
+
+-- what refuses has a number
+pub number_some : (why : Fault) → number_of why ≡ 0 → ⊥
+number_some why = eqb-false _ _ (is_told why)
+
+pub told_some : (e : Refused) (r : Refusal) → told e ≡ r → r.number ≡ 0 → ⊥
+told_some e r is z = number_some e.refusal (ap (λ (q : Refusal). q.number) is ∙ z)
 
 module _ (c : Chip) (n extent : ℕ) (s : List ℕ) (space : ℕ) where
   pub refusal_length : permitted n ≡ false → refusal c n extent s space ≡ refusal_of 1 0

@@ -5,3 +5,4 @@ pub mod HeardLaws
 pub mod RowLaws
 pub mod ReadLaws
 pub mod Playing
+pub mod Unique

@@ -28,14 +28,12 @@ use Rattle.job.specs.Tick.{TicksAnswer, worked}
 use Rattle.job.proofs.Laws.{answer_rests}
 use Rattle.event.specs.Event.{Outcome, outcome, applied, tick}
 use Rattle.event.proofs.Laws.{said_room}
-use Rattle.script.specs.declared.Watch.{Watch}
-use Rattle.script.specs.declared.rows.Row.{Row}
 use Rattle.script.specs.Script.{Event, event_at, events_from, played, timed, clock_after, is_stamp, first_bad, room, Good}
 use Rattle.script.specs.Run.{World, world, after, runs, Stored, Playable, Played, finished, done}
 use Rattle.script.specs.Jobs.{Finished, Followed, nothing, jobs, jobs_of, tick_by_tick, one_tick, stands}
 use Rattle.script.specs.Report.{report_after}
-use Rattle.script.specs.Watch.{ticking, ticks_of, clock_by, watch, after_event, after_ticks, Reports}
-use Rattle.script.specs.Heard.{Heard, Went, Known, WholePart, Ready}
+use Rattle.script.specs.Watch.{Watch, ticking, ticks_of, clock_by, after_event, after_ticks, Reports}
+use Rattle.script.specs.Heard.{Heard, Went, WholePart, Ready}
 use Rattle.script.proofs.Laws.{no_fault, clean-later, clean-event, good_event, room-more, stored-none, timed-none, runs-more, runs_none, clock_stays}
 use Rattle.script.proofs.WatchLaws.{clock_as, plain-ticking, plain-clock, ticks-most, ticks-few, runs-ticking, jobs-ticking, jobs-plain, not-ticking, watch_ticks, watch_event, event-wanted, event-modest, ticks-wanted, ticks-modest, unwatched_ticks, Watches}
 
@@ -168,9 +166,9 @@ module _ {T : Setting} {s : List ℕ} {c₀ : Chip} {m₀ out₀ : List ℕ} {c 
       }
 
   -- where one can begin
-  pub ready : {S : ℕ} {longest : Row} → at < length s → WholePart S (length m₀) → Known s longest → Ready S s m out at pos longest
-  ready {S} more part known =
-      record { part = subst (WholePart S) (sym i.memory) part; more = more; good = good more; fits = i.fits; short = i.short; known = known }
+  pub ready : {S : ℕ} → at < length s → WholePart S (length m₀) → Ready S s m out at pos
+  ready {S} more part =
+      record { part = subst (WholePart S) (sym i.memory) part; more = more; good = good more; fits = i.fits }
 
   -- after the last event
   pub ends : length s ≤ at → Played T c₀ m₀ s out₀ (finished c pos ticks) m out
@@ -195,11 +193,11 @@ pub record Watching (wanted : Bool) (T : Setting) (a : Allowances) (s : List ℕ
   pub modest : w.used ≤ 21845 * at
 
 -- before the first event nothing is followed
-pub watch-starts : (wanted : Bool) (T : Setting) (a : Allowances) (s : List ℕ) (c : Chip) (m : List ℕ) (r : Report) → Watching wanted T a s c m r c m unset 0 (watch wanted false 0 r)
-watch-starts wanted T a s c m r =
+pub watch-starts : (T : Setting) (a : Allowances) (s : List ℕ) (c : Chip) (m : List ℕ) (w : Watch) → w.on ≡ false → w.used ≡ 0 → Watching w.wanted T a s c m w.report c m unset 0 w
+watch-starts T a s c m w off none =
     record {
       asked = refl;
-      watches = λ _. record { followed = nothing; keeps = record { same_on = refl; same_used = refl; there = λ h. absurd (false≢true h) }; comes_to = refl };
+      watches = λ _. record { followed = nothing; keeps = record { same_on = off; same_used = none; there = λ h. absurd (false≢true h) }; comes_to = refl };
       modest = omega arith;
     }
 

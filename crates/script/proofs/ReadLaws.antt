@@ -1,11 +1,15 @@
 -- What is heard of a whole frame of a read of cells: its header floats, cell after cell is driven, its verdict is 0, and the chip is as it was.
 use Prim.Native.Nat.{ℕ, zero, suc, ◌+◌, ◌*◌, ◌-◌, ◌<◌, ◌≤◌}
-use Rattle.std.specs.Prelude.{Bool, false, cond, not, ◌&&◌, List, ◌++◌, ◌≡◌, eqb, ltb, length, get_or}
+use Rattle.std.specs.Prelude.{Bool, false, cond, not, ◌&&◌, List, [], ◌∷◌, ◌++◌, ◌≡◌, eqb, ltb, length, get_or, take, drop, replicate}
 use Rattle.std.proofs.Math.Bool.{true}
-use Rattle.std.proofs.Common.{true≢false, sym, ◌∙◌, arith, length-append, eqb-true, ne_eqb}
+use Rattle.std.proofs.Common.{true≢false, sym, ◌∙◌, add-one, arith, append_assoc, length-append, eqb-true, ne_eqb}
 use Rattle.std.proofs.Math.Path.{refl, ap, subst}
 use Rattle.std.proofs.Math.Decide.{ℕ_discrete}
 use Rattle.std.proofs.lemmas.Bool.{not-true}
+use Rattle.std.proofs.lemmas.List.{length-take-le, length-drop, replicate_more}
+use Rattle.std.proofs.lemmas.List.Edits.{sets-eq}
+use borrow.Rule.Slice.PartMut.{put_mid}
+use lib.Seq.{drop-drop}
 use Rattle.cells.specs.Choice.{cond_no, cond_either, and_left, and_right, and_both}
 use Rattle.cells.specs.Put.{Put}
 use Rattle.cells.specs.PutLaws.{put_then}
@@ -102,6 +106,27 @@ pub floats-length : (n : ℕ) → length (floats n) ≡ n
 unfolding floats
 floats-length zero = refl
 floats-length (suc n) = length-append (floats n) _ ∙ omega (arith, floats-length n)
+
+-- they are so many bytes 80h, and storing these is storing them
+floats_are : (n : ℕ) → replicate n 0x80 ≡ floats n
+unfolding floats
+floats_are zero = refl
+floats_are (suc n) = sym (replicate_more n 0x80 ∙ ap (λ (k : ℕ). replicate k 0x80) (add-one n)) ∙ ap (λ (l : List ℕ). l ++ (0x80 ∷ [])) (floats_are n)
+
+pub floats_put : (t : List ℕ) (pos n k : ℕ) (ys : List ℕ) → pos + n ≤ length t → k ≡ n → ys ≡ replicate (length (take k (drop pos t))) 0x80 → Put t pos (floats n) (pos + n) (put_mid pos k t ys)
+floats_put t pos n k ys fit part filled =
+    let end : pos + n ≡ pos + length (floats n) = omega (arith, floats-length n) in
+    let long : length (drop pos t) ≡ length t - pos = length-drop pos t in
+    let many : length (take k (drop pos t)) ≡ n = length-take-le k (drop pos t) (omega arith) ∙ part in
+    record {
+      end = end;
+      buffer =
+          (λ i. put_mid pos (part i) t ((filled ∙ ap (λ (j : ℕ). replicate j 0x80) many ∙ floats_are n) i))
+          ∙ ap (λ (d : List ℕ). take pos t ++ (floats n ++ d)) (drop-drop n pos t)
+          ∙ ap (λ (q : ℕ). take pos t ++ (floats n ++ drop q t)) end
+          ∙ sym (append_assoc (take pos t) (floats n) (drop (pos + length (floats n)) t))
+          ∙ sym (sets-eq (floats n) t pos (omega (arith, floats-length n)));
+    }
 
 pub records_length : (S : ℕ) (s m : List ℕ) (at header n : ℕ) → length (frame_records S s m at header n) ≡ header + 2 * (n - header) + 2
 records_length S s m at header n =

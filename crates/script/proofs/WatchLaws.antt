@@ -26,13 +26,12 @@ use Rattle.job.proofs.Laws.{ticks-add, ticks_load-add, ticks_memory-add, worked-
 use Rattle.margins.specs.declared.Allowances.{Allowances}
 use Rattle.margins.specs.declared.Report.{Report}
 use Rattle.event.specs.Event.{Outcome, applied, tick, sort_of}
-use Rattle.script.specs.declared.Watch.{Watch}
 use Rattle.script.specs.Script.{Event, event_at, events_from, is_stamp, clock_after, ticks_given, timed}
 use Rattle.script.specs.Run.{World, after, runs}
 use Rattle.script.specs.Jobs.{is_on, one_tick, tick_by_tick, Finished, Followed, nothing, follows, tick_more, is_two, stands, finished, jobs}
 use Rattle.script.specs.Report.{report_after}
 use Rattle.margins.specs.Margins.{allowance_of, margin, counted}
-use Rattle.script.specs.Watch.{ticking, ticks_of, clock_by, watch, after_event, after_ticks}
+use Rattle.script.specs.Watch.{Watch, ticking, ticks_of, clock_by, watch, after_event, after_ticks}
 use Rattle.script.proofs.Laws.{timed-more, given-itself, clock_stays, runs-more, runs-stamp}
 
 one_more : (n : ℕ) → suc n ≡ 1 + n

@@ -51,13 +51,11 @@ pub record WholePart (S n : ℕ) : Type 0 where
   pub most : n ≤ 2097152
 
 -- where a stretch can begin, on a part of S sectors: a good event, whose record and all later ones find room
-pub record Ready (S : ℕ) (s m out : List ℕ) (at pos : ℕ) (longest : Row) : Type 0 where
+pub record Ready (S : ℕ) (s m out : List ℕ) (at pos : ℕ) : Type 0 where
   pub part : WholePart S (length m)
   pub more : at < length s
   pub good : Good s at
   pub fits : pos + room (events_from s at) ≤ length out
-  pub short : length s ≤ 65536
-  pub known : Known s longest
 
 -- ---- a row of a page load
 

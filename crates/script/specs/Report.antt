@@ -1,14 +1,25 @@
 -- A run with a margin report: the answer is the plain run's, and the report is a fold over the jobs that the run began and ended (RULES, The margin report).
-use Rattle.std.specs.Prelude.{ℕ, cond, List, [], ◌∷◌, eqb, length}
+use Rattle.std.specs.Prelude.{Result, Ok, Err, ℕ, cond, List, [], ◌∷◌, eqb, length}
 use Rattle.part.specs.Part.{setting_of}
 use Rattle.chip.specs.declared.Chip.{Chip}
 use Rattle.margins.specs.declared.Allowances.{Allowances}
 use Rattle.margins.specs.declared.Report.{Report}
 use Rattle.margins.specs.Margins.{allowed, allowance_of, margin, counted, tidied}
-use Rattle.script.specs.declared.Ran.{Ran}
+use Rattle.script.specs.declared.Refused.{Refused}
+use Rattle.script.specs.declared.Reported.{Reported as Done}
 use Rattle.script.specs.Script.{Refusal, refusal_of}
-use Rattle.script.specs.Run.{refusal, refused, answer_of, memory_of, output_of}
+use Rattle.script.specs.Run.{Ran, refusal, told, finished, refused, answer_of, memory_of, output_of}
 use Rattle.script.specs.Jobs.{Finished, jobs_of}
+
+-- the answer to a run with a report, and the report afterwards
+pub record Reported : Type 0 where
+  pub ran : Ran
+  pub report : Report
+
+-- what such a run on a chip gives back, as such an answer: refused, the report is as it was handed in
+abbrev pub reported_as : Chip → Report → Result Done Refused → Reported
+reported_as c r (Ok d) = record { ran = finished d.done.chip d.done.written d.done.ticks; report = d.report }
+reported_as c r (Err e) = record { ran = refused c (told e); report = r }
 
 -- one job more, in its kind's line, by its allowance less the ticks that it used
 abbrev pub counted_job : Allowances → Finished → Report → Report

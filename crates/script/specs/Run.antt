@@ -1,5 +1,5 @@
 -- A run: the events of a script one after the other, and the whole answer with its refusals (RULES, Events; Refusals).
-use Rattle.std.specs.Prelude.{ℕ, ◌+◌, ◌≤◌, cond, not, List, [], ◌∷◌, ◌++◌, ◌≡◌, eqb, ltb, length, take, drop}
+use Rattle.std.specs.Prelude.{Result, Ok, Err, ℕ, ◌+◌, ◌≤◌, cond, not, List, [], ◌∷◌, ◌++◌, ◌≡◌, eqb, ltb, length, take, drop}
 use Rattle.part.specs.Part.{permitted, Setting, setting_of}
 use Rattle.part.specs.Area.{longest_area}
 use Rattle.chip.specs.declared.Chip.{Chip}
@@ -7,7 +7,9 @@ use Rattle.chip.specs.declared.Record.{Record}
 use Rattle.chip.specs.Record.{record_bytes}
 use Rattle.legal.specs.Legal.{legal}
 use Rattle.event.specs.Event.{Outcome, applied}
-use Rattle.script.specs.declared.Ran.{Ran}
+use Rattle.refusal.specs.Table.{number_of}
+use Rattle.script.specs.declared.Done.{Done}
+use Rattle.script.specs.declared.Refused.{Refused}
 use Rattle.clock.specs.Clock.{unset}
 use Rattle.script.specs.Script.{Event, Refusal, refusal_of, events, played, first_bad, room}
 
@@ -36,10 +38,10 @@ unfoldable pub runs : Setting → List Event → World → World
 runs T [] w = w
 runs T (e ∷ es) w = runs T es (onward T e w)
 
--- what a look through a script finds: the first bad event and, where there is none, the room for the records
-pub record Scan (s : List ℕ) (number offset space : ℕ) : Type 0 where
-  pub bad : refusal_of number offset ≡ first_bad unset (events s)
-  pub rooms : number ≡ 0 → space ≡ room (events s)
+-- what a look through a script finds where no event is bad: the room for the records
+pub record Sound (s : List ℕ) (space : ℕ) : Type 0 where
+  pub clean : first_bad unset (events s) ≡ refusal_of 0 0
+  pub rooms : space ≡ room (events s)
 
 -- a record stored in the output at a place: the bytes before the next place, and what stands from there on
 pub record Stored (o : List ℕ) (p : ℕ) (said : Record) (p' : ℕ) (o' : List ℕ) : Type 0 where
@@ -61,6 +63,14 @@ refusal c n extent s space =
 unfoldable pub world_after : Chip → List ℕ → List ℕ → List ℕ → World
 world_after c m area s = runs (setting_of (length m) area) (played s) (world c m [] 0)
 
+-- the answer to a run: the chip, the refusal's number, 0 for none, and its offset, and the numbers of bytes written and of working ticks
+pub record Ran : Type 0 where
+  pub chip : Chip
+  pub refusal : ℕ
+  pub offset : ℕ
+  pub written : ℕ
+  pub ticks : ℕ
+
 -- refused, the chip comes back as it was given, nothing is written and no tick works
 abbrev pub refused : Chip → Refusal → Ran
 refused c r = record { chip = c; refusal = r.number; offset = r.offset; written = 0; ticks = 0 }
@@ -68,6 +78,15 @@ refused c r = record { chip = c; refusal = r.number; offset = r.offset; written 
 -- done, the new chip comes with the number of bytes written and of working ticks
 abbrev pub finished : Chip → ℕ → ℕ → Ran
 finished c written ticks = record { chip = c; refusal = 0; offset = 0; written = written; ticks = ticks }
+
+-- what refuses a run, by its number
+abbrev pub told : Refused → Refusal
+told e = refusal_of (number_of e.refusal) e.offset
+
+-- what a run on a chip gives back, as such an answer
+abbrev pub ran_as : Chip → Result Done Refused → Ran
+ran_as c (Ok d) = finished d.chip d.written d.ticks
+ran_as c (Err e) = refused c (told e)
 
 abbrev pub done : World → Ran
 done w = finished w.chip (length w.written) w.ticks

@@ -1,5 +1,7 @@
 -- A script: its events with their offsets, the first bad one and why, the room that its records need, and what its stamps stand for (RULES, Events; Stamps; Refusals).
-use Rattle.std.specs.Prelude.{ℕ, zero, suc, ◌+◌, ◌≤◌, ◌≡◌, Bool, true, cond, not, ◌&&◌, List, [], ◌∷◌, ◌++◌, eqb, ltb, leb, length, get_or}
+use Rattle.std.specs.Prelude.{Option, Some, None, ℕ, zero, suc, ◌+◌, ◌≤◌, ◌≡◌, Bool, true, cond, not, ◌&&◌, List, [], ◌∷◌, ◌++◌, eqb, ltb, leb, length, get_or}
+use Rattle.refusal.specs.declared.Refusal.{Refusal as Fault}
+use Rattle.refusal.specs.Table.{number_of}
 use Rattle.kinds.specs.Kinds.{TICKS, STAMP, known_in_script, in_range, room_of}
 use Rattle.kinds.specs.Body.{body_at, next_at}
 use Rattle.clock.specs.declared.Clock.{Clock}
@@ -89,6 +91,11 @@ refusal_of number offset = record { number = number; offset = offset }
 -- what refuses an event where the clock stands so: what is wrong with it as it is written, or 8 for a stamp that went back
 abbrev pub fault_by : Clock → Event → ℕ
 fault_by k e = cond (eqb e.fault 0) (cond (is_stamp e && went_back k e.body) 8 0) e.fault
+
+-- a fault's number, 0 for none
+abbrev pub fault_number : Option Fault → ℕ
+fault_number None = 0
+fault_number (Some why) = number_of why
 
 -- the first event with a fault refuses the script, with its number and offset
 unfoldable pub first_bad : Clock → List Event → Refusal

@@ -1,172 +1,144 @@
 // A script run, plain or with a margin report: one pass that finds what is wrong with the script, and one that runs it.
 #![tactic(auto)]
 
-ghost use Rattle.std.specs.Prelude.{true, false, ◌&&◌, ◌≡◌, ◌⊎◌, ◌+◌, ◌≤◌, ◌<◌, eqb, length, get_or};
+ghost use Rattle.std.specs.Prelude.{true, false, MatchResult, ◌&&◌, ◌≡◌, ◌⊎◌, ◌+◌, ◌≤◌, ◌<◌, eqb, length, get_or};
 ghost use Rattle.part.specs.Part.{setting};
-ghost use Rattle.kinds.specs.Kinds.{STAMP, known_in_script};
+ghost use Rattle.kinds.specs.Number.{number_of};
 ghost use Rattle.chip.specs.declared.Chip.{Chip as ChipValue};
-ghost use Rattle.chip.specs.Chip.{whole};
 ghost use Rattle.chip.specs.Record.{record_bytes};
-ghost use Rattle.clock.specs.declared.Clock.{Clock as ClockValue};
 ghost use Rattle.clock.specs.Clock.{unset};
 ghost use Rattle.margins.specs.Margins.{allowed, margin};
 ghost use Rattle.legal.specs.Legal.{legal};
-ghost use Rattle.script.specs.Script.{event_at, fault_by, refusal_of};
-ghost use Rattle.script.specs.Run.{finished, refused, Scan, Stored, Playable, Played, refusal, answer_of, memory_of, output_of};
+ghost use Rattle.script.specs.Script.{events, fault_at, fault_number, first_bad, refusal_of};
+ghost use Rattle.script.specs.Run.{told, ran_as, finished, Sound, Stored, Playable, Played, refusal, answer_of, memory_of, output_of};
 ghost use Rattle.script.specs.Jobs.{is_two};
-ghost use Rattle.script.specs.Report.{answer_with, memory_with, output_with, report_of};
+ghost use Rattle.script.specs.Report.{reported_as, answer_with, memory_with, output_with, report_of};
 ghost use Rattle.script.specs.Heard.{Known, WholePart};
-ghost use Rattle.script.specs.Watch.{ticking, ticks_of, clock_by, most_used, after_event, after_ticks, Reports};
+ghost use Rattle.script.specs.Watch.{ticking, ticks_of, clock_by, watched, allowances_of, most_used, after_event, after_ticks, Reports};
 
-use chip::{Chip, Core, Frame, Record};
+use chip::{Chip, Core, DRIVEN, FLOATING, IN_THE_WAY, Record, VERDICT};
 use clock::Clock;
 use kinds::Kind;
-use margins::{Allowances, Line, Report};
+use margins::{Allowances, Report};
 use part::Part;
-use rows::Row;
+use refusal::Refusal;
+use rows::{Row, Script};
 
 mod rows;
 
-// The first byte of each record: the line floated, a byte was driven, a verdict, the sectors in the way.
-const FLOATING: u8 = 0x80;
-
-const DRIVEN: u8 = 0x81;
-
-const VERDICT: u8 = 0x82;
-
-const IN_THE_WAY: u8 = 0x83;
-
-// The answer to a script run.
+// The answer to a script run that is done.
 #[derive(Clone, Copy)]
-pub struct Ran {
+pub struct Done {
     pub chip: Chip,
-    pub refusal: u8,
-    pub offset: usize,
     pub written: usize,
     pub ticks: u64,
 }
 
-// The answer to a script run with a margin report, and the report afterwards.
+// What refuses a script run, and the offset of the event that does; 0 where no event does.
+#[derive(Clone, Copy)]
+pub struct Refused {
+    pub refusal: Refusal,
+    pub offset: usize,
+}
+
+// No event of the script refuses it.
+impl From<Refusal> for Refused {
+    ghost from_gives = { λ why e. e ≡ record { refusal = why; offset = 0 } };
+
+    fn from(refusal: Refusal) -> Refused {
+        Refused { refusal, offset: 0 }
+    }
+}
+
+// The answer to a script run with a margin report that is done, and the report afterwards.
 #[derive(Clone, Copy)]
 pub struct Reported {
-    pub ran: Ran,
+    pub done: Done,
     pub report: Report,
 }
 
-// What is watched for the report: whether one is wanted at all, whether a job is followed, the ticks that it used so far, and the report so far.
+// What is watched for a report: the ticks that the job that is followed has used so far, if one is followed; the allowances; and
+// the report so far.
 #[derive(Clone, Copy)]
 struct Watch {
-    wanted: bool,
-    on: bool,
-    used: u32,
+    followed: Option<u32>,
+    allowances: Allowances,
     report: Report,
 }
 
-// What a script that is played ends with, but for the two loads of the chip, which are lent.
+// What a script that is played ends with: the bytes written, the working ticks, and what was watched.
 #[derive(Clone, Copy)]
 struct Ended {
-    core: Core,
-    frame: Frame,
     written: usize,
     ticks: u64,
-    report: Report,
+    watch: Option<Watch>,
 }
 
-// A refusal's number, 0 for none, and its offset.
-#[derive(Clone, Copy)]
-struct Refused {
-    number: u8,
-    offset: usize,
-}
-
-// What a look through a script finds: the first bad event, the room that its records need, and the longest row of exchanges.
+// What a look through a script finds that no event refuses: the room that its records need, and the longest row of exchanges.
 #[derive(Clone, Copy)]
 struct Scanned {
-    bad: Refused,
     room: usize,
     longest: Row,
 }
 
-// What a look at all that is lent finds: a refusal, and the longest row of exchanges.
+// What is known of a run that nothing refuses: the sectors of its memory, and the longest row of exchanges.
 #[derive(Clone, Copy)]
-struct Checked {
-    no: Refused,
+struct Accepted {
+    sectors: u8,
     longest: Row,
 }
 
-// What refuses the event at an offset: 5, 4, 6, 8 for a stamp that went back, or 0 for nothing.
-fn fault_at(s: &[u8], at: usize, clock: Clock) -> u8
+// What is wrong with the event at an offset as it is written, whatever the clock.
+#[tactic(auto, using(kinds::proofs::Laws::step_inside), unfolding(crate::specs::Script::fault_at))]
+fn fault_at(s: &[u8], at: usize) -> Option<Refusal>
     requires { at < length s.now }
-    ensures { result ≡ fault_by clock (event_at s.now at) }
+    ensures { fault_number result ≡ fault_at s.now at }
 {
     let kind = s[at] as u64;
     if !kinds::is_known_in_script(kind) {
-        return 5;
+        return Some(Refusal::UnknownKind);
     }
     if s.len() < kinds::next_at(s, at) {
-        return 4;
+        return Some(Refusal::CutOff);
     }
-    let body = kinds::body_at(s, at);
-    if !kinds::is_in_range(kind, body) {
-        return 6;
+    if !kinds::is_in_range(kind, kinds::body_at(s, at)) {
+        return Some(Refusal::BodyRange);
     }
-    if kind == Kind::STAMP {
-        if clock::went_back(clock, body as u16) {
-            return 8;
-        }
-    }
-    0
+    None
 }
 
 // The clock that a run starts with: there was no stamp yet.
 fn no_stamp() -> Clock
     ensures { result ≡ unset }
 {
-    Clock {
-        set: false,
-        stamp: 0,
-    }
+    Clock::default()
 }
 
 // The clock after an event: a stamp sets it.
+#[tactic(auto, unfolding(crate::specs::Watch::clock_by))]
 fn clock_after(clock: Clock, kind: u64, body: u16) -> Clock
     ensures { result ≡ clock_by clock kind body }
 {
-    if kind == Kind::STAMP {
-        return Clock {
-            set: true,
-            stamp: body,
-        };
+    if kind == Kind::Stamp as u64 {
+        return Clock { last: Some(body) };
     }
     clock
 }
 
-// Whether the event at an offset is of a kind, and nothing refuses it: it is whole, and its body in range.
-fn is_good(s: &[u8], at: usize, kind: u64) -> bool
-    requires { (at < length s.now) × (known_in_script kind ≡ true) × (eqb kind STAMP ≡ false) }
-    ensures { (clock : ClockValue) → result ≡ (eqb (get_or s.now at 0) kind && eqb (fault_by clock (event_at s.now at)) 0) }
-{
-    if s[at] as u64 != kind {
-        return false;
-    }
-    if s.len() < kinds::next_at(s, at) {
-        return false;
-    }
-    kinds::is_in_range(kind, kinds::body_at(s, at))
-}
-
-// Whether the event at an offset is a stamp that nothing refuses: whole, and not gone back.
-fn is_good_stamp(s: &[u8], at: usize, clock: Clock) -> bool
+// Whether the event at an offset is of a kind, and nothing is wrong with it as it is written.
+#[tactic(auto, using(kinds::proofs::Laws::step_inside, kinds::proofs::Laws::number_known, crate::proofs::Laws::written_good, crate::proofs::Laws::written_cut))]
+fn is_good(s: &[u8], at: usize, kind: Kind) -> bool
     requires { at < length s.now }
-    ensures { result ≡ (eqb (get_or s.now at 0) STAMP && eqb (fault_by clock (event_at s.now at)) 0) }
+    ensures { result ≡ (eqb (get_or s.now at 0) (number_of kind) && eqb (fault_at s.now at) 0) }
 {
-    if s[at] as u64 != Kind::STAMP {
+    let number = u64::from(kind);
+    if s[at] as u64 != number {
         return false;
     }
     if s.len() < kinds::next_at(s, at) {
         return false;
     }
-    !clock::went_back(clock, kinds::body_at(s, at) as u16)
+    kinds::is_in_range(number, kinds::body_at(s, at))
 }
 
 // The longer of a row and one of n exchanges at an offset.
@@ -174,18 +146,18 @@ fn longer(longest: Row, at: usize, n: usize) -> Row
     ensures { (result ≡ longest) ⊎ (result ≡ record { at = at; count = n }) }
 {
     if longest.count < n {
-        return Row { at: at, count: n };
+        return Row { at, count: n };
     }
     longest
 }
 
-// A look through the script: the first bad event, the room for the records, and the longest row of exchanges.
+// A look through the script: the first bad event, or the room for the records and the longest row of exchanges.
 // With a whole exchange nothing can be wrong, and most events are some: a row of them is passed in one go.
 // Ticks, deselects, selects and stamps are frequent: what comes after them need not wait for a look at the
 // table of kinds.
-fn scan(s: &[u8]) -> Scanned
+fn scan(s: &[u8]) -> Result<Scanned, Refused>
     requires { length s.now ≤ 65536 }
-    ensures { Scan s.now result.bad.number result.bad.offset result.room × Known s.now result.longest }
+    ensures { MatchResult result (λ found. Sound s.now found.room × Known s.now found.longest) (λ bad. told bad ≡ first_bad unset (events s.now)) }
 {
     let mut at = 0;
     let mut space = 0;
@@ -194,54 +166,54 @@ fn scan(s: &[u8]) -> Scanned
         at: s.len(),
         count: 0,
     };
+    // Stays: a row of exchanges is passed in one go, and any other event by its length, so no `for` counts these places.
     while at < s.len() {
-        if (s[at] as u64 == Kind::EXCHANGE) & (at + 1 < s.len()) {
+        if (s[at] as u64 == Kind::Exchange as u64) & (at + 1 < s.len()) {
             let n = kinds::exchanges_from(s, at);
-            space += kinds::room_of(Kind::EXCHANGE) * n;
+            space += kinds::room_of(Kind::Exchange as u64) * n;
             longest = longer(longest, at, n);
             at += 2 * n;
             continue;
         }
-        if is_good(s, at, Kind::TICKS) {
+        if is_good(s, at, Kind::Ticks) {
             at += 3;
             continue;
         }
-        if is_good(s, at, Kind::DESELECT) {
-            space += kinds::room_of(Kind::DESELECT);
+        if is_good(s, at, Kind::Deselect) {
+            space += kinds::room_of(Kind::Deselect as u64);
             at += 2;
             continue;
         }
-        if is_good(s, at, Kind::SELECT) {
+        if is_good(s, at, Kind::Select) {
             at += 1;
             continue;
         }
-        if is_good_stamp(s, at, clock) {
-            clock = clock_after(clock, Kind::STAMP, kinds::body_at(s, at) as u16);
+        if is_good(s, at, Kind::Stamp) {
+            let stamp = kinds::body_at(s, at) as u16;
+            if clock::went_back(clock, stamp) {
+                let refusal = Refusal::WentBack;
+                return Err(Refused {
+                    refusal,
+                    offset: at,
+                });
+            }
+            clock = Clock { last: Some(stamp) };
             at += 3;
             continue;
         }
-        let fault = fault_at(s, at, clock);
-        if fault != 0 {
-            return Scanned {
-                bad: Refused {
-                    number: fault,
-                    offset: at,
-                },
-                room: 0,
-                longest: longest,
-            };
+        if let Some(refusal) = fault_at(s, at) {
+            return Err(Refused {
+                refusal,
+                offset: at,
+            });
         }
         space += kinds::room_of(s[at] as u64);
         at = kinds::next_at(s, at);
     }
-    Scanned {
-        bad: Refused {
-            number: 0,
-            offset: 0,
-        },
+    Ok(Scanned {
         room: space,
-        longest: longest,
-    }
+        longest,
+    })
 }
 
 // Stores a record's bytes at a place of the output; the answer is the place after them.
@@ -274,46 +246,23 @@ fn put(out: &mut [u8], at: usize, said: Record) -> usize
     }
 }
 
-// The answer to a run that is done: the chip put together again.
-fn finished(
-    core: Core,
-    frame: Frame,
-    load: [u8; 256],
-    held: [u8; 256],
-    written: usize,
-    worked: u64,
-) -> Ran
-    ensures { result ≡ finished (whole core frame load held) written worked }
-{
-    Ran {
-        chip: Chip {
-            core: core,
-            frame: frame,
-            load: load,
-            held: held,
-        },
-        refusal: 0,
-        offset: 0,
-        written: written,
-        ticks: worked,
-    }
-}
-
 // Whether an event is ticks: one, some, or those of a stamp.
+// Stays: the kind is a number here and below, as in the laws of events of ticks (`runs-ticking`, `ticks-few`).
 fn is_ticking(kind: u64) -> bool
     ensures { result ≡ ticking kind }
 {
-    (kind == Kind::TICKS) | (kind == Kind::TICK) | (kind == Kind::STAMP)
+    (kind == Kind::Ticks as u64) | (kind == Kind::Tick as u64) | (kind == Kind::Stamp as u64)
 }
 
 // How many ticks such an event gives.
+#[tactic(auto, unfolding(crate::specs::Watch::ticks_of))]
 fn ticks_of(clock: Clock, kind: u64, body: u16) -> u32
     ensures { (result ≡ ticks_of clock kind body) × (result ≤ 65535) }
 {
-    if kind == Kind::TICKS {
+    if kind == Kind::Ticks as u64 {
         return body as u32;
     }
-    if kind == Kind::TICK {
+    if kind == Kind::Tick as u64 {
         return 1;
     }
     clock::moved_on(clock, body) as u32
@@ -331,134 +280,137 @@ fn margin(allowance: u32, used: u32) -> i32
 fn begins_job(said: Record) -> bool
     ensures { result ≡ is_two said }
 {
-    match said {
-        Record::Nothing => false,
-        Record::Floating => false,
-        Record::Driven(_) => false,
-        Record::Verdict(v) => v == 2,
-        Record::InTheWay(_, _) => false,
-    }
+    matches!(said, Record::Verdict(2))
 }
 
-// What is watched after an event that is no tick, if a report is wanted: a job that begins is followed from there on, and none where no job is left.
-fn watch_event(watch: Watch, core: Core, said: Record) -> Watch
-    ensures { result ≡ after_event core said watch }
+// Whether a job is followed.
+fn follows(watch: &Option<Watch>) -> bool
+    ensures { result ≡ (watched watch.now).on }
 {
-    if !watch.wanted {
-        return watch;
-    }
-    let job = core.job;
-    let kind = job.kind;
-    let mut next = watch;
-    if !chip::is_job(kind) {
-        next.on = false;
-        next.used = 0;
-        return next;
+    matches!(
+        watch,
+        Some(Watch {
+            followed: Some(_),
+            ..
+        })
+    )
+}
+
+// What is watched after an event that is no tick: a job that begins is followed from there on, and none where no job is left.
+#[tactic(auto, unfolding(crate::specs::Watch::after_event))]
+fn watch_event(watch: &mut Option<Watch>, core: Core, said: Record)
+    ensures { (watched watch.new ≡ after_event core said (watched watch.old)) × (allowances_of watch.new ≡ allowances_of watch.old) }
+{
+    let Some(watch) = watch else {
+        return;
+    };
+    if !chip::is_job(core.job.kind) {
+        watch.followed = None;
+        return;
     }
     if begins_job(said) {
-        next.on = true;
-        next.used = 0;
-        return next;
+        watch.followed = Some(0);
     }
-    next
 }
 
 // What is watched after n ticks that found a core, and left this one: all of them are used as long as the job stands; ended, only those up to its last step.
-fn watch_ticks(
-    watch: Watch,
-    allowances: Allowances,
-    core: Core,
-    left: Core,
-    n: u32,
-    worked: u32,
-) -> Watch
-    requires { (allowed allowances ≡ true) × (watch.used + n ≤ most_used) × (worked ≤ n) }
-    ensures { result ≡ after_ticks allowances core left n worked watch }
+#[tactic(auto, unfolding(crate::specs::Watch::after_ticks))]
+fn watch_ticks(watch: &mut Option<Watch>, core: Core, left: Core, n: u32, worked: u32)
+    requires { (allowed (allowances_of watch.old) ≡ true) × ((watched watch.old).used + n ≤ most_used) × (worked ≤ n) }
+    ensures { (watched watch.new ≡ after_ticks (allowances_of watch.old) core left n worked (watched watch.old)) × (allowances_of watch.new ≡ allowances_of watch.old) }
 {
-    if !watch.on {
-        return watch;
+    let Some(watch) = watch else {
+        return;
+    };
+    let Some(used) = watch.followed else {
+        return;
+    };
+    if chip::is_job(left.job.kind) {
+        watch.followed = Some(used + n);
+        return;
     }
-    let mut next = watch;
-    let job = left.job;
-    let still = job.kind;
-    if chip::is_job(still) {
-        next.used = watch.used + n;
-        return next;
-    }
-    let ended = core.job;
-    let kind = ended.kind;
-    let report = watch.report;
-    let early = margin(margins::allowance_of(kind, allowances), watch.used + worked);
-    next.on = false;
-    next.used = 0;
-    let counted = margins::count(kind, early, report);
-    next.report = counted;
-    next
+    let kind = core.job.kind;
+    let early = margin(margins::allowance_of(kind, watch.allowances), used + worked);
+    watch.followed = None;
+    watch.report = margins::count(kind, early, watch.report);
 }
 
-// Runs a script that nothing refuses, on a chip in its parts: the two loads are lent.
+// Runs a script that nothing refuses.
 // Data bytes are most of a script: they go a row at a time, and whole frames of reads in one go
 // (`rows`). Ticks go by the core alone. Whether ticks matter, because a job runs or one is followed,
 // is kept beside the core, so that ticks that find neither copy nothing; it is read off the answers,
 // since a core that is only handed on stays in one piece. The calls get a copy of the frame, so that
 // it need not lie in memory from one event to the next. Where no report is wanted no job is followed.
 fn play(
-    first_core: Core,
-    first_frame: Frame,
-    load: &mut [u8; 256],
-    held: &mut [u8; 256],
+    chip: &mut Chip,
     mem: &mut [u8],
+    area: &[u8],
     script: &[u8],
     out: &mut [u8],
-    sectors: u8,
-    area: &[u8],
-    longest: Row,
-    wanted: bool,
-    allowances: Allowances,
-    report: Report,
+    known: Accepted,
+    watch: Option<Watch>,
 ) -> Ended
-    requires { (allowed allowances ≡ true) × Playable script.now (length out.old) × Known script.now longest × WholePart sectors (length mem.old) }
-    ensures { Played (setting sectors area.now) (whole first_core first_frame load.old held.old) mem.old script.now out.old
-        (finished (whole result.core result.frame load.new held.new) result.written result.ticks) mem.new out.new
-        × (wanted ≡ true
-        → Reports (setting sectors area.now) allowances (whole first_core first_frame load.old held.old) mem.old script.now report result.report) }
+    requires { (allowed (allowances_of watch) ≡ true) × ((watched watch).on ≡ false) × ((watched watch).used ≡ 0) × Playable script.now (length out.old) × Known script.now known.longest × WholePart known.sectors (length mem.old) }
+    ensures { Played (setting known.sectors area.now) chip.old mem.old script.now out.old (finished chip.new result.written result.ticks) mem.new out.new
+        × ((watched result.watch).wanted ≡ (watched watch).wanted)
+        × ((watched watch).wanted ≡ true
+        → Reports (setting known.sectors area.now) (allowances_of watch) chip.old mem.old script.now (watched watch).report (watched result.watch).report) }
 {
-    let mut core = first_core;
-    let mut frame = first_frame;
-    let mut busy = chip::is_running(first_core);
-    let mut clock = no_stamp();
-    let mut watch = Watch {
-        wanted: wanted,
-        on: false,
-        used: 0,
-        report: report,
+    let Accepted { sectors, longest } = known;
+    let whole = Script {
+        bytes: script,
+        longest,
     };
+    let mut core = chip.core;
+    let mut frame = chip.frame;
+    let mut watch = watch;
+    let mut busy = chip::is_running(core);
+    let mut clock = no_stamp();
     let mut at = 0;
     let mut pos = 0;
     let mut ticks: u64 = 0;
+    // Stays: a stretch or an event goes on by as many bytes as it has, which no `for` counts.
     while at < script.len() {
+        // Stays: a match on `Kind::try_from` is no plainer, since ticks of three kinds share a way, one of them if the chip is idle.
         let kind = script[at] as u64;
-        if kind == Kind::EXCHANGE {
+        if kind == Kind::Exchange as u64 {
             let before = frame;
             let went = rows::hear(
-                core, before, load, mem, sectors, area, script, at, out, pos, longest,
+                core,
+                before,
+                &mut chip.load,
+                mem,
+                sectors,
+                area,
+                whole,
+                at,
+                out,
+                pos,
             );
             frame = went.frame;
             pos = went.pos;
             at = went.at;
             continue;
         }
-        if kind == Kind::SELECT {
+        if kind == Kind::Select as u64 {
             let before = frame;
             let went = rows::select(
-                core, before, load, mem, sectors, script, at, out, pos, longest,
+                core,
+                before,
+                &mut chip.load,
+                mem,
+                sectors,
+                whole,
+                at,
+                out,
+                pos,
             );
             frame = went.frame;
             pos = went.pos;
             at = went.at;
             continue;
         }
-        if !busy & (kind == Kind::TICKS) {
+        if !busy & (kind == Kind::Ticks as u64) {
             at = kinds::next_at(script, at);
             continue;
         }
@@ -470,10 +422,10 @@ fn play(
             if !busy {
                 continue;
             }
-            let t = job::ticks(core, held, mem, sectors, n);
-            watch = watch_ticks(watch, allowances, core, t.core, n, t.worked);
+            let t = job::ticks(core, &mut chip.held, mem, sectors, n);
+            watch_ticks(&mut watch, core, t.core, n, t.worked);
             core = t.core;
-            busy = chip::is_running(t.core) | watch.on;
+            busy = chip::is_running(t.core) | follows(&watch);
             ticks += t.worked as u64;
             continue;
         }
@@ -481,103 +433,65 @@ fn play(
         let s = event::step(
             core,
             before,
-            load,
-            held,
+            &mut chip.load,
+            &mut chip.held,
             mem,
             sectors,
             area,
             kind,
             body as u32,
         );
-        let said = s.said;
-        pos = put(out, pos, said);
-        watch = watch_event(watch, s.core, said);
+        pos = put(out, pos, s.said);
+        watch_event(&mut watch, s.core, s.said);
         core = s.core;
-        busy = chip::is_running(s.core) | watch.on;
+        busy = chip::is_running(s.core) | follows(&watch);
         frame = s.frame;
         ticks += s.ticks as u64;
         at = kinds::next_at(script, at);
     }
-    let counted = watch.report;
+    chip.core = core;
+    chip.frame = frame;
     Ended {
-        core: core,
-        frame: frame,
         written: pos,
-        ticks: ticks,
-        report: counted,
+        ticks,
+        watch,
     }
 }
 
-fn refuse(number: u8) -> Refused
-    ensures { result ≡ record { number = number; offset = 0 } }
+// What refuses a run on a chip that is legal or not, in the order of the definition; or what is known of one that nothing refuses.
+#[tactic(auto, using(part::proofs::Laws::no_part, part::proofs::Laws::some_part, crate::proofs::HeardLaws::whole_part, crate::proofs::Laws::told_some), unfolding(crate::specs::Run::refusal))]
+fn accept(
+    fine: bool,
+    n: usize,
+    extent: usize,
+    script: &[u8],
+    space: usize,
+) -> Result<Accepted, Refused>
+    ensures { MatchResult result
+        (λ known. WholePart known.sectors n × Known script.now known.longest × ((chip : ChipValue) → fine ≡ legal chip n → refusal chip n extent script.now space ≡ refusal_of 0 0))
+        (λ no. (chip : ChipValue) → fine ≡ legal chip n → told no ≡ refusal chip n extent script.now space) }
 {
-    Refused {
-        number: number,
-        offset: 0,
-    }
-}
-
-// A refusal without an offset: no row matters then, and the one at the script's end has no exchange.
-fn turned_down(number: u8, script: &[u8]) -> Checked
-    ensures { (result.no ≡ record { number = number; offset = 0 }) × Known script.now result.longest }
-{
-    Checked {
-        no: refuse(number),
-        longest: Row {
-            at: script.len(),
-            count: 0,
-        },
-    }
-}
-
-// What refuses a run on a chip that is legal or not, in the order of the definition, the number 0 for nothing; and the script's longest row of exchanges.
-fn refuses(fine: bool, n: usize, extent: usize, script: &[u8], space: usize) -> Checked
-    ensures { ((chip : ChipValue) → fine ≡ legal chip n → refusal_of result.no.number result.no.offset ≡ refusal chip n extent script.now space) × Known script.now result.longest }
-{
-    if part::sectors_of(n) == 0 {
-        return turned_down(1, script);
-    }
+    let Some(sectors) = part::sectors_of(n) else {
+        return Err(Refusal::MemoryLength.into());
+    };
     if Part::LONGEST_AREA < extent {
-        return turned_down(13, script);
+        return Err(Refusal::LongArea.into());
     }
     if !fine {
-        return turned_down(2, script);
+        return Err(Refusal::IllegalState.into());
     }
     if 65536 < script.len() {
-        return turned_down(3, script);
+        return Err(Refusal::LongScript.into());
     }
-    let found = scan(script);
-    let bad = found.bad;
-    let longest = found.longest;
-    if bad.number != 0 {
-        return Checked {
-            no: bad,
-            longest: longest,
-        };
+    let Scanned { room, longest } = scan(script)?;
+    if space < room {
+        return Err(Refusal::SmallOutput.into());
     }
-    if space < found.room {
-        return turned_down(7, script);
-    }
-    Checked {
-        no: refuse(0),
-        longest: longest,
-    }
-}
-
-// The answer to a refused run.
-fn turned_away(chip: Chip, no: Refused) -> Ran
-    ensures { result ≡ refused chip (refusal_of no.number no.offset) }
-{
-    Ran {
-        chip: chip,
-        refusal: no.number,
-        offset: no.offset,
-        written: 0,
-        ticks: 0,
-    }
+    Ok(Accepted { sectors, longest })
 }
 
 // A script run with a margin report, for every chip, memory, area, script, output, allowances and report.
+#[tactic(auto, using(crate::proofs::Laws::accepted, crate::proofs::Laws::told_some), unfolding(crate::specs::Report::answer_with, crate::specs::Report::memory_with, crate::specs::Report::output_with, crate::specs::Report::report_of, crate::specs::Report::refusal_with, crate::specs::Run::answer_of, crate::specs::Run::memory_of, crate::specs::Run::output_of, crate::specs::Run::world_after))]
 pub fn run_with_report(
     chip: Chip,
     mem: &mut [u8],
@@ -586,108 +500,56 @@ pub fn run_with_report(
     out: &mut [u8],
     allowances: Allowances,
     report: Report,
-) -> Reported
-    ensures { (result.ran ≡ answer_with allowances chip mem.old area.now script.now out.old)
+) -> Result<Reported, Refused>
+    ensures { ((reported_as chip report result).ran ≡ answer_with allowances chip mem.old area.now script.now out.old)
         × (mem.new ≡ memory_with allowances chip mem.old area.now script.now out.old)
         × (out.new ≡ output_with allowances chip mem.old area.now script.now out.old)
-        × (result.report ≡ report_of allowances report chip mem.old area.now script.now out.old) }
+        × ((reported_as chip report result).report ≡ report_of allowances report chip mem.old area.now script.now out.old) }
 {
     if !margins::are_allowed(allowances) {
-        return Reported {
-            ran: turned_away(chip, refuse(18)),
-            report: report,
-        };
+        return Err(Refusal::LargeAllowance.into());
     }
     let n = mem.len();
     let fine = legal::is_legal(chip, n);
-    let checked = refuses(fine, n, area.len(), script, out.len());
-    let no = checked.no;
-    if no.number != 0 {
-        return Reported {
-            ran: turned_away(chip, no),
-            report: report,
-        };
-    }
-    let mut load = chip.load;
-    let mut held = chip.held;
-    let end = play(
-        chip.core,
-        chip.frame,
-        &mut load,
-        &mut held,
-        mem,
-        script,
-        out,
-        part::sectors_of(n),
-        area,
-        checked.longest,
-        true,
+    let known = accept(fine, n, area.len(), script, out.len())?;
+    let watch = Watch {
+        followed: None,
         allowances,
-        margins::start_from(report),
-    );
-    let counted = end.report;
-    Reported {
-        ran: finished(end.core, end.frame, load, held, end.written, end.ticks),
-        report: counted,
-    }
+        report: margins::start_from(report),
+    };
+    let mut after = chip;
+    let end = play(&mut after, mem, area, script, out, known, Some(watch));
+    Ok(Reported {
+        done: Done {
+            chip: after,
+            written: end.written,
+            ticks: end.ticks,
+        },
+        report: end.watch.unwrap().report,
+    })
 }
 
-// A line without jobs.
-fn no_jobs() -> Line {
-    Line {
-        count: 0,
-        smallest: 0,
-        largest: 0,
-    }
-}
-
-// A report without jobs.
-fn no_report() -> Report {
-    Report {
-        status: no_jobs(),
-        program: no_jobs(),
-        small: no_jobs(),
-        sector: no_jobs(),
-        chip: no_jobs(),
-    }
-}
-
-// A script run, for every chip, memory, area, script and output: no report is wanted, and the empty one is thrown away.
-pub fn run(chip: Chip, mem: &mut [u8], area: &[u8], script: &[u8], out: &mut [u8]) -> Ran
-    ensures { (result ≡ answer_of chip mem.old area.now script.now out.old)
+// A script run, for every chip, memory, area, script and output.
+#[tactic(auto, using(crate::proofs::Laws::accepted, crate::proofs::Laws::told_some), unfolding(crate::specs::Run::answer_of, crate::specs::Run::memory_of, crate::specs::Run::output_of, crate::specs::Run::world_after, margins::specs::Margins::allowed))]
+pub fn run(
+    chip: Chip,
+    mem: &mut [u8],
+    area: &[u8],
+    script: &[u8],
+    out: &mut [u8],
+) -> Result<Done, Refused>
+    ensures { (ran_as chip result ≡ answer_of chip mem.old area.now script.now out.old)
         × (mem.new ≡ memory_of chip mem.old area.now script.now out.old)
         × (out.new ≡ output_of chip mem.old area.now script.now out.old) }
 {
     let n = mem.len();
     let fine = legal::is_legal(chip, n);
-    let checked = refuses(fine, n, area.len(), script, out.len());
-    let no = checked.no;
-    if no.number != 0 {
-        return turned_away(chip, no);
-    }
-    let none = Allowances {
-        status: 0,
-        program: 0,
-        small: 0,
-        sector: 0,
-        chip: 0,
-    };
-    let mut load = chip.load;
-    let mut held = chip.held;
-    let end = play(
-        chip.core,
-        chip.frame,
-        &mut load,
-        &mut held,
-        mem,
-        script,
-        out,
-        part::sectors_of(n),
-        area,
-        checked.longest,
-        false,
-        none,
-        no_report(),
-    );
-    finished(end.core, end.frame, load, held, end.written, end.ticks)
+    let known = accept(fine, n, area.len(), script, out.len())?;
+    let mut after = chip;
+    let end = play(&mut after, mem, area, script, out, known, None);
+    Ok(Done {
+        chip: after,
+        written: end.written,
+        ticks: end.ticks,
+    })
 }

@@ -1,10 +1,11 @@
 -- What is true of a look through the headers, of the refusal, and of the table's place in the area.
-use Rattle.std.specs.Prelude.{ℕ, zero, suc, ◌+◌, ◌-◌, ◌≤◌, ◌<◌, Bool, true, false, cond, not, ◌||◌, List, [], ◌≡◌, refl, eqb, ltb, length, get_or}
-use Rattle.std.proofs.Common.{arith, length-take, length-drop, get_or-take, get_or-drop, eq-eqb, ne_eqb, eqb-true, ltb-false}
-use Rattle.cells.specs.Choice.{cond_yes, cond_no, cond_either, chosen_number}
+use Rattle.std.specs.Prelude.{ℕ, zero, suc, ◌+◌, ◌-◌, ◌≤◌, ◌<◌, Bool, true, false, cond, not, ◌&&◌, ◌||◌, List, [], ◌∷◌, ◌≡◌, refl, eqb, ltb, length, get_or}
+use Rattle.std.proofs.Common.{sym, ap, ◌∙◌, arith, length-take, length-drop, get_or-take, get_or-drop, eq-eqb, ne_eqb, eqb-true, le-ltb, ltb-false}
+use Rattle.std.proofs.lemmas.Bool.{eqb-false}
+use Rattle.std.specs.List.{starts_with}
+use Rattle.cells.specs.Choice.{and_true, cond_yes, cond_no, cond_either, chosen_number}
 use Rattle.part.specs.Area.{longest_area}
-use Rattle.sfdp.specs.declared.Found.{Found}
-use Rattle.sfdp.specs.Reader.{signed, header_count, header_at, identity_at, table_length, table_place, first_from, header_of, refusal, found, found_of, table_of}
+use Rattle.sfdp.specs.Reader.{Found, signed, header_count, header_at, identity_at, table_length, table_place, first_from, header_of, refusal, found, found_of, table_of}
 
 -- ---- the look through the headers
 
@@ -36,6 +37,46 @@ first_within area identity i zero = omega arith
 first_within area identity i (suc n) =
     let later : first_from area identity (i + 1) n ≤ i + 1 + n = first_within area identity (i + 1) n in
     cond_either (λ (h : ℕ). h ≤ i + suc n) (eqb (identity_at area i) identity) i (first_from area identity (i + 1) n) (λ _. omega arith) (λ _. omega arith)
+
+-- ---- the signature
+
+-- two numbers are compared either way round
+either_way : (m n : ℕ) → eqb m n ≡ eqb n m
+either_way m n = pick (eqb m n) refl
+  where
+    pick : (b : Bool) → eqb m n ≡ b → eqb m n ≡ eqb n m
+    pick true e = e ∙ sym (eq-eqb n m (sym (eqb-true m n e)))
+    pick false e = e ∙ sym (ne_eqb n m (λ s. eqb-false m n e (sym s)))
+
+never : (b c : Bool) → c ≡ false → (b && c) ≡ false
+never true c e = e
+never false c e = refl
+
+in_turn : (p q r s : Bool) → (p && (q && (r && s))) ≡ (((p && q) && r) && s)
+in_turn true true r s = refl
+in_turn true false r s = refl
+in_turn false q r s = refl
+
+twice : (b : Bool) → b ≡ not (not b)
+twice true = refl
+twice false = refl
+
+-- an area begins with the letters if it has four bytes at least and they are the letters
+signature_test : (area : List ℕ) → starts_with eqb area (0x53 ∷ 0x46 ∷ 0x44 ∷ 0x50 ∷ []) ≡ not (ltb (length area) 4 || not (signed area))
+signature_test [] = refl
+signature_test (a ∷ []) = never (eqb 0x53 a) _ refl
+signature_test (a ∷ b ∷ []) = never (eqb 0x53 a) _ (never (eqb 0x46 b) _ refl)
+signature_test (a ∷ b ∷ c ∷ []) = never (eqb 0x53 a) _ (never (eqb 0x46 b) _ (never (eqb 0x44 c) _ refl))
+signature_test (a ∷ b ∷ c ∷ d ∷ rest) =
+    let long : 4 ≤ length (a ∷ b ∷ c ∷ d ∷ rest) = omega arith in
+    rw (le-ltb _ _ long, either_way 0x53 a, either_way 0x46 b, either_way 0x44 c, either_way 0x50 d, and_true) (in_turn (eqb a 0x53) (eqb b 0x46) (eqb c 0x44) (eqb d 0x50) ∙ twice _)
+
+-- so one that begins with them passes the test of 14, and another does not
+pub begins : (area : List ℕ) → true ≡ starts_with eqb area (0x53 ∷ 0x46 ∷ 0x44 ∷ 0x50 ∷ []) → (ltb (length area) 4 || not (signed area)) ≡ false
+begins area e = twice _ ∙ ap not (sym (e ∙ signature_test area))
+
+pub begins_not : (area : List ℕ) → false ≡ starts_with eqb area (0x53 ∷ 0x46 ∷ 0x44 ∷ 0x50 ∷ []) → (ltb (length area) 4 || not (signed area)) ≡ true
+begins_not area e = twice _ ∙ ap not (sym (e ∙ signature_test area))
 
 -- ---- the refusal
 
@@ -101,3 +142,7 @@ table_byte area identity j h = rw (get_or-take, get_or-drop)
 pub table_refused : (area : List ℕ) (identity : ℕ) → (refusal area identity ≡ 0 → ⊥) → table_of area identity ≡ []
 unfolding table_of
 table_refused area identity e = rw (found-refused area identity e)
+
+-- refused by a number that is not 0: just that is told
+pub refused_by : (area : List ℕ) (identity n : ℕ) → (n ≡ 0 → ⊥) → refusal area identity ≡ n → found n 0 0 ≡ found_of area identity
+refused_by area identity n some e = sym (found-refused area identity (λ z. some (sym e ∙ z)) ∙ ap (λ (k : ℕ). found k 0 0) e)

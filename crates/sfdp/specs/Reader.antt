@@ -1,7 +1,9 @@
 -- The reader: the headers of an SFDP area, and the parameter table that a header points at (RULES, The SFDP area).
-use Rattle.std.specs.Prelude.{ℕ, zero, suc, ◌+◌, ◌*◌, Bool, cond, not, ◌&&◌, ◌||◌, List, eqb, ltb, length, get_or, take, drop}
+use Rattle.std.specs.Prelude.{ℕ, zero, suc, ◌+◌, ◌*◌, Bool, cond, not, ◌&&◌, ◌||◌, List, eqb, ltb, length, get_or, take, drop, Result, Ok, Err}
 use Rattle.part.specs.Area.{longest_area}
-use Rattle.sfdp.specs.declared.Found.{Found}
+use Rattle.refusal.specs.declared.Refusal.{Refusal}
+use Rattle.refusal.specs.Table.{number_of}
+use Rattle.sfdp.specs.declared.TableAt.{TableAt}
 
 -- ---- what stands in an area
 
@@ -50,9 +52,19 @@ refusal area identity =
     (cond (eqb (header_of area identity) (header_count area)) 16
     (cond (ltb (length area) (table_place area (header_of area identity) + table_length area (header_of area identity))) 17 0))))
 
--- the refusal, and the table's place and length, both 0 if refused
+-- the number that refuses, 0 for none, and a table's place and length in bytes, both 0 if refused
+pub record Found : Type 0 where
+  pub refusal : ℕ
+  pub place : ℕ
+  pub length : ℕ
+
 abbrev pub found : ℕ → ℕ → ℕ → Found
 found number place length = record { refusal = number; place = place; length = length }
+
+-- what is found, or what refuses it, by these numbers
+abbrev pub found_as : Result TableAt Refusal → Found
+found_as (Ok at) = found 0 at.place at.length
+found_as (Err refused) = found (number_of refused) 0 0
 
 unfoldable pub found_of : List ℕ → ℕ → Found
 found_of area identity =

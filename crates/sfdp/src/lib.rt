@@ -1,132 +1,91 @@
 // The reader of an SFDP area: which parameter table a header of an identity points at.
 #![tactic(auto)]
 
-ghost use Rattle.std.specs.Prelude.{◌≡◌, ◌≤◌, ◌<◌, length};
-ghost use Rattle.sfdp.specs.Reader.{signed, header_count, header_at, table_length, table_place, header_of, refusal, found_of, table_of};
+ghost use Rattle.std.specs.Prelude.{ℕ, ◌≡◌, ◌+◌, ◌≤◌, ◌<◌, MatchOption};
+ghost use Rattle.sfdp.specs.Reader.{header_count, header_at, table_length, table_place, header_of, found_as, found_of, table_of};
 
 use part::Part;
+use refusal::Refusal;
 
-// The number that refuses, 0 for none, and a table's place and length in bytes, both 0 if refused.
+// A parameter table: where it begins in the area, and its length in bytes.
 #[derive(Clone, Copy)]
-pub struct Found {
-    pub refusal: u8,
+pub struct TableAt {
     pub place: usize,
     pub length: usize,
 }
 
-fn is_signed(area: &[u8]) -> bool
-    ensures { result ≡ signed area.now }
+// The number of the last header, counted from 0: byte 6.
+fn last_header(area: &[u8]) -> u8
+    ensures { result + 1 ≡ header_count area.now }
 {
-    (cells::byte_at(area, 0) == 0x53)
-        & (cells::byte_at(area, 1) == 0x46)
-        & (cells::byte_at(area, 2) == 0x44)
-        & (cells::byte_at(area, 3) == 0x50)
+    cells::byte_at(area, 6)
 }
 
-// How many headers an area says it has: byte 6 and one more.
-fn header_count(area: &[u8]) -> usize
-    ensures { (result ≡ header_count area.now) × (result ≤ 256) }
+// Where a header begins: eight bytes each, from 08h on.
+fn header_at(i: u8) -> usize
+    ensures { (result ≡ header_at i) × (result ≤ 2048) }
 {
-    (cells::byte_at(area, 6) as usize) + 1
+    8 + 8 * (i as usize)
 }
 
-fn header_at(i: usize) -> usize
-    requires { i ≤ 256 }
-    ensures { (result ≡ header_at i) × (result ≤ 2056) }
+// The first header of an identity.
+fn header_of(area: &[u8], identity: u8) -> Option<u8>
+    ensures { MatchOption result (header_of area.now identity ≡ header_count area.now) (λ (i : ℕ). (header_of area.now identity ≡ i) × (i < header_count area.now)) }
 {
-    8 + 8 * i
-}
-
-// The first header of an identity, or the number of headers if none has it.
-fn header_of(area: &[u8], identity: u8) -> usize
-    ensures { (result ≡ header_of area.now identity) × (result ≤ 256) }
-{
-    let count = header_count(area);
-    let mut i = 0;
-    while i < count {
+    for i in 0..=last_header(area) {
         if cells::byte_at(area, header_at(i)) == identity {
-            return i;
+            return Some(i);
         }
-        i += 1;
     }
-    count
+    None
 }
 
-// The length in bytes of the table of a header.
-fn table_length(area: &[u8], i: usize) -> usize
-    requires { i ≤ 256 }
-    ensures { (result ≡ table_length area.now i) × (result ≤ 1020) }
-{
-    4 * (cells::byte_at(area, header_at(i) + 3) as usize)
-}
-
-// Where the table of a header begins: three bytes, the low one first.
-fn table_place(area: &[u8], i: usize) -> usize
-    requires { i ≤ 256 }
-    ensures { (result ≡ table_place area.now i) × (result < 16777216) }
+// The table of a header: the place in three bytes, the low one first, and the length in words of four bytes.
+fn table_at(area: &[u8], i: u8) -> TableAt
+    ensures { (result.place ≡ table_place area.now i) × (result.length ≡ table_length area.now i) × (result.place < 16777216) × (result.length ≤ 1020) }
 {
     let at = header_at(i);
-    (cells::byte_at(area, at + 4) as usize)
-        + 256 * (cells::byte_at(area, at + 5) as usize)
-        + 65536 * (cells::byte_at(area, at + 6) as usize)
-}
-
-// The number that refuses an area or an identity, 0 for none.
-fn refuses(area: &[u8], identity: u8) -> u8
-    ensures { result ≡ refusal area.now identity }
-{
-    if Part::LONGEST_AREA < area.len() {
-        return 13;
+    let low = cells::byte_at(area, at + 4);
+    let middle = cells::byte_at(area, at + 5);
+    let high = cells::byte_at(area, at + 6);
+    TableAt {
+        place: u32::from_le_bytes([low, middle, high, 0]) as usize,
+        length: 4 * (cells::byte_at(area, at + 3) as usize),
     }
-    if area.len() < 4 {
-        return 14;
-    }
-    if !is_signed(area) {
-        return 14;
-    }
-    if area.len() < 8 {
-        return 15;
-    }
-    let count = header_count(area);
-    if area.len() < header_at(count) {
-        return 15;
-    }
-    let i = header_of(area, identity);
-    if i == count {
-        return 16;
-    }
-    if area.len() < table_place(area, i) + table_length(area, i) {
-        return 17;
-    }
-    0
 }
 
 // Where the table of an identity stands in an area, or what refuses it.
-pub fn find_table(area: &[u8], identity: u8) -> Found
-    ensures { result ≡ found_of area.now identity }
+pub fn find_table(area: &[u8], identity: u8) -> Result<TableAt, Refusal>
+    ensures { found_as result ≡ found_of area.now identity }
 {
-    let number = refuses(area, identity);
-    if number != 0 {
-        return Found {
-            refusal: number,
-            place: 0,
-            length: 0,
-        };
+    if Part::LONGEST_AREA < area.len() {
+        return Err(Refusal::LongArea);
     }
-    let i = header_of(area, identity);
-    Found {
-        refusal: 0,
-        place: table_place(area, i),
-        length: table_length(area, i),
+    if !area.starts_with(b"SFDP") {
+        return Err(Refusal::Unsigned);
     }
+    if area.len() < 8 {
+        return Err(Refusal::CutHeaders);
+    }
+    if area.len() < header_at(last_header(area)) + 8 {
+        return Err(Refusal::CutHeaders);
+    }
+    let Some(i) = header_of(area, identity) else {
+        return Err(Refusal::NoHeader);
+    };
+    let found = table_at(area, i);
+    if area.len() < found.place + found.length {
+        return Err(Refusal::TableOutside);
+    }
+    Ok(found)
 }
 
 // The table of an identity: that piece of the caller's own bytes, and none of them if refused.
 pub fn table(area: &[u8], identity: u8) -> &[u8]
     ensures { result.now ≡ table_of area.now identity }
 {
-    let found = find_table(area, identity);
-    let start = found.place;
-    let end = start + found.length;
-    &area[start..end]
+    match find_table(area, identity) {
+        Ok(found) => &area[found.place..found.place + found.length],
+        Err(_) => &area[..0],
+    }
 }

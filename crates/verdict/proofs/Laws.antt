@@ -1,5 +1,5 @@
 -- What is true of verdicts: what 1, 2 and 9 say of the frame and the state, what is said of them, and that the others change no job and no status bit.
-use Rattle.std.specs.Prelude.{ℕ, ◌/◌, ◌≤◌, Bool, true, cond, ◌&&◌, ◌||◌, List, ◌≡◌, refl, length, get_or}
+use Rattle.std.specs.Prelude.{ℕ, ◌/◌, ◌≤◌, Bool, true, cond, ◌&&◌, ◌||◌, List, ◌≡◌, refl, length, get_or, None, Some}
 use Rattle.std.proofs.Math.Bool.{false, not}
 use Rattle.std.proofs.lemmas.Bool.{false≢true}
 use Rattle.std.proofs.Common.{sym, ap, ◌∙◌, arith}
@@ -9,9 +9,7 @@ use Rattle.std.proofs.Math.Dec.{eqb}
 use borrow.Author.Tests.{eq-eqb, ne_eqb, eqb-true, not-true, not-false}
 use Rattle.cells.specs.Choice.{cond_yes, cond_no, cond_either, and_left, and_right, and_both, not_so}
 use Rattle.part.specs.Part.{sector}
-use Rattle.part.specs.declared.Protected.{Protected}
-use Rattle.part.specs.declared.Protected.TheVariants.{NoSector, Sectors}
-use Rattle.part.specs.Protection.{protected_count, first_end, last_end, protected_sectors, protects, protects_any, is_protected}
+use Rattle.part.specs.Protection.{Protected, protected_count, first_end, last_end, protected_sectors, protects, protects_any, is_protected}
 use Rattle.part.proofs.Laws.{no_ends, two_ends}
 use Rattle.commands.specs.Table.{row_of, fits_rule, is_read, is_program, write_enable, write_disable, suspend, resume, wake, deep_power_down, reset_enable, reset}
 use Rattle.chip.specs.declared.Core.{Core}
@@ -110,7 +108,7 @@ module _ (S : ℕ) (k : Core) (f : Frame) (loose : Bool) (known : judgement_know
   pub nine_finds : verdict S k f loose ≡ 9 → protected_count k.level S ≡ 0 → ⊥
   nine_finds h none = false≢true (sym (free kind) ∙ verdict_nine h)
     where
-      nothing : protected_sectors k.level k.tb S ≡ NoSector
+      nothing : protected_sectors k.level k.tb S ≡ None
       nothing = no_ends k.level k.tb S none
 
       at : (x : ℕ) → is_protected k.level k.tb S x ≡ false
@@ -154,8 +152,8 @@ record_tells S k u v = go (ℕ_discrete u 9)
     number e = ap (λ (r : Record). get_or (record_bytes r) 1 0) e
 
     at : (range : Protected) → in_the_way range ≡ Verdict v → 9 ≡ v
-    at NoSector e = number e
-    at (Sectors first last) e = let longer : ◌≡◌ {A = ℕ} 3 2 = ap (λ (r : Record). length (record_bytes r)) e in absurd (omega arith)
+    at None e = number e
+    at (Some ends) e = let longer : ◌≡◌ {A = ℕ} 3 2 = ap (λ (r : Record). length (record_bytes r)) e in absurd (omega arith)
 
     go : Dec (u ≡ 9) → record_of S k u ≡ Verdict v → u ≡ v
     go (yes nine) e = nine ∙ at (protected_sectors k.level k.tb S) (sym (ap (record_of S k) nine) ∙ e)

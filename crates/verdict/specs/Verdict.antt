@@ -1,10 +1,8 @@
 -- The verdict at a deselect: the list, in its order (RULES, Verdicts).
-use Rattle.std.specs.Prelude.{ℕ, ◌/◌, ◌%◌, Bool, false, cond, not, ◌&&◌, ◌||◌, eqb}
+use Rattle.std.specs.Prelude.{ℕ, ◌/◌, ◌%◌, Bool, false, cond, not, ◌&&◌, ◌||◌, eqb, None, Some}
 use Rattle.part.specs.Part.{page, small_sector, sector, reduced, rounded_down}
 use Rattle.commands.specs.Table.{row_of, fits_rule, is_read, is_program, write_status, small_sector_erase, small_sector_erase', sector_erase, chip_erase, chip_erase', suspend, resume, reset}
-use Rattle.part.specs.declared.Protected.{Protected}
-use Rattle.part.specs.declared.Protected.TheVariants.{NoSector, Sectors}
-use Rattle.part.specs.Protection.{protected_sectors, protects_any, is_protected}
+use Rattle.part.specs.Protection.{Protected, protected_sectors, protects_any, is_protected}
 use Rattle.chip.specs.declared.Core.{Core}
 use Rattle.chip.specs.declared.Frame.{Frame}
 use Rattle.chip.specs.declared.Job.{Job}
@@ -89,8 +87,8 @@ verdict S k f loose = cond (eqb f.count 0) 0 (cond (not (eqb f.judgement 0)) f.j
 
 -- the protected sectors, as verdict 9 says them (RULES, Records); on a legal state that verdict finds some (`nine_finds`)
 abbrev pub in_the_way : Protected → Record
-in_the_way NoSector = Verdict 9
-in_the_way (Sectors first last) = InTheWay first last
+in_the_way None = Verdict 9
+in_the_way (Some e) = InTheWay e.first e.last
 
 -- the record of a verdict: its number, and for 9 the two ends of all that is protected, whatever the target was (RULES, Records)
 unfoldable pub record_of : ℕ → Core → ℕ → Record

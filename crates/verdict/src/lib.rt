@@ -5,27 +5,24 @@ ghost use Rattle.std.specs.Prelude.{◌≡◌, ◌%◌, ◌<◌};
 ghost use Rattle.part.specs.Part.{rounded_down, reduced};
 ghost use Rattle.part.specs.Protection.{protected_sectors};
 ghost use Rattle.chip.specs.declared.JobKind.{JobKind};
-ghost use Rattle.chip.specs.Fields.{with_wen, with_suspended, with_waiting, with_deep};
 ghost use Rattle.verdict.specs.Verdict.{job_of, start_of, job_asked, start_protected, target_protected, pointless, job_verdict, command_verdict, listed, verdict, in_the_way, record_of};
 ghost use Rattle.verdict.specs.Effect.{replaced, begins, resets, instantly, acted, settled, held_after};
 
 use chip::{Core, Frame, Job, JobKind, Record};
 use commands::Command;
-use part::{Part, Protected};
+use part::{Ends, Part};
 
 // The job that an opcode begins, Idle for none.
+#[tactic(auto, unfolding(crate::specs::Verdict::job_of, commands::specs::Table::is_program))]
 fn job_of(opcode: u8, address: u32) -> JobKind
     ensures { result ≡ job_of opcode address }
 {
     match opcode {
         Command::WRITE_STATUS => JobKind::WriteStatus((address % 256) as u8),
-        Command::PAGE_PROGRAM => JobKind::Program,
-        Command::PAGE_PROGRAM_2 => JobKind::Program,
-        Command::SMALL_SECTOR_ERASE => JobKind::SmallErase,
-        Command::SMALL_SECTOR_ERASE_2 => JobKind::SmallErase,
+        Command::PAGE_PROGRAM | Command::PAGE_PROGRAM_2 => JobKind::Program,
+        Command::SMALL_SECTOR_ERASE | Command::SMALL_SECTOR_ERASE_2 => JobKind::SmallErase,
         Command::SECTOR_ERASE => JobKind::SectorErase,
-        Command::CHIP_ERASE => JobKind::ChipErase,
-        Command::CHIP_ERASE_2 => JobKind::ChipErase,
+        Command::CHIP_ERASE | Command::CHIP_ERASE_2 => JobKind::ChipErase,
         _ => JobKind::Idle,
     }
 }
@@ -44,12 +41,10 @@ fn start_of(sectors: u8, kind: JobKind, address: u32) -> u32
     ensures { result ≡ start_of sectors kind address }
 {
     match kind {
-        JobKind::Idle => 0,
-        JobKind::WriteStatus(_) => 0,
+        JobKind::Idle | JobKind::WriteStatus(_) | JobKind::ChipErase => 0,
         JobKind::Program => rounded(sectors, Part::PAGE, address),
         JobKind::SmallErase => rounded(sectors, Part::SMALL_SECTOR, address),
         JobKind::SectorErase => rounded(sectors, Part::SECTOR, address),
-        JobKind::ChipErase => 0,
     }
 }
 
@@ -58,16 +53,15 @@ fn job_asked(sectors: u8, f: Frame) -> Job
     ensures { result ≡ job_asked sectors f }
 {
     let kind = job_of(f.opcode, f.address);
-    let start = start_of(sectors, kind, f.address);
     Job {
-        kind: kind,
-        start: start,
+        kind,
+        start: start_of(sectors, kind, f.address),
         done: 0,
     }
 }
 
 // The protected sectors, as the core's level and TB have them.
-fn protected_of(sectors: u8, core: Core) -> Protected
+fn protected_of(sectors: u8, core: Core) -> Option<Ends>
     ensures { result ≡ protected_sectors core.level core.tb sectors }
 {
     part::protected_sectors(core.level, core.tb, sectors)
@@ -85,11 +79,10 @@ fn target_protected(sectors: u8, core: Core, kind: JobKind, start: u32) -> bool
     ensures { result ≡ target_protected sectors core kind start }
 {
     match kind {
-        JobKind::Idle => false,
-        JobKind::WriteStatus(_) => false,
-        JobKind::Program => start_protected(sectors, core, start),
-        JobKind::SmallErase => start_protected(sectors, core, start),
-        JobKind::SectorErase => start_protected(sectors, core, start),
+        JobKind::Idle | JobKind::WriteStatus(_) => false,
+        JobKind::Program | JobKind::SmallErase | JobKind::SectorErase => {
+            start_protected(sectors, core, start)
+        }
         JobKind::ChipErase => part::protects_any(protected_of(sectors, core)),
     }
 }
@@ -105,24 +98,24 @@ fn is_pointless(core: Core, opcode: u8) -> bool
 }
 
 // The verdict on a command that asks for a job.
+#[tactic(auto, unfolding(crate::specs::Verdict::job_verdict))]
 fn job_verdict(sectors: u8, core: Core, job: Job) -> u8
     ensures { result ≡ job_verdict sectors core job }
 {
     if !core.wen {
         return 8;
     }
-    let kind = job.kind;
-    let cells = chip::has_cells(kind);
-    if !cells & core.srwp & !core.wp {
+    if !chip::has_cells(job.kind) & core.srwp & !core.wp {
         return 10;
     }
-    if target_protected(sectors, core, kind, job.start) {
+    if target_protected(sectors, core, job.kind, job.start) {
         return 9;
     }
     2
 }
 
 // The verdict on a command of the right length, allowed where it stands.
+#[tactic(auto, unfolding(crate::specs::Verdict::command_verdict))]
 fn command_verdict(sectors: u8, core: Core, f: Frame) -> u8
     ensures { result ≡ command_verdict sectors core f }
 {
@@ -130,17 +123,20 @@ fn command_verdict(sectors: u8, core: Core, f: Frame) -> u8
         return 11;
     }
     let job = job_asked(sectors, f);
-    let kind = job.kind;
-    if chip::is_job(kind) {
+    if chip::is_job(job.kind) {
         return job_verdict(sectors, core, job);
     }
     1
 }
 
 // The list from 3 on, on the state as it then is.
+#[tactic(auto, using(commands::specs::Laws::row_none, commands::specs::Laws::row_some, commands::specs::Laws::fits_as), unfolding(crate::specs::Verdict::listed, frame::specs::Frame::judge))]
 fn list(sectors: u8, core: Core, f: Frame, loose: bool) -> u8
     ensures { result ≡ listed sectors core f loose }
 {
+    let Some(row) = commands::row_of(f.opcode) else {
+        return 3;
+    };
     let judged = frame::judge(core, f.opcode);
     if judged != 0 {
         return judged;
@@ -148,15 +144,15 @@ fn list(sectors: u8, core: Core, f: Frame, loose: bool) -> u8
     if commands::is_read(f.opcode) {
         return 0;
     }
-    let row = commands::row_of(f.opcode);
-    let fits = commands::fits_rule(row.rule, f.count);
-    if loose | !fits {
+    if loose | !row.length.fits(f.count) {
         return 4;
     }
     command_verdict(sectors, core, f)
 }
 
 // The verdict of a selected frame at its deselect.
+// Stays: a verdict is a number, since `settle`, `hand_over` and `record_of` answer for every one, and so does a record.
+#[tactic(auto, unfolding(crate::specs::Verdict::verdict))]
 pub fn verdict(sectors: u8, core: Core, f: Frame, loose: bool) -> u8
     ensures { result ≡ verdict sectors core f loose }
 {
@@ -170,16 +166,17 @@ pub fn verdict(sectors: u8, core: Core, f: Frame, loose: bool) -> u8
 }
 
 // The record of verdict 9: the protected sectors.
-fn in_the_way(range: Protected) -> Record
+fn in_the_way(range: Option<Ends>) -> Record
     ensures { result ≡ in_the_way range }
 {
     match range {
-        Protected::NoSector => Record::Verdict(9),
-        Protected::Sectors(first, last) => Record::InTheWay(first, last),
+        None => Record::Verdict(9),
+        Some(ends) => Record::InTheWay(ends.first, ends.last),
     }
 }
 
 // The record of a verdict. The core is the one that was judged, before the verdict acts on it.
+#[tactic(auto, unfolding(crate::specs::Verdict::record_of))]
 pub fn record_of(sectors: u8, core: Core, v: u8) -> Record
     ensures { result ≡ record_of sectors core v }
 {
@@ -193,11 +190,12 @@ pub fn record_of(sectors: u8, core: Core, v: u8) -> Record
 fn replace_job(job: Job, core: Core) -> Core
     ensures { result ≡ replaced job core }
 {
-    let mut next = core;
-    next.suspended = false;
-    next.waiting = false;
-    next.job = job;
-    next
+    Core {
+        suspended: false,
+        waiting: false,
+        job,
+        ..core
+    }
 }
 
 // The core with the frame's job begun.
@@ -211,59 +209,40 @@ fn begin(sectors: u8, core: Core, f: Frame) -> Core
 pub fn reset(core: Core) -> Core
     ensures { result ≡ resets core }
 {
-    let mut next = replace_job(chip::no_job(), core);
-    next.wen = false;
-    next
-}
-
-fn set_wen(wen: bool, core: Core) -> Core
-    ensures { result ≡ with_wen wen core }
-{
-    let mut next = core;
-    next.wen = wen;
-    next
-}
-
-fn set_suspended(suspended: bool, core: Core) -> Core
-    ensures { result ≡ with_suspended suspended core }
-{
-    let mut next = core;
-    next.suspended = suspended;
-    next
-}
-
-fn set_waiting(waiting: bool, core: Core) -> Core
-    ensures { result ≡ with_waiting waiting core }
-{
-    let mut next = core;
-    next.waiting = waiting;
-    next
-}
-
-fn set_deep(deep: bool, core: Core) -> Core
-    ensures { result ≡ with_deep deep core }
-{
-    let mut next = core;
-    next.deep = deep;
-    next
+    Core {
+        wen: false,
+        ..replace_job(chip::no_job(), core)
+    }
 }
 
 // What is done at once.
+#[tactic(auto, unfolding(crate::specs::Effect::instantly))]
 fn act_at_once(core: Core, opcode: u8) -> Core
     ensures { result ≡ instantly core opcode }
 {
     match opcode {
-        Command::WRITE_ENABLE => set_wen(true, core),
-        Command::WRITE_DISABLE => set_wen(false, core),
-        Command::SUSPEND => set_waiting(true, core),
-        Command::RESUME => set_suspended(false, core),
-        Command::WAKE => set_deep(false, core),
-        Command::DEEP_POWER_DOWN => set_deep(true, core),
+        Command::WRITE_ENABLE => Core { wen: true, ..core },
+        Command::WRITE_DISABLE => Core { wen: false, ..core },
+        Command::SUSPEND => Core {
+            waiting: true,
+            ..core
+        },
+        Command::RESUME => Core {
+            suspended: false,
+            ..core
+        },
+        Command::WAKE => Core {
+            deep: false,
+            ..core
+        },
+        Command::DEEP_POWER_DOWN => Core { deep: true, ..core },
         Command::RESET => reset(core),
         _ => core,
     }
 }
 
+// What a verdict does: 2 begins, 1 acts at once, and every other leaves all as it was.
+#[tactic(auto, unfolding(crate::specs::Effect::acted))]
 fn act(sectors: u8, core: Core, f: Frame, v: u8) -> Core
     ensures { result ≡ acted sectors core f v }
 {
@@ -277,18 +256,21 @@ fn act(sectors: u8, core: Core, f: Frame, v: u8) -> Core
 }
 
 // The core after a frame's verdict.
+#[tactic(auto, unfolding(crate::specs::Effect::settled))]
 pub fn settle(sectors: u8, core: Core, f: Frame, v: u8) -> Core
     ensures { result ≡ settled sectors core f v }
 {
     if f.count == 0 {
         return core;
     }
-    let mut next = act(sectors, core, f, v);
-    next.armed = (f.opcode == Command::RESET_ENABLE) & (v == 1);
-    next
+    Core {
+        armed: (f.opcode == Command::RESET_ENABLE) & (v == 1),
+        ..act(sectors, core, f, v)
+    }
 }
 
 // The job's load after a frame's verdict: handed over, blank, or as it was.
+#[tactic(auto, unfolding(crate::specs::Effect::held_after))]
 pub fn hand_over(f: Frame, v: u8, load: &[u8; 256], held: &mut [u8; 256])
     ensures { held.new ≡ held_after f v load.now held.old }
 {

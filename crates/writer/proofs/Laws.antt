@@ -1,6 +1,6 @@
 -- What is true of scripts that program: their pieces one by one, their length, and the longest of them.
 use Rattle.std.specs.Prelude.{ℕ, zero, suc, ◌+◌, ◌*◌, ◌-◌, ◌/◌, ◌%◌, ◌<◌, ◌≤◌, min, List, [], ◌∷◌, ◌++◌, ◌≡◌, refl, eqb, length, get_or, take, drop}
-use Rattle.std.proofs.Common.{sym, ap, ◌∙◌, add-one, arith, length-append, length-take, length-drop, drop_of_length-le, take-suc, take_all, ne_eqb}
+use Rattle.std.proofs.Common.{sym, ap, ◌∙◌, add-one, arith, length-append, length-take, length-drop, drop_of_length-le, drop-cons, take-suc, take_all, ne_eqb}
 use Rattle.std.proofs.Math.Decide.{dec_le}
 use Rattle.cells.specs.Choice.{cond_no}
 use Rattle.commands.specs.Table.{write_enable, page_program}
@@ -65,6 +65,11 @@ pub exchanges-more : (bs : List ℕ) (i : ℕ) → i < length bs → exchanges_o
 unfolding exchanges_of
 exchanges-more bs i h = ap (λ (k : ℕ). exchanges_of (take k bs)) (add-one i) ∙ ap exchanges_of (take-suc bs i 0 h) ∙ exchanges-append (take i bs) (get_or bs i 0 ∷ [])
 
+-- those of the bytes from i on begin with the byte's own
+pub exchanges-next : (bs : List ℕ) (i : ℕ) → i < length bs → exchanges_of (drop i bs) ≡ (EXCHANGE ∷ get_or bs i 0 ∷ []) ++ exchanges_of (drop (i + 1) bs)
+unfolding exchanges_of
+exchanges-next bs i h = rw (drop-cons bs i 0 h, add-one i)
+
 pub length-exchanges : (bs : List ℕ) → length (exchanges_of bs) ≡ 2 * length bs
 unfolding exchanges_of
 length-exchanges [] = refl
@@ -87,6 +92,23 @@ pub length-piece : (p : Piece) → length (piece_script p) ≡ 19 + 2 * length p
 length-piece p =
     omega
     (arith, length-append (frame_of (write_enable ∷ []) ++ frame_of (page_program ∷ (address_bytes p.address ++ p.bytes))) (ticks_of program_ticks), length-frames p.address p.bytes)
+
+-- the script for some bytes: the events of those up to the end of the page, and the script for the others from there on
+pub script_next : (A : ℕ) (bs front behind : List ℕ) (n : ℕ) → 0 < length bs → n ≡ min (length bs) (left_in_page A) → front ≡ take n bs → behind ≡ drop n bs
+    → program_script A bs ≡ piece_script (piece A front) ++ program_script (A + length front) behind
+unfolding script_of
+script_next A bs front behind n some is f b =
+    let long : length front ≡ n = omega (arith, ap length f, length-take n bs, is) in
+    ap script_of (pieces_more A bs n some is)
+    ∙ ap (λ (k : ℕ). piece_script (piece A (take n bs)) ++ program_script (A + k) (drop n bs)) (sym long)
+    ∙ ap (λ (s : List ℕ). piece_script (piece A s) ++ program_script (A + length front) (drop n bs)) (sym f)
+    ∙ ap (λ (s : List ℕ). piece_script (piece A front) ++ program_script (A + length front) s) (sym b)
+
+-- for no bytes there is none
+pub script_none : (A : ℕ) (bs : List ℕ) → length bs ≡ 0 → program_script A bs ≡ []
+unfolding script_of
+script_none A [] none = ap script_of (pieces_none A)
+script_none A (b ∷ bs) none = absurd (omega arith)
 
 -- some bytes touch one page more than they touch edges
 count_some : (A n : ℕ) → 0 < n → piece_count A n ≡ (A % 256 + n - 1) / 256 + 1
@@ -127,6 +149,9 @@ count_pieces A bs = (sizes (length bs) A bs (omega arith)).0
 -- The script has 19 bytes a piece, and 2 a byte.
 pub length-script : (A : ℕ) (bs : List ℕ) → length (program_script A bs) ≡ script_length A (length bs)
 length-script A bs = (sizes (length bs) A bs (omega arith)).1
+
+-- that, where a tactic is to have it
+pub ruleset script_long = (length-script)
 
 -- 4,096 bytes make 17 pieces at the most
 pub pieces-most : (A n : ℕ) → n ≤ 4096 → piece_count A n ≤ 17

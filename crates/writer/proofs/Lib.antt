@@ -2,4 +2,3 @@ pub mod Laws
 pub mod Refusals
 pub mod Unique
 pub mod Examples
-pub mod Writing

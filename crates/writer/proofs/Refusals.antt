@@ -5,8 +5,7 @@ use Rattle.std.proofs.Math.Logic.Iff
 use Rattle.std.proofs.Common.{eq-eqb, ne_eqb}
 use Rattle.cells.specs.Choice.{cond_yes, cond_no, chosen_number, decides_not, decides_less, decides_most, chain_tests, chain_last, flat_three, flat_four, flat_five}
 use Rattle.part.specs.Part.{permitted}
-use Rattle.writer.specs.declared.Written.{Written}
-use Rattle.writer.specs.Writer.{program_script, refusal, answer_of, output_of}
+use Rattle.writer.specs.Writer.{Written, program_script, refusal, answer_of, output_of}
 
 -- Which number refuses the script for some bytes from address A on, for a memory of n cells and an output of `space` bytes: 1, 20, 21, 22, 23 or none, in that order.
 pub record RefusedWhen (number n A : ℕ) (bs : List ℕ) (space : ℕ) : Type 0 where

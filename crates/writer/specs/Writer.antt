@@ -1,9 +1,10 @@
 -- The script that programs some bytes from an address on: its pieces, their events, and the writer's whole answer (RULES, The script writer).
-use Rattle.std.specs.Prelude.{ℕ, zero, suc, ◌+◌, ◌*◌, ◌-◌, ◌/◌, ◌%◌, cond, not, List, [], ◌∷◌, ◌++◌, eqb, ltb, leb, length, take, drop}
+use Rattle.std.specs.Prelude.{ℕ, zero, suc, ◌+◌, ◌*◌, ◌-◌, ◌/◌, ◌%◌, cond, not, Result, Ok, Err, List, [], ◌∷◌, ◌++◌, eqb, ltb, leb, length, take, drop}
 use Rattle.part.specs.Part.{page, permitted}
 use Rattle.commands.specs.Table.{write_enable, page_program}
 use Rattle.kinds.specs.Kinds.{SELECT, EXCHANGE, DESELECT, TICKS}
-use Rattle.writer.specs.declared.Written.{Written}
+use Rattle.refusal.specs.declared.Refusal.{Refusal}
+use Rattle.refusal.specs.Table.{number_of}
 
 -- ---- the pieces
 
@@ -86,6 +87,20 @@ abbrev pub script_room : ℕ → ℕ → ℕ
 script_room A n = 16 * piece_count A n + 2 * n
 
 -- ---- the writer's answer (RULES, The script writer)
+
+-- what refuses it, 0 for nothing, and how many bytes of the output are the script
+pub record Written : Type 0 where
+  pub refusal : ℕ
+  pub written : ℕ
+
+-- a call's answer in these numbers
+abbrev pub told : {T : Type 0} → Result T Refusal → ℕ
+told (Ok _) = 0
+told (Err e) = number_of e
+
+abbrev pub written_as : Result ℕ Refusal → Written
+written_as (Ok n) = record { refusal = 0; written = n }
+written_as (Err e) = record { refusal = number_of e; written = 0 }
 
 -- the most bytes that one script programs
 abbrev pub longest_data : ℕ

@@ -1,13 +1,15 @@
 // The script writer: from bytes and an address to the events that program them.
 #![tactic(auto)]
 
-ghost use Rattle.std.specs.Prelude.{◌≡◌, [], ◌∷◌, ◌++◌, ◌+◌, ◌*◌, ◌≤◌, min, length};
-ghost use Rattle.cells.specs.Put.{Put};
-ghost use Rattle.writer.specs.Writer.{piece, left_in_page, exchanges_of, clean_deselect, frame_of, ticks_of, piece_script, program_script, piece_count, script_length, longest_data, refusal, answer_of, output_of};
+ghost use Rattle.std.specs.Prelude.{◌≡◌, [], ◌∷◌, ◌++◌, ◌+◌, ◌*◌, ◌^◌, ◌<◌, ◌≤◌, min, length, drop};
+ghost use Rattle.cells.specs.Output.{Puts, room};
+ghost use Rattle.writer.specs.Writer.{piece, left_in_page, exchanges_of, clean_deselect, frame_of, ticks_of, piece_script, program_script, piece_count, script_length, longest_data, told, written_as, refusal, answer_of, output_of};
 
+use cells::output::Output;
 use commands::Command;
 use kinds::Kind;
 use part::Part;
+use refusal::Refusal;
 
 // The most bytes that one script programs.
 pub const LONGEST_DATA: usize = 4096;
@@ -18,102 +20,88 @@ pub const LONGEST_SCRIPT: usize = 8515;
 // The ticks that a page program takes, one a step.
 const PROGRAM_TICKS: u16 = 16;
 
-// The answer of the writer: what refuses it, 0 for nothing, and how many bytes of the output are the script.
-#[derive(Clone, Copy)]
-pub struct Written {
-    pub refusal: u8,
-    pub written: usize,
-}
-
-// Puts an exchange for each byte at a place of the output; the answer is the place after them.
-fn put_exchanges(out: &mut [u8], at: usize, bytes: &[u8]) -> usize
-    requires { at + 2 * length bytes.now ≤ length out.old }
-    ensures { Put out.old at (exchanges_of bytes.now) result out.new }
+// Puts an exchange for each byte.
+fn put_exchanges(out: &mut Output, bytes: &[u8])
+    requires { 2 * length bytes.now ≤ room out.old }
+    ensures { Puts out.old (exchanges_of bytes.now) out.new }
 {
-    let mut end = at;
-    let mut i = 0;
-    while i < bytes.len() {
-        out[end] = Kind::EXCHANGE as u8;
-        out[end + 1] = bytes[i];
-        end += 2;
-        i += 1;
+    for byte in bytes {
+        out.push(Kind::Exchange as u8);
+        out.push(*byte);
     }
-    end
 }
 
 // Puts a deselect on the byte boundary: no bit is loose.
-fn put_deselect(out: &mut [u8], at: usize) -> usize
-    requires { at + 2 ≤ length out.old }
-    ensures { Put out.old at clean_deselect result out.new }
+fn put_deselect(out: &mut Output)
+    requires { 2 ≤ room out.old }
+    ensures { Puts out.old clean_deselect out.new }
 {
-    out[at] = Kind::DESELECT as u8;
-    out[at + 1] = 0;
-    at + 2
+    out.push(Kind::Deselect as u8);
+    out.push(0);
 }
 
 // Puts a frame: a select, the exchanges of a command and of its bytes, a deselect.
-fn put_frame(out: &mut [u8], at: usize, command: &[u8], bytes: &[u8]) -> usize
-    requires { at + (2 * (length command.now + length bytes.now) + 3) ≤ length out.old }
-    ensures { Put out.old at (frame_of (command.now ++ bytes.now)) result out.new }
+fn put_frame(out: &mut Output, command: &[u8], bytes: &[u8])
+    requires { 2 * (length command.now + length bytes.now) + 3 ≤ room out.old }
+    ensures { Puts out.old (frame_of (command.now ++ bytes.now)) out.new }
 {
-    out[at] = Kind::SELECT as u8;
-    let data = put_exchanges(out, at + 1, command);
-    let end = put_exchanges(out, data, bytes);
-    put_deselect(out, end)
+    out.push(Kind::Select as u8);
+    put_exchanges(out, command);
+    put_exchanges(out, bytes);
+    put_deselect(out);
 }
 
 // Puts an event of n ticks, the high byte of their number first.
-fn put_ticks(out: &mut [u8], at: usize, n: u16) -> usize
-    requires { at + 3 ≤ length out.old }
-    ensures { Put out.old at (ticks_of n) result out.new }
+fn put_ticks(out: &mut Output, n: u16)
+    requires { 3 ≤ room out.old }
+    ensures { Puts out.old (ticks_of n) out.new }
 {
-    out[at] = Kind::TICKS as u8;
-    out[at + 1] = (n / 256 % 256) as u8;
-    out[at + 2] = (n % 256) as u8;
-    at + 3
+    out.push(Kind::Ticks as u8);
+    out.put(&n.to_be_bytes());
 }
 
 // Puts what programs some bytes of one page: a write enable, the page program, its ticks.
-fn put_piece(out: &mut [u8], at: usize, address: usize, bytes: &[u8]) -> usize
-    requires { at + (19 + 2 * length bytes.now) ≤ length out.old }
-    ensures { Put out.old at (piece_script (piece address bytes.now)) result out.new }
+fn put_piece(out: &mut Output, address: usize, bytes: &[u8])
+    requires { (address < 2 ^ 32) × (19 + 2 * length bytes.now ≤ room out.old) }
+    ensures { Puts out.old (piece_script (piece address bytes.now)) out.new }
 {
-    let program = put_frame(out, at, &[Command::WRITE_ENABLE], &[]);
-    let command = [
-        Command::PAGE_PROGRAM,
-        (address / 65536 % 256) as u8,
-        (address / 256 % 256) as u8,
-        (address % 256) as u8,
-    ];
-    let ticks = put_frame(out, program, &command, bytes);
-    put_ticks(out, ticks, PROGRAM_TICKS)
+    put_frame(out, &[Command::WRITE_ENABLE], &[]);
+    let [_, high, middle, low] = (address as u32).to_be_bytes();
+    put_frame(out, &[Command::PAGE_PROGRAM, high, middle, low], bytes);
+    put_ticks(out, PROGRAM_TICKS);
 }
 
 // How many of the bytes that are left, from an address on, lie in its page.
 fn in_page(address: usize, left: usize) -> usize
     ensures { result ≡ min left (left_in_page address) }
 {
-    let room = Part::PAGE - address % Part::PAGE;
-    if left < room {
-        return left;
-    }
-    room
+    left.min(Part::PAGE - address % Part::PAGE)
 }
 
-// Puts the script for bytes that lie on a part, piece by piece; the answer is its length.
-fn put_script(out: &mut [u8], address: usize, bytes: &[u8]) -> usize
-    requires { (address + length bytes.now ≤ 2097152) × (script_length address (length bytes.now) ≤ length out.old) }
-    ensures { Put out.old 0 (program_script address bytes.now) result out.new }
+// Puts the script for bytes that lie on a part, piece by piece.
+fn put_script(out: &mut Output, address: usize, bytes: &[u8])
+    requires { (address + length bytes.now ≤ 2097152) × (script_length address (length bytes.now) ≤ room out.old) }
+    ensures { Puts out.old (program_script address bytes.now) out.new }
 {
-    let mut end = 0;
-    let mut done = 0;
-    while done < bytes.len() {
-        let here = address + done;
-        let next = done + in_page(here, bytes.len() - done);
-        end = put_piece(out, end, here, &bytes[done..next]);
-        done = next;
+    let mut here = address;
+    let mut left = bytes;
+    while !left.is_empty() {
+        let (piece, rest) = left.split_at(in_page(here, left.len()));
+        put_piece(out, here, piece);
+        here += piece.len();
+        left = rest;
     }
-    end
+}
+
+// Writes that script at the start of an output; the answer is its length.
+#[tactic(auto, using(cells::specs::OutputLaws::puts_first))]
+fn write_script(out: &mut [u8], address: usize, bytes: &[u8]) -> usize
+    requires { (address + length bytes.now ≤ 2097152) × (script_length address (length bytes.now) ≤ length out.old) }
+    ensures { (result ≡ length (program_script address bytes.now)) × (out.new ≡ program_script address bytes.now ++ drop (length (program_script address bytes.now)) out.old) }
+{
+    let mut script = Output::new(out);
+    put_script(&mut script, address, bytes);
+    script.len()
 }
 
 // How many pieces some bytes from an address on make.
@@ -124,7 +112,7 @@ fn piece_count(address: usize, count: usize) -> usize
     if count == 0 {
         return 0;
     }
-    (address % Part::PAGE + count - 1) / Part::PAGE + 1
+    (address % Part::PAGE + count).div_ceil(Part::PAGE)
 }
 
 // The length of the script for some bytes from an address on: 19 bytes a piece, and 2 a byte.
@@ -135,43 +123,38 @@ fn script_length(address: usize, count: usize) -> usize
     19 * piece_count(address, count) + 2 * count
 }
 
-// What refuses the writer, in the order of the definition; 0 for nothing.
-fn refuses(n: usize, address: usize, bytes: &[u8], space: usize) -> u8
-    ensures { result ≡ refusal n address bytes.now space }
+// What refuses the writer, if anything does, in the order of the definition.
+#[tactic(auto, using(std::proofs::lemmas::Bool::Decides::nat_tests, crate::proofs::Laws::script_long), unfolding(crate::specs::Writer::refusal))]
+fn check(n: usize, address: usize, bytes: &[u8], space: usize) -> Result<(), Refusal>
+    ensures { told result ≡ refusal n address bytes.now space }
 {
     let count = bytes.len();
-    if part::sectors_of(n) == 0 {
-        return 1;
-    }
+    part::sectors_of(n).ok_or(Refusal::MemoryLength)?;
     if LONGEST_DATA < count {
-        return 20;
+        return Err(Refusal::LongData);
     }
     if n <= address {
-        return 21;
+        return Err(Refusal::AddressOutside);
     }
     if n < address + count {
-        return 22;
+        return Err(Refusal::DataOutside);
     }
     if space < script_length(address, count) {
-        return 23;
+        return Err(Refusal::NoRoom);
     }
-    0
+    Ok(())
 }
 
-// Writes the script that programs some bytes from an address on, for a memory of n cells.
-pub fn write_program(n: usize, address: usize, bytes: &[u8], out: &mut [u8]) -> Written
-    ensures { (result ≡ answer_of n address bytes.now out.old) × (out.new ≡ output_of n address bytes.now out.old) }
+// Writes the script that programs some bytes from an address on, for a memory of n cells; the answer is its length.
+#[tactic(auto, using(refusal::specs::Laws::refused), unfolding(crate::specs::Writer::answer_of, crate::specs::Writer::output_of))]
+pub fn write_program(
+    n: usize,
+    address: usize,
+    bytes: &[u8],
+    out: &mut [u8],
+) -> Result<usize, Refusal>
+    ensures { (written_as result ≡ answer_of n address bytes.now out.old) × (out.new ≡ output_of n address bytes.now out.old) }
 {
-    let no = refuses(n, address, bytes, out.len());
-    if no != 0 {
-        return Written {
-            refusal: no,
-            written: 0,
-        };
-    }
-    let written = put_script(out, address, bytes);
-    Written {
-        refusal: 0,
-        written: written,
-    }
+    check(n, address, bytes, out.len())?;
+    Ok(write_script(out, address, bytes))
 }

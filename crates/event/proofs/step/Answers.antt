@@ -1,40 +1,21 @@
--- `event::step` meets its contract. By the kind, each as the definition has it.
-use Rattle.std.proofs.Common.{ap, ne_eqb}
-use Rattle.chip.specs.Chip.{whole}
-use Rattle.event.specs.Event.{applied, settle_exchange}
+-- `event::step` meets its contract. The check finds each kind but ticks, which are `tick` of every load, and what is no kind.
+use Rattle.std.proofs.Common.{refl}
+use Rattle.kinds.specs.Kinds.{SELECT, EXCHANGE, DESELECT, TICK, TICKS, WP, POWER, known_kind, kind_row, kind_row_in}
+use Rattle.kinds.proofs.Laws.{not-kind, none_known, unknown_row}
+use Rattle.event.specs.Event.{applied}
 use Rattle.event.proofs.step.Goals as goal
 
-pub returns-in-1 : goal.returns-in-1
+pub returns-in-Ok-Tick : goal.returns-in-Ok-Tick
 unfolding applied
-returns-in-1 c = rw (c.in-1.is, c.stays.ensures, c.select_frame.ensures)
+returns-in-Ok-Tick c = rw (← c.in-Ok-Tick.ensures, c.in-Ok-Tick.field-0-is) (c.tick.ensures c.args.area.now _)
 
-pub returns-in-2 : goal.returns-in-2
+pub returns-in-Ok-Ticks : goal.returns-in-Ok-Ticks
 unfolding applied
-returns-in-2 c =
-    rw (c.in-2.is, c.stays-in-2.ensures)
-    (ap (settle_exchange (whole c.args.core c.args.frame c.args.load.now c.args.held.now) c.args.mem.now) c.exchange-e.ensures)
+returns-in-Ok-Ticks c = rw (← c.in-Ok-Ticks.ensures, c.in-Ok-Ticks.field-0-is) (c.tick-in-Ok-Ticks.ensures c.args.area.now _)
 
-pub returns-in-3 : goal.returns-in-3
-unfolding applied
-returns-in-3 c = rw c.in-3.is (c.deselect.ensures c.args.area.now _)
-
-pub returns-in-4 : goal.returns-in-4
-unfolding applied
-returns-in-4 c = rw c.in-4.is (c.tick.ensures c.args.area.now _)
-
-pub returns-in-5 : goal.returns-in-5
-unfolding applied
-returns-in-5 c = rw c.in-5.is (c.tick-in-5.ensures c.args.area.now _)
-
-pub returns-in-6 : goal.returns-in-6
-unfolding applied
-returns-in-6 c = rw (c.in-6.is, c.stays-in-6.ensures, c.set_wp.ensures)
-
-pub returns-in-7 : goal.returns-in-7
-unfolding applied
-returns-in-7 c = rw (c.in-7.is, c.stays-in-7.ensures, c.empty_frame.ensures, c.power_up.ensures)
-
-pub returns-in_default : goal.returns-in_default
-unfolding applied
-returns-in_default c =
-    rw (ne_eqb _ _ c.in_default.in_default-own.rest.0.0.0.0.0.0.1, ne_eqb _ _ c.in_default.in_default-own.rest.0.0.0.0.0.1, ne_eqb _ _ c.in_default.in_default-own.rest.0.0.0.0.1, ne_eqb _ _ c.in_default.in_default-own.rest.0.0.0.1, ne_eqb _ _ c.in_default.in_default-own.rest.0.0.1, ne_eqb _ _ c.in_default.in_default-own.rest.0.1, ne_eqb _ _ c.in_default.in_default-own.rest.1, c.stays-in_default.ensures)
+pub returns-in-Err : goal.returns-in-Err
+unfolding applied known_kind kind_row kind_row_in
+returns-in-Err c =
+    let none = none_known (unknown_row c.args.kind c.in-Err.ensures) in
+    let no = not-kind c.args.kind none in
+    rw (no SELECT refl, no EXCHANGE refl, no DESELECT refl, no TICK refl, no TICKS refl, no WP refl, no POWER refl, c.stays-in-Err.ensures)

@@ -2,11 +2,12 @@
 use Rattle.std.proofs.Common.{◌-◌, ◌≡◌, ◌||◌, length}
 use Rattle.part.specs.Part.{setting}
 use Rattle.chip.specs.Chip.{whole, running}
+use Rattle.script.specs.Watch.{watched, allowances_of}
 use Rattle.script.proofs.Playing.{Playing, Watching}
 use Rattle.script.proofs.play.Given as goal
 
 abbrev pub invariant-loop-at : goal.invariant-loop-at
-invariant-loop-at l = Playing (setting l.sectors l.area) l.script (whole l.initial.core l.initial.frame l.initial.load l.initial.held) l.initial.mem l.initial.out (whole l.core l.frame l.load l.held) l.mem l.out l.clock l.at l.pos l.ticks × (l.busy ≡ (running l.core || l.watch.on)) × Watching l.wanted (setting l.sectors l.area) l.allowances l.script (whole l.initial.core l.initial.frame l.initial.load l.initial.held) l.initial.mem l.initial.watch.report (whole l.core l.frame l.load l.held) l.mem l.clock l.at l.watch
+invariant-loop-at l = Playing (setting l.sectors l.area) l.script l.fn.chip l.initial.mem l.initial.out (whole l.core l.frame l.chip.load l.chip.held) l.mem l.out l.clock l.at l.pos l.ticks × (l.busy ≡ (running l.core || (watched l.watch).on)) × Watching (watched l.initial.watch).wanted (setting l.sectors l.area) (allowances_of l.initial.watch) l.script l.fn.chip l.initial.mem (watched l.initial.watch).report (whole l.core l.frame l.chip.load l.chip.held) l.mem l.clock l.at (watched l.watch) × (allowances_of l.watch ≡ allowances_of l.initial.watch)
 
 abbrev pub decreases-loop-at : goal.decreases-loop-at
 decreases-loop-at l = length l.script - l.at

@@ -1,11 +1,8 @@
--- `writer::put_exchanges` meets its contract. The loop's invariant: the exchanges of the bytes passed are put, two bytes each.
-use Rattle.std.proofs.Common.{◌+◌, ◌*◌, ◌-◌, ◌≤◌, ◌≡◌, length, take}
-use Rattle.cells.specs.Put.{Put}
+-- `put_exchanges` puts two bytes for each byte: after some of them, the exchanges of the others are left to put.
+use Rattle.std.proofs.Common.{drop}
+use Rattle.cells.specs.Output.{Putting}
 use Rattle.writer.specs.Writer.{exchanges_of}
 use Rattle.writer.proofs.put_exchanges.Given as goal
 
-abbrev pub invariant-loop-i : goal.invariant-loop-i
-invariant-loop-i l = (l.i ≤ length l.bytes) × (l.end ≡ l.at + 2 * l.i) × (length l.out ≡ length l.initial.out) × Put l.initial.out l.at (exchanges_of (take l.i l.bytes)) l.end l.out
-
-abbrev pub decreases-loop-i : goal.decreases-loop-i
-decreases-loop-i l = length l.bytes - l.i
+abbrev pub invariant-loop-byte : goal.invariant-loop-byte
+invariant-loop-byte l = Putting l.initial.out (exchanges_of l.bytes) l.out (exchanges_of (drop l.byte-index l.bytes))

@@ -1,24 +1,19 @@
--- `writer::put_frame` meets its contract. A select, the exchanges of the command and of the bytes, which are those of both, and a deselect, one put behind the other.
-use Rattle.std.proofs.Common.{ap, List, ◌∷◌, ◌++◌, ℕ, suc, ◌+◌, ◌*◌, ◌≤◌, arith, length, length-append}
-use Rattle.cells.specs.PutLaws.{put_byte, put_then, put_as, room-behind}
+-- `put_frame` puts a select, the exchanges of the command and of the bytes, which are those of both, and a deselect.
+use Rattle.std.proofs.Common.{ap, List, ◌∷◌, ◌++◌, ℕ, arith}
+use Rattle.cells.specs.OutputLaws.{room_after, puts_as, puts_then}
 use Rattle.kinds.specs.Kinds.{SELECT}
 use Rattle.writer.specs.Writer.{clean_deselect}
 use Rattle.writer.proofs.Laws.{length-exchanges, exchanges-append}
 use Rattle.writer.proofs.put_frame.Goals as goal
 
-pub put_exchanges-end-requires : goal.put_exchanges-end-requires
-put_exchanges-end-requires c =
-    let fit : c.args.at + suc (2 * length c.args.command.now) + 2 * length c.args.bytes.now ≤ length c.args.out.now = omega (arith, c.requires) in
-    room-behind (suc (2 * length c.args.command.now)) (2 * length c.args.bytes.now) (put_then (put_byte c.args.out.now c.args.at SELECT) c.put_exchanges-data.ensures) (ap suc (length-exchanges c.args.command.now)) fit
+pub put_exchanges-requires-2 : goal.put_exchanges-requires-2
+put_exchanges-requires-2 c = omega (arith, room_after c.push.ensures, room_after c.put_exchanges.ensures, length-exchanges c.args.command.now)
 
 pub put_deselect-requires : goal.put_deselect-requires
 put_deselect-requires c =
-    let fit : c.args.at + suc (2 * length (c.args.command.now ++ c.args.bytes.now)) + 2 ≤ length c.args.out.now = omega (arith, c.requires, length-append c.args.command.now c.args.bytes.now) in
-    room-behind (suc (2 * length (c.args.command.now ++ c.args.bytes.now))) 2
-    (put_then (put_byte c.args.out.now c.args.at SELECT) (put_as (exchanges-append c.args.command.now c.args.bytes.now) (put_then c.put_exchanges-data.ensures c.put_exchanges-end.ensures)))
-    (ap suc (length-exchanges (c.args.command.now ++ c.args.bytes.now))) fit
+    omega (arith, room_after c.push.ensures, room_after c.put_exchanges.ensures, room_after c.put_exchanges-2.ensures, length-exchanges c.args.command.now, length-exchanges c.args.bytes.now)
 
 pub returns : goal.returns
 returns c =
-    put_as (ap (λ (s : List ℕ). SELECT ∷ (s ++ clean_deselect)) (exchanges-append c.args.command.now c.args.bytes.now))
-    (put_then (put_byte _ _ _) (put_then (put_then c.put_exchanges-data.ensures c.put_exchanges-end.ensures) c.put_deselect.ensures))
+    puts_as (ap (λ (s : List ℕ). SELECT ∷ (s ++ clean_deselect)) (exchanges-append c.args.command.now c.args.bytes.now))
+    (puts_then c.push.ensures (puts_then (puts_then c.put_exchanges.ensures c.put_exchanges-2.ensures) c.put_deselect.ensures))

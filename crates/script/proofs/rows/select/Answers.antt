@@ -13,7 +13,7 @@ pub returns-then-not-can_read : goal.returns-then-not-can_read
 returns-then-not-can_read c = λ area held.
     record {
       said = [];
-      heard = heard-select (setting c.args.sectors area) c.args.script.now c.args.mem.now c.args.at (whole c.args.core c.args.frame c.args.load.now held) c.requires.0.more c.requires.1;
+      heard = heard-select (setting c.args.sectors area) c.args.script.bytes.now c.args.mem.now c.args.at (whole c.args.core c.args.frame c.args.load.now held) c.requires.0.more c.requires.1;
       stored = put_none _ _;
       further = omega arith;
     }
@@ -23,7 +23,7 @@ returns-then-reads-at c = λ area held.
     let read = c.read_frames-reads.ensures area c.args.load.now held c.args.core c.args.frame (sym c.can_read.ensures ∙ c.if-not-can_read.false) in
     record {
       said = [];
-      heard = heard-select (setting c.args.sectors area) c.args.script.now c.args.mem.now c.args.at (whole c.args.core c.args.frame c.args.load.now held) c.requires.0.more c.requires.1;
+      heard = heard-select (setting c.args.sectors area) c.args.script.bytes.now c.args.mem.now c.args.at (whole c.args.core c.args.frame c.args.load.now held) c.requires.0.more c.requires.1;
       stored = subst (λ (l : List ℕ). Put c.args.out.now c.args.pos [] c.args.pos l) (sym (reading_none read c.if-reads-at.true)) (put_none _ _);
       further = omega arith;
     }
