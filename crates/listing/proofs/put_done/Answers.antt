@@ -1,11 +1,7 @@
 -- `put_done` puts the records' lines, then the last line.
-use Rattle.std.proofs.Common.{arith, length-append}
 use Rattle.cells.specs.OutputLaws.{puts_then, room_then}
 use Rattle.listing.specs.Text.{done_line}
 use Rattle.listing.proofs.put_done.Goals as goal
-
-pub put_lines-requires : goal.put_lines-requires
-put_lines-requires c = omega (arith, simp length-append at c.requires)
 
 pub put_number-requires : goal.put_number-requires
 unfolding done_line
