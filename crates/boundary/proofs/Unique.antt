@@ -1,7 +1,10 @@
 -- Unique answers: any two answers, memories and outputs at exit that a contract of this crate allows are equal.
-use Rattle.std.specs.Prelude.{ℕ, Bool, List, ◌≡◌}
+use Rattle.std.specs.Prelude.{ℕ, Bool, List, Result, Ok, Err, ◌≡◌, refl}
+use Rattle.std.proofs.Common.{sym, ap, ◌∙◌}
+use Rattle.std.proofs.lemmas.Bool.{false≢true}
 use Rattle.cells.specs.Choice.{same}
 use Rattle.part.specs.Area.{own_area}
+use Rattle.chip.specs.declared.Chip.{Chip}
 use Rattle.chip.specs.Chip.{fresh}
 use Rattle.sfdp.specs.Reader.{found_of}
 use Rattle.writer.specs.Writer.{answer_of, output_of}
@@ -13,7 +16,8 @@ use Rattle.boundary.specs.declared.RunNumbers.{RunNumbers}
 use Rattle.boundary.specs.declared.TableNumbers.{TableNumbers}
 use Rattle.boundary.specs.declared.AreaNumbers.{AreaNumbers}
 use Rattle.boundary.specs.declared.WrittenNumbers.{WrittenNumbers}
-use Rattle.boundary.specs.Numbers.{numbers_of, legal_numbers}
+use Rattle.boundary.specs.declared.NoState.{NoState}
+use Rattle.boundary.specs.Numbers.{Means, numbers_of, legal_numbers}
 use Rattle.boundary.specs.Answers.{event_of, event_memory, run_of, run_memory, run_output, report_run_of, report_memory, report_output, report_numbers, table_numbers, area_numbers, written_numbers}
 
 pub chip-fresh_unique : (status : ℕ) (r r' : ChipNumbers) → r ≡ numbers_of (fresh status) → r' ≡ numbers_of (fresh status) → r ≡ r'
@@ -55,3 +59,10 @@ pub write_program_unique : (n A : ℕ) (bs out : List ℕ) (r r' : WrittenNumber
     → (r ≡ written_numbers (answer_of n A bs out)) × (z ≡ output_of n A bs out) → (r' ≡ written_numbers (answer_of n A bs out)) × (z' ≡ output_of n A bs out)
     → (r ≡ r') × (z ≡ z')
 write_program_unique n A bs out r r' z z' h h' = (same h.0 h'.0, same h.1 h'.1)
+
+-- `Chip::try_from`: numbers mean one chip, or none
+pub chip_from_numbers_unique : (c : ChipNumbers) (r r' : Result Chip NoState) → Means c r → Means c r' → r ≡ r'
+chip_from_numbers_unique c (Ok a) (Ok b) h h' = ap Ok (same h.1 h'.1)
+chip_from_numbers_unique c (Ok a) (Err _) h h' = absurd (false≢true (sym h' ∙ h.0))
+chip_from_numbers_unique c (Err _) (Ok b) h h' = absurd (false≢true (sym h ∙ h'.0))
+chip_from_numbers_unique c (Err _) (Err _) h h' = refl

@@ -13,6 +13,17 @@ room_after {o} {o'} {xs} a = ap length a.behind ∙ length-drop (length xs) (res
 pub room_then : {o o' : Output} {xs : List ℕ} (ys : List ℕ) → Puts o xs o' → length (xs ++ ys) ≤ room o → length ys ≤ room o'
 room_then {xs = xs} ys a fit = omega (arith, room_after a, length-append xs ys)
 
+-- what is put is known whole: any two outputs that `Puts` allows hold the same bytes, and as many of them are written
+pub puts_one : {o a b : Output} {xs : List ℕ} → Puts o xs a → Puts o xs b → (a.bytes.now ≡ b.bytes.now) × (so_far a ≡ so_far b) × (rest a ≡ rest b)
+puts_one {o} {a} {b} p q =
+    let written : so_far a ≡ so_far b = p.written ∙ sym q.written in
+    let behind : rest a ≡ rest b = p.behind ∙ sym q.behind in
+    (sym (take-append-drop a.written a.bytes.now) ∙ ap (λ (w : List ℕ). w ++ rest a) written ∙ ap (λ (w : List ℕ). so_far b ++ w) behind ∙ take-append-drop b.written b.bytes.now, written, behind)
+
+-- so is a new one
+pub new_one : (a b : Output) {t : List ℕ} → (so_far a ≡ []) × (rest a ≡ t) → (so_far b ≡ []) × (rest b ≡ t) → (so_far a ≡ so_far b) × (rest a ≡ rest b)
+new_one a b p q = (p.0 ∙ sym q.0, p.1 ∙ sym q.1)
+
 pub puts_as : {o o' : Output} {xs ys : List ℕ} → ys ≡ xs → Puts o xs o' → Puts o ys o'
 puts_as e a = rw e a
 

@@ -1,5 +1,5 @@
 -- What is true of the kinds: the table kind by kind, and an event's bytes in a script.
-use Rattle.std.specs.Prelude.{ℕ, ◌+◌, ◌*◌, ◌<◌, ◌≤◌, cond, ◌||◌, Bool, true, false, ◌&&◌, List, ◌≡◌, refl, ◌⊎◌, eqb, ltb, leb, length, get_or}
+use Rattle.std.specs.Prelude.{ℕ, ◌+◌, ◌*◌, ◌<◌, ◌≤◌, cond, ◌||◌, Bool, true, false, ◌&&◌, List, Result, Ok, Err, ◌≡◌, refl, ◌⊎◌, eqb, ltb, leb, length, get_or}
 use Rattle.std.proofs.Common.{zero-le, sym, ap, subst, ◌∙◌, inl, inr, add-zero, arith, ne_eqb, lt-ltb, le-leb, leb-true}
 use Rattle.std.proofs.lemmas.Bool.{false≢true}
 use Rattle.std.proofs.Math.Decide.{ℕ_discrete}
@@ -8,7 +8,8 @@ use Rattle.cells.specs.Choice.{cond_yes, and_right}
 use Rattle.kinds.specs.Kinds.{SELECT, EXCHANGE, DESELECT, TICK, TICKS, WP, POWER, STAMP, Says, Where, KindRow, row, kind_row_in, known_kind, known_in_script, kind_row, is_said, is_anywhere, is_somewhere, body_length, in_range, says_of, yields, room_of}
 use Rattle.kinds.specs.declared.Kind.{Kind}
 use Rattle.kinds.specs.declared.Kind.TheVariants.{Select, Exchange, Deselect, Tick, Ticks, Wp, Power, Stamp}
-use Rattle.kinds.specs.Number.{number_of}
+use Rattle.kinds.specs.declared.UnknownKind.{UnknownKind}
+use Rattle.kinds.specs.Number.{number_of, Numbered}
 use Rattle.kinds.specs.Body.{number_at, body_at, next_at, step_to}
 
 -- ---- kind by kind
@@ -71,6 +72,37 @@ number_known Ticks = refl
 number_known Wp = refl
 number_known Power = refl
 number_known Stamp = refl
+
+-- the kind of a number, for a number that a kind has
+pub kind_by : ℕ → Kind
+kind_by n =
+    (cond (eqb n SELECT) Select
+    (cond (eqb n EXCHANGE) Exchange
+    (cond (eqb n DESELECT) Deselect
+    (cond (eqb n TICK) Tick
+    (cond (eqb n TICKS) Ticks
+    (cond (eqb n WP) Wp
+    (cond (eqb n POWER) Power
+    Stamp)))))))
+
+-- a kind's number tells which it is
+pub by_number : (kind : Kind) → kind_by (number_of kind) ≡ kind
+unfolding kind_by
+by_number Select = refl
+by_number Exchange = refl
+by_number Deselect = refl
+by_number Tick = refl
+by_number Ticks = refl
+by_number Wp = refl
+by_number Power = refl
+by_number Stamp = refl
+
+-- a number gives one kind, or none: any two answers that the contract of `try_from` allows are equal
+pub numbered_one : (number : ℕ) (r r' : Result Kind UnknownKind) → Numbered number r → Numbered number r' → r ≡ r'
+numbered_one number (Ok a) (Ok b) p q = ap Ok (sym (by_number a) ∙ ap kind_by (p ∙ sym q) ∙ by_number b)
+numbered_one number (Ok a) (Err _) p q = absurd (false≢true (sym q ∙ ap known_in_script (sym p) ∙ number_known a))
+numbered_one number (Err _) (Ok b) p q = absurd (false≢true (sym p ∙ ap known_in_script (sym q) ∙ number_known b))
+numbered_one number (Err _) (Err _) p q = refl
 
 pub unknown_row : (kind : ℕ) → known_in_script kind ≡ false → kind_row kind ≡ row kind 0 0 0 Says.silent 0 Where.nowhere
 unfolding known_in_script kind_row kind_row_in

@@ -1,5 +1,5 @@
 // Stretches of a script that are taken in one go: a row of data bytes of a read of cells or of a page load, and whole frames of reads.
-ghost use Rattle.std.specs.Prelude.{true, false, IfSome, List, ◌≡◌, ℕ, ◌+◌, ◌*◌, ◌≤◌, ◌<◌, length, get_or};
+ghost use Rattle.std.specs.Prelude.{true, false, IfSome, MatchOption, List, ◌≡◌, ℕ, ◌+◌, ◌*◌, ◌≤◌, ◌<◌, length, get_or};
 ghost use Rattle.cells.specs.Put.{Put};
 ghost use Rattle.part.specs.Part.{setting, length_of};
 ghost use Rattle.kinds.specs.Kinds.{SELECT, EXCHANGE};
@@ -126,7 +126,7 @@ fn read_on(frame: Frame, cells: usize, n: usize) -> Frame
 
 // How many bytes of a read come before its cells: the opcode and the address, and for 0Bh a dummy; none for an opcode that reads no cells.
 fn header_of(opcode: u8) -> Option<usize>
-    ensures { IfSome result (λ n. (n ≡ header_of opcode) × (4 ≤ n) × (n ≤ 5)) }
+    ensures { MatchOption result (header_of opcode ≡ 0) (λ n. (n ≡ header_of opcode) × (4 ≤ n) × (n ≤ 5)) }
 {
     match opcode {
         Command::LOW_POWER_READ => Some(4),
